@@ -1,0 +1,29 @@
+//! Benchmarks of the library. Without an argument all of them run, with a name that one alone.
+
+mod calendar;
+mod measure;
+
+use std::env;
+use std::process::ExitCode;
+
+const BENCHMARKS: [(&str, fn()); 1] = [("calendar", calendar::run)];
+
+fn main() -> ExitCode {
+    let wanted: Vec<String> = env::args().skip(1).collect();
+    let chosen = |name: &str| wanted.is_empty() || wanted == [name];
+    let mut ran = false;
+    for (name, run) in BENCHMARKS {
+        if chosen(name) {
+            run();
+            ran = true;
+        }
+    }
+    if ran {
+        return ExitCode::SUCCESS;
+    }
+    eprintln!("usage: bench [NAME], where NAME is one of:");
+    for (name, _) in BENCHMARKS {
+        eprintln!("  {name}");
+    }
+    ExitCode::from(2)
+}

@@ -1,0 +1,16 @@
+-- `calendar::is_date` meets its contract: it tests what the definition does.
+-- Assumes nothing.
+use borrow.Author.Needs.{needs}
+use Rattle.calendar.specs.Dates.{exists}
+use Rattle.calendar.proofs.is_date.Statement.{statement}
+use Rattle.calendar.proofs.is_date.Tie as tie
+
+month-days-requires : tie.Need-month-days-requires
+month-days-requires c κs = search needs
+
+returns : tie.Need-returns
+unfolding exists
+returns c = rw (c .month-days .ensures)
+
+pub is-date-spec : {M : Type 1} → statement M
+is-date-spec = tie.close (tie.spec month-days-requires returns)

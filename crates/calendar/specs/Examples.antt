@@ -1,0 +1,42 @@
+-- The calendar's known days, as paper 01 has them, computed from the definitions.
+-- Assumes nothing.
+use mathlib.Core.Path.{_≡_, refl}
+use Rattle.calendar.specs.Gregorian.{leap, yearDays, monthTable, monthLength, monthDays}
+use Rattle.calendar.specs.Walk.{span, walk}
+use Rattle.calendar.specs.Dates.{weekdayOf, yearOf, monthOf, dateAt, noDate, dateOf, exists, daysBefore, minuteAt, minuteOf}
+
+-- minute 0 is 1970-01-01 00:00, a Thursday
+first-minute :
+    dateOf 0
+    ≡ record { refusal = 0; date = record { year = 1970; month = 1; day = 1; hour = 0; minute = 0; weekday = 4 } }
+unfolding dateOf dateAt yearOf monthOf weekdayOf walk yearDays leap monthDays monthLength monthTable
+first-minute = refl
+
+-- minute 15,863,040 is 2000-02-29 00:00, a Tuesday
+leap-day :
+    dateOf 15863040
+    ≡ record { refusal = 0; date = record { year = 2000; month = 2; day = 29; hour = 0; minute = 0; weekday = 2 } }
+unfolding dateOf dateAt yearOf monthOf weekdayOf walk yearDays leap monthDays monthLength monthTable
+leap-day = refl
+
+-- the last minute is 4,223,371,679, 9999-12-31 23:59, and the next is refused with 14
+last-minute :
+    dateOf 4223371679
+    ≡ record { refusal = 0; date = record { year = 9999; month = 12; day = 31; hour = 23; minute = 59; weekday = 5 } }
+unfolding dateOf dateAt yearOf monthOf weekdayOf walk yearDays leap monthDays monthLength monthTable
+last-minute = refl
+
+past-the-end :
+    dateOf 4223371680
+    ≡ record { refusal = 14; date = record { year = 0; month = 0; day = 0; hour = 0; minute = 0; weekday = 0 } }
+unfolding dateOf dateAt yearOf monthOf weekdayOf walk yearDays leap monthDays monthLength monthTable noDate
+past-the-end = refl
+
+-- 2100 isn't leap, 2096 is
+no-leap-day : minuteOf 2100 2 29 0 0 ≡ record { refusal = 14; minute = 0 }
+unfolding minuteOf minuteAt daysBefore exists span yearDays leap monthDays monthLength monthTable
+no-leap-day = refl
+
+day-in-2096 : minuteOf 2096 2 29 0 0 ≡ record { refusal = 0; minute = 66355200 }
+unfolding minuteOf minuteAt daysBefore exists span yearDays leap monthDays monthLength monthTable
+day-in-2096 = refl

@@ -1,0 +1,5 @@
+pub mod Gregorian
+pub mod Walk
+pub mod Dates
+pub mod Order
+pub mod Examples

@@ -1,0 +1,101 @@
+// The calendar of paper 01: minute 0 is 1970-01-01 00:00, a Thursday, and the last minute is 9999-12-31 23:59; proleptic
+// Gregorian. `date_of` gives the date of a minute and `minute_of` the minute of a date, for any numbers whatever.
+mod gregorian;
+mod walk;
+
+ghost use mathlib.Core.Path.{_≡_};
+ghost use Rattle.calendar.specs.Dates.{dateOf, exists, minuteOf};
+use gregorian::month_days;
+use walk::days_before_month;
+use walk::days_before_year;
+use walk::month_of;
+use walk::year_of;
+
+const FIRST_YEAR: u64 = 1970;
+
+const LAST_YEAR: u64 = 9999;
+
+const LAST_MINUTE: u64 = 4_223_371_679;
+
+const DAY_MINUTES: u64 = 1440;
+
+// The refusal of a minute or a date that isn't on the calendar.
+pub const NOT_ON_CALENDAR: u8 = 14;
+
+// A date with its weekday, Sunday 0 to Saturday 6.
+pub struct Date {
+    pub year: u64,
+    pub month: u64,
+    pub day: u64,
+    pub hour: u64,
+    pub minute: u64,
+    pub weekday: u64,
+}
+
+// The date of a minute: refusal 0, or 14 and a date that is 0 in every part.
+pub struct DateAnswer {
+    pub refusal: u8,
+    pub date: Date,
+}
+
+// The minute of a date: refusal 0, or 14 and minute 0.
+pub struct MinuteAnswer {
+    pub refusal: u8,
+    pub minute: u64,
+}
+
+// The date of a minute.
+pub fn date_of(minute: u64) -> DateAnswer
+    ensures { λ r. ⌜ r ≡ dateOf minute ⌝ }
+{
+    if LAST_MINUTE < minute {
+        let none = Date {
+            year: 0,
+            month: 0,
+            day: 0,
+            hour: 0,
+            minute: 0,
+            weekday: 0,
+        };
+        return DateAnswer {
+            refusal: NOT_ON_CALENDAR,
+            date: none,
+        };
+    }
+    let day = minute / DAY_MINUTES;
+    let year = year_of(day);
+    let month = month_of(year.at, year.rest);
+    let date = Date {
+        year: year.at,
+        month: month.at,
+        day: month.rest + 1,
+        hour: minute % DAY_MINUTES / 60,
+        minute: minute % 60,
+        weekday: (day + 4) % 7,
+    };
+    DateAnswer { refusal: 0, date }
+}
+
+// Whether there is such a date, in any year.
+fn is_date(year: u64, month: u64, day: u64, hour: u64, minute: u64) -> bool
+    ensures { λ r. ⌜ r ≡ exists year month day hour minute ⌝ }
+{
+    (1 <= day) & (day <= month_days(year, month)) & (hour < 24) & (minute < 60)
+}
+
+// The minute of a date.
+pub fn minute_of(year: u64, month: u64, day: u64, hour: u64, minute: u64) -> MinuteAnswer
+    ensures { λ r. ⌜ r ≡ minuteOf year month day hour minute ⌝ }
+{
+    if is_date(year, month, day, hour, minute) & (FIRST_YEAR <= year) & (year <= LAST_YEAR) {
+        let days = days_before_year(year) + days_before_month(year, month) + (day - 1);
+        return MinuteAnswer {
+            refusal: 0,
+            minute: days * DAY_MINUTES + hour * 60 + minute,
+        };
+    }
+    MinuteAnswer {
+        refusal: NOT_ON_CALENDAR,
+        minute: 0,
+    }
+}

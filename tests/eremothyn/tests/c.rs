@@ -1,0 +1,66 @@
+//! The header and the examples as C and C++ compilers take them, with every warning an error.
+
+use std::path::{Path, PathBuf};
+use std::process::{Command, Output};
+
+const STRICT: [&str; 4] = ["-Wall", "-Wextra", "-Werror", "-pedantic"];
+
+fn root() -> PathBuf {
+    Path::new(env!("CARGO_MANIFEST_DIR")).join("../..")
+}
+
+/// Runs a compiler on arguments after the strict ones, at the repository's root.
+fn compile(compiler: &str, standard: &str, arguments: &[&str]) {
+    let output = Command::new(compiler)
+        .current_dir(root())
+        .arg(standard)
+        .args(STRICT)
+        .args(arguments)
+        .output()
+        .expect("the compiler runs");
+    assert!(output.status.success(), "{compiler} {standard}: {output:?}");
+}
+
+#[test]
+fn the_header_compiles_as_c_and_as_cpp() {
+    let header = "include/eremothyn.h";
+    compile("cc", "-std=c99", &["-fsyntax-only", "-x", "c", header]);
+    compile("c++", "-std=c++98", &["-fsyntax-only", "-x", "c++", header]);
+    compile("c++", "-std=c++17", &["-fsyntax-only", "-x", "c++", header]);
+}
+
+/// Runs examples/date.c.
+fn date(program: &Path, arguments: &[&str]) -> Output {
+    Command::new(program)
+        .args(arguments)
+        .output()
+        .expect("the example runs")
+}
+
+#[test]
+fn the_example_prints_dates_and_minutes_and_refuses_the_rest() {
+    let program = Path::new(env!("CARGO_TARGET_TMPDIR")).join("date");
+    let built = program.to_str().expect("a path in UTF-8");
+    let library = "target/staticlib/liberemothyn.a";
+    compile(
+        "cc",
+        "-std=c99",
+        &["-Iinclude", "-o", built, "examples/date.c", library],
+    );
+    let printed: [(&[&str], i32, &str); 8] = [
+        (&["0"], 0, "1970-01-01 00:00 Thursday\n"),
+        (&["15863040"], 0, "2000-02-29 00:00 Tuesday\n"),
+        (&["4223371679"], 0, "9999-12-31 23:59 Friday\n"),
+        (&["4223371680"], 1, ""),
+        (&["2000", "2", "29", "0", "0"], 0, "15863040\n"),
+        (&["2100", "2", "29", "0", "0"], 1, ""),
+        (&["18446744073709551616"], 2, ""),
+        (&["-1"], 2, ""),
+    ];
+    for (arguments, status, text) in printed {
+        let output = date(&program, arguments);
+        assert_eq!(output.status.code(), Some(status), "{arguments:?}");
+        assert_eq!(String::from_utf8_lossy(&output.stdout), text);
+        assert_eq!(output.stderr.is_empty(), status == 0, "{arguments:?}");
+    }
+}
