@@ -1,7 +1,7 @@
 -- Laws of dates: where the days of the calendar fall, and the days before a date.
 -- Assumes nothing.
 use mathlib.Core.Path.{_≡_, refl}
-use mathlib.Core.Bool.{Bool, true, false, cond, _&&_, false≢true}
+use mathlib.Core.Bool.{Bool, true, false, cond, _&&_}
 use mathlib.Core.List.{List, [], _∷_}
 use Prim.Native.Nat.{ℕ, _+_, _-_, _≤_, _<_}
 use native.Mathlib.Omega.{arith}
@@ -11,7 +11,7 @@ use borrow.Author.Tests.{leb-true, ltb-true, le-leb, lt-ltb}
 use Rattle.calendar.specs.Gregorian.{leap, yearDays, monthTable, monthLength, monthDays}
 use Rattle.calendar.specs.Walk.{span}
 use Rattle.calendar.specs.Dates.{calendarDays, yearOf, monthOf, exists, daysBefore}
-use Rattle.calendar.proofs.Below.{every, at-each}
+use Rattle.calendar.proofs.Tests.{and-true, every, at-each}
 use Rattle.calendar.proofs.Spans.{Falls, falls-within, walk-falls}
 use Rattle.calendar.proofs.Years.{calendar-days, months-days}
 
@@ -76,10 +76,6 @@ month-is year m = go (leb 1 m) (leb m 12) refl refl
     go true true p q h = (leb-true 1 m p, leb-true m 12 q)
     go true false p q h = absurd (omega arith)
     go false b p q h = absurd (omega arith)
-
-and-true : (a b : Bool) → (a && b) ≡ true → (a ≡ true) × (b ≡ true)
-and-true true b e = (refl, e)
-and-true false b e = absurd (false≢true e)
 
 pub on-calendar : {year month day hour minute : ℕ}
     → (exists year month day hour minute && leb 1970 year && leb year 9999) ≡ true → OnCalendar year month day hour minute

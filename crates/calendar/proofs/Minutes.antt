@@ -1,10 +1,11 @@
 -- Laws of minutes: the date of a minute and the minute of a date, taken together.
 -- Assumes nothing.
-use mathlib.Core.Path.{_≡_}
+use mathlib.Core.Path.{_≡_, ap}
 use mathlib.Core.Logic.{inl, inr}
 use mathlib.Core.List.{List, [], _∷_}
 use Prim.Native.Nat.{ℕ, _+_, _-_, _*_, _/_, _%_, _≤_, _<_}
 use native.Mathlib.Omega.{arith}
+use lib.ListN.{getD}
 use Rattle.calendar.specs.Gregorian.{yearDays, monthDays}
 use Rattle.calendar.specs.Dates.{calendarDays, lastMinute, weekdayOf, yearOf, monthOf, dateAt, daysBefore, minuteAt}
 use Rattle.calendar.specs.Order.{parts, Earlier}
@@ -78,6 +79,26 @@ module _ {year month day hour minute : ℕ} (o : OnCalendar year month day hour 
         falls-walk (monthDays year) 1 12 _ _ (date-in-month o),
         d,
       )
+
+-- the date of a day's midnight
+module _ {year month day : ℕ} (o : OnCalendar year month day 0 0) where
+  midnight-parts : parts (dateAt (daysBefore year month day * 1440)) ≡ year ∷ month ∷ day ∷ 0 ∷ 0 ∷ []
+  unfolding minuteAt
+  midnight-parts =
+      let e : daysBefore year month day * 1440 ≡ daysBefore year month day * 1440 + 0 * 60 + 0 = omega arith in
+      rw e (parts-minuteAt o)
+
+  pub midnight-month : dateAt (daysBefore year month day * 1440) .month ≡ month
+  unfolding parts
+  midnight-month = ap (λ (l : List ℕ). getD l 1 0) midnight-parts
+
+  pub midnight-day : dateAt (daysBefore year month day * 1440) .day ≡ day
+  unfolding parts
+  midnight-day = ap (λ (l : List ℕ). getD l 2 0) midnight-parts
+
+pub midnight-weekday : (day : ℕ) → dateAt (day * 1440) .weekday ≡ weekdayOf day
+unfolding dateAt
+midnight-weekday day = let e : day * 1440 / 1440 ≡ day = omega arith in rw e
 
 -- ---- from one day to another
 

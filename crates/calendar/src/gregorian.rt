@@ -19,7 +19,7 @@ pub(crate) fn year_days(year: u64) -> u64
 const MONTH_DAYS: [u64; 12] = [31, 28, 31, 30, 31, 30, 31, 31, 30, 31, 30, 31];
 
 // How many days a month has: 0 for a number that is no month.
-pub(crate) fn month_days(year: u64, month: u64) -> u64
+pub fn month_days(year: u64, month: u64) -> u64
     ensures { λ r. ⌜ r ≡ monthDays year month ⌝ }
 {
     if month < 1 {

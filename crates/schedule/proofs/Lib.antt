@@ -1,1 +1,4 @@
 pub mod Sets
+pub mod Search
+pub mod Days
+pub mod LeapYears

@@ -1,1 +1,5 @@
 pub mod Sets
+pub mod Match
+pub mod Search
+pub mod Next
+pub mod Days

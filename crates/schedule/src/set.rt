@@ -3,6 +3,7 @@ ghost use mathlib.Core.Path.{_≡_};
 ghost use mathlib.Core.Bool.{cond};
 ghost use lib.Dec.{ltb};
 ghost use Rattle.schedule.specs.Sets.{hasBit, withBit};
+ghost use Rattle.schedule.specs.Search.{from};
 
 // Whether the set has n.
 pub fn has(set: u64, n: u64) -> bool
@@ -22,4 +23,18 @@ pub fn with(set: u64, n: u64) -> u64
         return set | 1 << n;
     }
     set
+}
+
+// The least value of the set from `at` on and below `end`, or `end` where there is none; `at` where that isn't below `end`.
+pub fn next(set: u64, at: u64, end: u64) -> u64
+    ensures { λ r. ⌜ r ≡ from (hasBit set) end at ⌝ }
+{
+    let mut n = at;
+    while n < end {
+        if has(set, n) {
+            return n;
+        }
+        n += 1;
+    }
+    n
 }

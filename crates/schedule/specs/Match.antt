@@ -1,0 +1,29 @@
+-- Paper 01, "Match": which minutes a time-based entry matches, by the date of the minute.
+-- Assumes nothing.
+use Prim.Native.Nat.{ℕ, _*_, _/_, _%_}
+use mathlib.Core.Bool.{Bool, cond, _&&_, _||_}
+use Rattle.calendar.specs.Dates.{dateAt}
+use Rattle.schedule.specs.declared.Schedule.{Schedule}
+use Rattle.schedule.specs.Sets.{hasBit}
+
+-- if both day fields are restricted, either may match; otherwise both must
+unfoldable pub byDayRule : Schedule → Bool → Bool → Bool
+byDayRule s day weekday = cond (s .restricted .days && s .restricted .weekdays) (day || weekday) (day && weekday)
+
+-- the month must be in its set, and the day of the month and the weekday match by the rule
+unfoldable pub matchesDay : Schedule → ℕ → ℕ → ℕ → Bool
+matchesDay s month day weekday = hasBit (s .months) month && byDayRule s (hasBit (s .days) day) (hasBit (s .weekdays) weekday)
+
+-- hour and minute must be in their sets
+unfoldable pub matchesTime : Schedule → ℕ → ℕ → Bool
+matchesTime s hour minute = hasBit (s .hours) hour && hasBit (s .minutes) minute
+
+unfoldable pub matches : Schedule → ℕ → Bool
+matches s m = let d = dateAt m in matchesDay s (d .month) (d .day) (d .weekday) && matchesTime s (d .hour) (d .minute)
+
+-- The two parts of a minute by themselves: a day, counted from 1970-01-01, and a minute of the day.
+unfoldable pub matchesOn : Schedule → ℕ → Bool
+matchesOn s day = let d = dateAt (day * 1440) in matchesDay s (d .month) (d .day) (d .weekday)
+
+unfoldable pub matchesAt : Schedule → ℕ → Bool
+matchesAt s t = matchesTime s (t / 60) (t % 60)

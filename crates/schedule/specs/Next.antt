@@ -1,0 +1,35 @@
+-- Paper 01, after the table of "What comes back": the next firing of a time-based entry, strictly after a minute.
+-- Assumes nothing.
+use Prim.Native.Nat.{ℕ, _+_}
+use mathlib.Core.Bool.{Bool, cond}
+use lib.Dec.{leb, eqb}
+use Rattle.calendar.specs.Dates.{lastMinute, cycleMinutes, notOnCalendar}
+use Rattle.schedule.specs.declared.Schedule.{Schedule}
+use Rattle.schedule.specs.declared.Next.{Next}
+use Rattle.schedule.specs.declared.Next.the-variants.{At, Never, PastEnd, NotOnCalendar}
+use Rattle.schedule.specs.Match.{matches}
+use Rattle.schedule.specs.Search.{from}
+
+-- no minute of the cycle, 0 to 210,379,679, matches
+unfoldable pub neverFires : Schedule → Bool
+neverFires s = eqb (from (matches s) cycleMinutes 0) cycleMinutes
+
+-- the least matching minute after m that is on the calendar
+unfoldable pub firingAfter : Schedule → ℕ → Next
+firingAfter s m = let n = from (matches s) (lastMinute + 1) (m + 1) in cond (leb n lastMinute) (At n) PastEnd
+
+unfoldable pub nextAfter : Schedule → ℕ → Next
+nextAfter s m = cond (leb m lastMinute) (cond (neverFires s) Never (firingAfter s m)) NotOnCalendar
+
+-- 01's number of each case, 0 where nothing is refused, and its value
+abbrev pub refusalOf : Next → ℕ
+refusalOf (At n) = 0
+refusalOf Never = 16
+refusalOf PastEnd = 17
+refusalOf NotOnCalendar = notOnCalendar
+
+abbrev pub minuteIn : Next → ℕ
+minuteIn (At n) = n
+minuteIn Never = 0
+minuteIn PastEnd = 0
+minuteIn NotOnCalendar = 0
