@@ -12,7 +12,8 @@ use Rattle.calendar.specs.Gregorian.{leap, yearDays, monthTable, monthLe
 use Rattle.calendar.specs.Walk.{span}
 use Rattle.calendar.specs.Dates.{calendarDays, yearOf, monthOf, exists, daysBefore}
 use Rattle.calendar.proofs.Tests.{and-true, every, at-each}
-use Rattle.calendar.proofs.Spans.{Falls, falls-within, walk-falls}
+use Rattle.calendar.proofs.Spans.{Falls, span-next, falls-within, walk-falls}
+use Rattle.calendar.proofs.YearStarts.{startAt, start-at}
 use Rattle.calendar.proofs.Years.{calendar-days, months-days}
 
 -- ---- where a day falls
@@ -20,6 +21,17 @@ use Rattle.calendar.proofs.Years.{calendar-days, months-days}
 pub year-falls : (day : ℕ) → day < calendarDays → Falls yearDays 1970 8030 day (yearOf day)
 unfolding yearOf
 year-falls day h = walk-falls yearDays 1970 8030 day (rw calendar-days h)
+
+-- the year of a day, as the years from 1970 on
+pub year-number : (day : ℕ) → day < calendarDays → (n : ℕ) × (startAt n ≤ day) × (day < startAt (n + 1))
+year-number day h =
+    let f = year-falls day h in
+    let n = yearOf day .at - 1970 in
+    let e : yearOf day .at + 1 - 1970 ≡ n + 1 = omega (arith, f .from) in (
+      n,
+      rw (start-at n) (omega (arith, f .sum)),
+      rw (start-at (n + 1), ← e) (omega (arith, f .sum, f .inside, span-next yearDays 1970 (yearOf day .at) (f .from))),
+    )
 
 pub month-falls : (year day : ℕ) → day < yearDays year → Falls (monthDays year) 1 12 day (monthOf year day)
 unfolding monthOf

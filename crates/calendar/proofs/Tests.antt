@@ -1,7 +1,7 @@
 -- What tests say: two tests together, and a test at every number below n, which antt computes.
 -- Assumes nothing.
-use mathlib.Core.Path.{_≡_, refl}
-use mathlib.Core.Bool.{Bool, true, false, _&&_, true≢false, false≢true}
+use mathlib.Core.Path.{_≡_, refl, sym}
+use mathlib.Core.Bool.{Bool, true, false, _&&_, _||_, true≢false, false≢true}
 use mathlib.Core.Logic.{_⊎_, inl, inr}
 use Prim.Native.Nat.{ℕ, zero, suc, _≤_, _<_}
 use native.Mathlib.Nat.{lt-of-not-le}
@@ -24,6 +24,21 @@ pub false-and : (a b : Bool) → (a ≡ false) ⊎ (b ≡ false) → (a && b) �
 false-and true b (inl e) = absurd (true≢false e)
 false-and true b (inr e) = e
 false-and false b e = refl
+
+pub or-true : (a b : Bool) → (a || b) ≡ true → (a ≡ true) ⊎ (b ≡ true)
+or-true true b e = inl refl
+or-true false b e = inr e
+
+pub true-or : (a b : Bool) → (a ≡ true) ⊎ (b ≡ true) → (a || b) ≡ true
+true-or true b e = refl
+true-or false b (inl e) = absurd (false≢true e)
+true-or false b (inr e) = e
+
+-- two tests that pass each where the other does
+pub same-test : (a b : Bool) → (a ≡ true → b ≡ true) → (b ≡ true → a ≡ true) → a ≡ b
+same-test true b f g = sym (f refl)
+same-test false true f g = g refl
+same-test false false f g = refl
 
 -- ---- a test at every number
 

@@ -12,7 +12,7 @@ use lib.Arith.{digits-div, digits-mod}
 use borrow.Author.Tests.{eqb-true, eqb-false, ne-eqb}
 use Rattle.calendar.specs.Gregorian.{leap, yearDays}
 use Rattle.calendar.specs.Walk.{span}
-use Rattle.calendar.proofs.Spans.{span-none, span-more}
+use Rattle.calendar.proofs.Spans.{span-none, span-more, span-mono}
 
 -- 1 where a test passes
 abbrev pub count : Bool → ℕ
@@ -80,3 +80,6 @@ start-at n = difference _ _ _ (start-closed n)
   where
     difference : (s b r : ℕ) → s + b + 477 ≡ r → r - (b + 477) ≡ s
     difference s b r h = omega arith
+
+pub start-mono : {n j : ℕ} → n ≤ j → startAt n ≤ startAt j
+start-mono {n} {j} h = rw (start-at n, start-at j) (span-mono yearDays 1970 h)

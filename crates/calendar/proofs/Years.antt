@@ -61,7 +61,7 @@ years-going day h =
     record { from = omega arith; sum = omega (arith, after-cycles (day / 146097)); within = rw calendar-days h }
 
 -- the twelve months are the year, leap or not
-monthLength-days : (b : Bool) → span (monthLength b) 1 12 ≡ cond b 366 365
+pub monthLength-days : (b : Bool) → span (monthLength b) 1 12 ≡ cond b 366 365
 unfolding span monthLength monthTable
 monthLength-days true = refl
 monthLength-days false = refl

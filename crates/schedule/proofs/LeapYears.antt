@@ -2,7 +2,7 @@
 -- computes, carried to all years. Year number n is the year 1970 + n.
 -- Assumes nothing.
 use mathlib.Core.Path.{_≡_, _∙_}
-use mathlib.Core.Bool.{Bool, _&&_}
+use mathlib.Core.Bool.{Bool, not, _&&_}
 use Prim.Native.Nat.{ℕ, zero, suc, _+_, _*_, _/_, _%_, _≤_, _<_}
 use native.Mathlib.Omega.{arith}
 use lib.Dec.{T, leb, eqb, leb→le}
@@ -18,6 +18,9 @@ use Rattle.schedule.proofs.Search.{leastOf-least}
 
 unfoldable pub leapAt : ℕ → Bool
 leapAt n = leap (1970 + n)
+
+unfoldable pub commonAt : ℕ → Bool
+commonAt n = not (leapAt n)
 
 -- a leap year whose first day falls on weekday w
 unfoldable pub leapOn : ℕ → ℕ → Bool
@@ -73,6 +76,10 @@ leapAt-period : (n : ℕ) → leapAt (n + 400) ≡ leapAt n
 unfolding leapAt
 leapAt-period n = let e : 1970 + (n + 400) ≡ 1970 + n + 400 = omega arith in rw e (leap-period (1970 + n))
 
+commonAt-period : (n : ℕ) → commonAt (n + 400) ≡ commonAt n
+unfolding commonAt
+commonAt-period n = rw (leapAt-period n)
+
 leapOn-period : (w n : ℕ) → leapOn w (n + 400) ≡ leapOn w n
 unfolding leapOn weekdayOf
 leapOn-period w n =
@@ -83,6 +90,11 @@ leapOn-period w n =
 pub leap-soon : Recurs leapAt 2921
 unfolding soon reach leapAt leap leastOf startAt
 leap-soon = recurs leapAt 2921 8 leapAt-period tt tt
+
+-- three years are always enough for one that isn't leap
+pub common-soon : Recurs commonAt 1096
+unfolding soon reach commonAt leapAt leap leastOf startAt
+common-soon = recurs commonAt 1096 2 commonAt-period tt tt
 
 every-weekday : T (every (λ w. soon (leapOn w) 14609 41 && every (reach (leapOn w) 14609 41) 400) 7)
 unfolding soon reach leapOn leapAt leap weekdayOf leastOf startAt

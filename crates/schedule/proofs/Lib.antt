@@ -2,3 +2,8 @@ pub mod Sets
 pub mod Search
 pub mod Days
 pub mod LeapYears
+pub mod Dates
+pub mod Recurrence
+pub mod Possible
+pub mod Gap
+pub mod Firing

@@ -53,6 +53,13 @@ from-least p e a h = let q : a + (e - a) ≡ e = omega arith in rw q at (leastOf
 pub least-from : {p : ℕ → Bool} {e a n : ℕ} → a ≤ e → Least p e a n → n ≡ from p e a
 least-from {p} {e} {a} h l = least-one l (from-least p e a h)
 
+-- something passes just where the least number is below the end
+pub from-some : (p : ℕ → Bool) (e a n : ℕ) → a ≤ n → n < e → p n ≡ true → from p e a < e
+from-some p e a n h k t = elim (decLe e (from p e a)) [ yes l ↦ absurd (true≢false (sym t ∙ from-least p e a (omega arith) .none n h (omega arith))) | no l ↦ lt-of-not-le l ]
+
+pub some-from : (p : ℕ → Bool) (e a : ℕ) → a ≤ e → from p e a < e → (n : ℕ) × (a ≤ n) × (n < e) × (p n ≡ true)
+some-from p e a h k = let l = from-least p e a h in (from p e a, l .low, k, l .passes k)
+
 -- ---- one step of a search
 
 pub from-stop : (p : ℕ → Bool) (e a : ℕ) → a < e → p a ≡ true → a ≡ from p e a

@@ -3,3 +3,4 @@ pub mod Match
 pub mod Search
 pub mod Next
 pub mod Days
+pub mod Gap

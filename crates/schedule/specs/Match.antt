@@ -2,6 +2,7 @@
 -- Assumes nothing.
 use Prim.Native.Nat.{ℕ, _*_, _/_, _%_}
 use mathlib.Core.Bool.{Bool, cond, _&&_, _||_}
+use Rattle.calendar.specs.declared.Date.{Date}
 use Rattle.calendar.specs.Dates.{dateAt}
 use Rattle.schedule.specs.declared.Schedule.{Schedule}
 use Rattle.schedule.specs.Sets.{hasBit}
@@ -18,8 +19,11 @@ matchesDay s month day weekday = hasBit (s .months) month && byDayRule s (hasBit
 unfoldable pub matchesTime : Schedule → ℕ → ℕ → Bool
 matchesTime s hour minute = hasBit (s .hours) hour && hasBit (s .minutes) minute
 
+unfoldable pub matchesDate : Schedule → Date → Bool
+matchesDate s d = matchesDay s (d .month) (d .day) (d .weekday) && matchesTime s (d .hour) (d .minute)
+
 unfoldable pub matches : Schedule → ℕ → Bool
-matches s m = let d = dateAt m in matchesDay s (d .month) (d .day) (d .weekday) && matchesTime s (d .hour) (d .minute)
+matches s m = matchesDate s (dateAt m)
 
 -- The two parts of a minute by themselves: a day, counted from 1970-01-01, and a minute of the day.
 unfoldable pub matchesOn : Schedule → ℕ → Bool

@@ -2,7 +2,7 @@
 -- Assumes nothing.
 use Prim.Native.Nat.{ℕ, _+_}
 use mathlib.Core.Bool.{Bool, cond}
-use lib.Dec.{leb, eqb}
+use lib.Dec.{leb, ltb}
 use Rattle.calendar.specs.Dates.{lastMinute, cycleMinutes, notOnCalendar}
 use Rattle.schedule.specs.declared.Schedule.{Schedule}
 use Rattle.schedule.specs.declared.Next.{Next}
@@ -10,16 +10,16 @@ use Rattle.schedule.specs.declared.Next.the-variants.{At, Never, PastEnd
 use Rattle.schedule.specs.Match.{matches}
 use Rattle.schedule.specs.Search.{from}
 
--- no minute of the cycle, 0 to 210,379,679, matches
-unfoldable pub neverFires : Schedule → Bool
-neverFires s = eqb (from (matches s) cycleMinutes 0) cycleMinutes
+-- some minute of the cycle, 0 to 210,379,679, matches
+unfoldable pub canFire : Schedule → Bool
+canFire s = ltb (from (matches s) cycleMinutes 0) cycleMinutes
 
 -- the least matching minute after m that is on the calendar
 unfoldable pub firingAfter : Schedule → ℕ → Next
 firingAfter s m = let n = from (matches s) (lastMinute + 1) (m + 1) in cond (leb n lastMinute) (At n) PastEnd
 
 unfoldable pub nextAfter : Schedule → ℕ → Next
-nextAfter s m = cond (leb m lastMinute) (cond (neverFires s) Never (firingAfter s m)) NotOnCalendar
+nextAfter s m = cond (leb m lastMinute) (cond (canFire s) (firingAfter s m) Never) NotOnCalendar
 
 -- 01's number of each case, 0 where nothing is refused, and its value
 abbrev pub refusalOf : Next → ℕ

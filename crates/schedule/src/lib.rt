@@ -1,7 +1,27 @@
 // What an entry's five sets mean (paper 01, "Match"): whether a minute matches, and when the entry fires next.
 mod day;
+mod never;
 pub mod set;
 mod time;
+
+ghost use mathlib.Core.Path.{_≡_};
+ghost use Prim.Native.Nat.{_≤_, _<_};
+ghost use mathlib.Core.Bool.{_&&_};
+ghost use lib.Dec.{leb};
+ghost use Rattle.calendar.specs.Dates.{lastMinute, calendarDays};
+ghost use Rattle.schedule.specs.Match.{matchesDate, matches, matchesOn};
+ghost use Rattle.schedule.specs.Next.{firingAfter, nextAfter};
+use calendar::Date;
+use day::day_from;
+use day::matches_day;
+use never::can_fire;
+use time::time_from;
+
+const LAST_MINUTE: u64 = 4_223_371_679;
+
+const CALENDAR_DAYS: u64 = 2_932_897;
+
+const DAY_MINUTES: u64 = 1440;
 
 // Which of the two day fields are restricted: not exactly `*`.
 pub struct Restricted {
@@ -29,4 +49,67 @@ pub enum Next {
     PastEnd,
     // The minute asked about isn't on the calendar.
     NotOnCalendar,
+}
+
+// Whether a date matches, whatever numbers it has.
+pub fn matches_date(s: Schedule, date: Date) -> bool
+    ensures { λ r. ⌜ r ≡ matchesDate s date ⌝ }
+{
+    matches_day(s, date.month, date.day, date.weekday)
+        & (set::has(s.hours as u64, date.hour) & set::has(s.minutes, date.minute))
+}
+
+// Whether a minute of the calendar matches; no other does.
+pub fn matches(s: Schedule, minute: u64) -> bool
+    ensures { λ r. ⌜ r ≡ (leb minute lastMinute && matches s minute) ⌝ }
+{
+    if LAST_MINUTE < minute {
+        return false;
+    }
+    let date = calendar::date_of(minute).date;
+    matches_date(s, date)
+}
+
+// Whether a day of the calendar matches, counted from 1970-01-01.
+fn matches_on(s: Schedule, day: u64) -> bool
+    requires { ⌜ day < calendarDays ⌝ }
+    ensures { λ r. ⌜ r ≡ matchesOn s day ⌝ }
+{
+    let date = calendar::date_of(day * DAY_MINUTES).date;
+    matches_day(s, date.month, date.day, date.weekday)
+}
+
+// The least matching minute after one of the calendar: in the rest of that minute's day, or the first time of a later day.
+fn firing_after(s: Schedule, minute: u64) -> Next
+    requires { ⌜ minute ≤ lastMinute ⌝ }
+    ensures { λ r. ⌜ r ≡ firingAfter s minute ⌝ }
+{
+    if minute == LAST_MINUTE {
+        return Next::PastEnd;
+    }
+    let start = minute + 1;
+    let day = start / DAY_MINUTES;
+    let time = time_from(s, start % DAY_MINUTES);
+    if matches_on(s, day) & (time < DAY_MINUTES) {
+        return Next::At(day * DAY_MINUTES + time);
+    }
+    let later = day_from(s, day + 1);
+    let first = time_from(s, 0);
+    if (later < CALENDAR_DAYS) & (first < DAY_MINUTES) {
+        return Next::At(later * DAY_MINUTES + first);
+    }
+    Next::PastEnd
+}
+
+// When an entry fires next, strictly after a minute.
+pub fn next_firing(s: Schedule, minute: u64) -> Next
+    ensures { λ r. ⌜ r ≡ nextAfter s minute ⌝ }
+{
+    if LAST_MINUTE < minute {
+        return Next::NotOnCalendar;
+    }
+    if can_fire(s) {
+        return firing_after(s, minute);
+    }
+    Next::Never
 }

@@ -1,0 +1,119 @@
+-- The gap theorem: how long a schedule that fires at all can be silent, and the closed test for whether it does.
+-- Assumes nothing.
+use mathlib.Core.Path.{_≡_, refl, sym, _∙_}
+use mathlib.Core.Bool.{Bool, true, false, cond, _&&_, true≢false}
+use Prim.Native.Nat.{ℕ, _+_, _*_, _/_, _%_, _≤_, _<_}
+use native.Mathlib.Nat.{lt-of-not-le}
+use native.Mathlib.Decide.{decLe}
+use native.Mathlib.Omega.{arith}
+use lib.Dec.{leb, ltb}
+use borrow.Author.Tests.{ltb-true, lt-ltb, leb-true}
+use Rattle.calendar.specs.Dates.{lastMinute, cycleMinutes, dateAt}
+use Rattle.calendar.proofs.Tests.{and-true, same-test}
+use Rattle.schedule.specs.declared.Schedule.{Schedule}
+use Rattle.schedule.specs.declared.Next.the-variants.{At, Never, PastEnd, NotOnCalendar}
+use Rattle.schedule.specs.Match.{matchesDate, matches, matchesOn, matchesAt}
+use Rattle.schedule.specs.Search.{from}
+use Rattle.schedule.specs.Days.{someDay}
+use Rattle.schedule.specs.Next.{canFire, firingAfter, nextAfter}
+use Rattle.schedule.specs.Gap.{gap, Whole}
+use Rattle.schedule.proofs.Search.{from-least, from-some, some-from}
+use Rattle.schedule.proofs.Recurrence.{Within}
+use Rattle.schedule.proofs.Possible.{within-40-years, within-8-years, matching-some}
+
+-- a minute matches by its day and its time of day
+pub matches-parts : (s : Schedule) (n : ℕ) → matches s n ≡ (matchesOn s (n / 1440) && matchesAt s (n % 1440))
+unfolding matches matchesDate matchesOn matchesAt dateAt
+matches-parts s n =
+    let e : n / 1440 * 1440 / 1440 ≡ n / 1440 = omega arith in
+    let f : n % 1440 % 60 ≡ n % 60 = omega arith in
+    rw (e, f)
+
+-- and so does a day with a time of day
+pub parts-match : (s : Schedule) (d t : ℕ) → t < 1440 → matchesOn s d ≡ true → matchesAt s t ≡ true → matches s (d * 1440 + t) ≡ true
+parts-match s d t h a b =
+    let e : (d * 1440 + t) / 1440 ≡ d = omega arith in
+    let f : (d * 1440 + t) % 1440 ≡ t = omega arith in
+    rw (matches-parts s (d * 1440 + t), e, f, a, b)
+
+-- from days to minutes, over the number of days
+pub minutes-within : (s : Schedule) (g time : ℕ) → Within s g → time < 1440 → matchesAt s time ≡ true
+    → (t : ℕ) → t + g * 1440 ≤ lastMinute → (n : ℕ) × (t < n) × (n ≤ t + g * 1440) × (matches s n ≡ true)
+minutes-within s g time w h m t k = elim (decLe time (t % 1440)) [ yes l ↦ tomorrow l | no l ↦ today (lt-of-not-le l) ]
+  where
+    today : t % 1440 < time → (n : ℕ) × (t < n) × (n ≤ t + g * 1440) × (matches s n ≡ true)
+    today l =
+        let (d, a, b, c) = w (t / 1440) (omega arith) in
+        (d * 1440 + time, omega arith, omega arith, parts-match s d time h c m)
+
+    tomorrow : time ≤ t % 1440 → (n : ℕ) × (t < n) × (n ≤ t + g * 1440) × (matches s n ≡ true)
+    tomorrow l =
+        let (d, a, b, c) = w (t / 1440 + 1) (omega arith) in
+        (d * 1440 + time, omega arith, omega arith, parts-match s d time h c m)
+
+-- ---- the closed test
+
+someTime : Schedule → Bool
+someTime s = ltb (from (matchesAt s) 1440 0) 1440
+
+fires-some : (s : Schedule) → canFire s ≡ true → (someTime s ≡ true) × (someDay s ≡ true)
+unfolding canFire someTime
+fires-some s t =
+    let (n, a, b, m) = some-from (matches s) cycleMinutes 0 (omega arith) (ltb-true _ _ t) in
+    let p = and-true (matchesOn s (n / 1440)) (matchesAt s (n % 1440)) (sym (matches-parts s n) ∙ m) in (
+      lt-ltb _ _ (from-some (matchesAt s) 1440 0 (n % 1440) (omega arith) (omega arith) (p .1)),
+      matching-some s (n / 1440) (omega arith) (p .0),
+    )
+
+some-fires : (s : Schedule) → someTime s ≡ true → someDay s ≡ true → canFire s ≡ true
+unfolding canFire someTime
+some-fires s a b =
+    let (t, _, h, m) = some-from (matchesAt s) 1440 0 (omega arith) (ltb-true _ _ a) in
+    let (d, _, k, c) = within-40-years s b 0 (omega arith) in
+    lt-ltb _ _ (from-some (matches s) cycleMinutes 0 (d * 1440 + t) (omega arith) (omega arith) (parts-match s d t h c m))
+
+pub can-fire : (s : Schedule) → canFire s ≡ (ltb (from (matchesAt s) 1440 0) 1440 && someDay s)
+unfolding someTime
+can-fire s =
+    same-test (canFire s) (someTime s && someDay s)
+    (λ t. let p = fires-some s t in rw (p .0, p .1))
+    (λ t. let p = and-true (someTime s) (someDay s) t in some-fires s (p .0) (p .1))
+
+-- ---- the gap
+
+-- A schedule whose free day fields have every value, and that some minute of the cycle matches, has a matching minute in
+-- each window of `gap` minutes on the calendar.
+pub fires-within : (s : Schedule) → Whole s → canFire s ≡ true
+    → (t : ℕ) → t + gap ≤ lastMinute → (n : ℕ) × (t < n) × (n ≤ t + gap) × (matches s n ≡ true)
+unfolding someTime
+fires-within s whole fires =
+    let p = fires-some s fires in
+    let (time, _, h, m) = some-from (matchesAt s) 1440 0 (omega arith) (ltb-true _ _ (p .0)) in
+    minutes-within s 2921 time (within-8-years s whole (p .1)) h m
+
+-- a firing that is found is at most that far ahead
+pub next-within : (s : Schedule) → Whole s → (t n : ℕ) → nextAfter s t ≡ At n → n ≤ t + gap
+unfolding nextAfter firingAfter
+next-within s whole t n e = go (leb t lastMinute) (canFire s) (leb k lastMinute) refl refl refl e
+  where
+    k : ℕ
+    k = from (matches s) (lastMinute + 1) (t + 1)
+
+    near : t ≤ lastMinute → canFire s ≡ true → k ≤ lastMinute → k ≤ t + gap
+    near h f l =
+        elim (decLe (t + gap) lastMinute) [
+          | no i ↦ omega (arith, lt-of-not-le i)
+          | yes i ↦
+              let (m, u, v, w) = fires-within s whole f t i in
+              elim (decLe k m) [
+                | yes j ↦ omega arith
+                | no j ↦ absurd (true≢false (sym w ∙ from-least (matches s) (lastMinute + 1) (t + 1) (omega arith) .none m (omega arith) (lt-of-not-le j)))
+              ]
+        ]
+
+    go : (a b c : Bool) → leb t lastMinute ≡ a → canFire s ≡ b → leb k lastMinute ≡ c
+        → cond a (cond b (cond c (At k) PastEnd) Never) NotOnCalendar ≡ At n → n ≤ t + gap
+    go true true true p q r f = let i : k ≡ n = cc in omega (arith, near (leb-true _ _ p) q (leb-true _ _ r))
+    go true true false p q r f = let z : _≡_ {A = ℕ} 0 1 = cc in omega arith
+    go true false c p q r f = let z : _≡_ {A = ℕ} 0 1 = cc in omega arith
+    go false b c p q r f = let z : _≡_ {A = ℕ} 0 1 = cc in omega arith

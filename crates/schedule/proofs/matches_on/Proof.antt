@@ -1,0 +1,29 @@
+-- `schedule::matches_on` meets its contract, by the date that the calendar gives.
+-- Assumes nothing.
+use mathlib.Core.Path.{ap, _∙_}
+use native.Mathlib.Omega.{arith}
+use borrow.Author.Needs.{needs}
+use Rattle.calendar.specs.declared.DateAnswer.{DateAnswer}
+use Rattle.calendar.proofs.Theorems.{dateOf-on}
+use Rattle.schedule.specs.Match.{matchesDay, matchesOn}
+use Rattle.schedule.proofs.matches_on.Statement.{statement}
+use Rattle.schedule.proofs.matches_on.Tie as tie
+
+mul-date-of : tie.Need-mul-date-of
+mul-date-of c = search needs
+
+date-of-requires : tie.Need-date-of-requires
+date-of-requires c κs = search needs
+
+matches-day-requires : tie.Need-matches-day-requires
+matches-day-requires c κs = search needs
+
+returns : tie.Need-returns
+unfolding matchesOn
+returns c =
+    let e = c .before .before .date-of .ensures ∙ dateOf-on _ (omega arith) in
+    c .matches-day .ensures
+    ∙ ap (λ (a : DateAnswer). matchesDay (c .before .before .before .args .s) (a .date .month) (a .date .day) (a .date .weekday)) e
+
+pub matches-on-spec : {M : Type 1} → statement M
+matches-on-spec = tie.close (tie.spec mul-date-of date-of-requires matches-day-requires returns)

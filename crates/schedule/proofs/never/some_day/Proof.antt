@@ -1,0 +1,41 @@
+-- `schedule::never::some_day` meets its contract: it tests what the definition does.
+-- Assumes nothing.
+use borrow.Author.Needs.{needs}
+use Rattle.schedule.specs.Days.{someDay}
+use Rattle.schedule.proofs.never.some_day.Statement.{statement}
+use Rattle.schedule.proofs.never.some_day.Tie as tie
+
+cast-next : tie.Need-cast-next
+cast-next c = search needs
+
+next-requires : tie.Need-next-requires
+next-requires c κs = search needs
+
+cast-next-2 : tie.Need-cast-next-2
+cast-next-2 c = search needs
+
+next-requires-2 : tie.Need-next-requires-2
+next-requires-2 c κs = search needs
+
+month-with-date-requires : tie.Need-month-with-date-requires
+month-with-date-requires c κs = search needs
+
+returns : tie.Need-returns
+unfolding someDay
+returns c = let b = c .before .before .before in rw (c .if1 .taken, b .month-with-date .ensures, b .before .next2 .ensures, b .before .before .before .next .ensures)
+
+returns-2 : tie.Need-returns-2
+unfolding someDay
+returns-2 c = let b = c .before .before .before in rw (c .if1 .left, b .month-with-date .ensures, b .before .next2 .ensures)
+
+pub some-day-spec : {M : Type 1} → statement M
+some-day-spec =
+    tie.close
+    (tie.spec
+    cast-next
+    next-requires
+    cast-next-2
+    next-requires-2
+    month-with-date-requires
+    returns
+    returns-2)
