@@ -13,8 +13,8 @@ SOURCES = crates.txt $(shell find crates -name '*.rt' -o -name '*.antt')
 
 all: $(LIBRARY) target/examples/date
 
-$(LIBRARY): $(SOURCES)
-	rt staticlib eremothyn
+target/staticlib/lib%.a: $(SOURCES)
+	rt staticlib $*
 
 target/examples/%: examples/%.c include/eremothyn.h $(LIBRARY)
 	mkdir -p $(@D)
@@ -26,7 +26,7 @@ example: target/examples/date
 test:
 	.ci/run
 
-bench: $(LIBRARY)
+bench: $(LIBRARY) target/staticlib/libschedule_calls.a
 	cargo run --offline --release --manifest-path tests/Cargo.toml -p bench
 
 clean:

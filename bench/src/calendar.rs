@@ -2,8 +2,8 @@
 //! `timegm`. The library is asked as a C caller asks it, by a call for each part.
 
 use crate::measure::{nanoseconds, print_head, print_row};
-use eremothyn::random::Random;
 use second::calendar::{date_of, minute_of, LAST_MINUTE};
+use second::random::Random;
 use std::ffi::{c_char, c_int, c_long};
 
 const COUNT: u64 = 100_000;

@@ -2,11 +2,12 @@
 
 mod calendar;
 mod measure;
+mod schedule;
 
 use std::env;
 use std::process::ExitCode;
 
-const BENCHMARKS: [(&str, fn()); 1] = [("calendar", calendar::run)];
+const BENCHMARKS: [(&str, fn()); 2] = [("calendar", calendar::run), ("schedule", schedule::run)];
 
 fn main() -> ExitCode {
     let wanted: Vec<String> = env::args().skip(1).collect();

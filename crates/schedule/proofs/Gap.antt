@@ -16,10 +16,10 @@ use Rattle.schedule.specs.Match.{matchesDate, matches, matchesOn, matche
 use Rattle.schedule.specs.Search.{from}
 use Rattle.schedule.specs.Days.{someDay}
 use Rattle.schedule.specs.Next.{canFire, firingAfter, nextAfter}
-use Rattle.schedule.specs.Gap.{gap, Whole}
+use Rattle.schedule.specs.Gap.{gapDays, gap, Whole}
 use Rattle.schedule.proofs.Search.{from-least, from-some, some-from}
 use Rattle.schedule.proofs.Recurrence.{Within}
-use Rattle.schedule.proofs.Possible.{within-40-years, within-8-years, matching-some}
+use Rattle.schedule.proofs.Possible.{within-40-years, within-gap, matching-some}
 
 -- a minute matches by its day and its time of day
 pub matches-parts : (s : Schedule) (n : ℕ) → matches s n ≡ (matchesOn s (n / 1440) && matchesAt s (n % 1440))
@@ -89,7 +89,7 @@ unfolding someTime
 fires-within s whole fires =
     let p = fires-some s fires in
     let (time, _, h, m) = some-from (matchesAt s) 1440 0 (omega arith) (ltb-true _ _ (p .0)) in
-    minutes-within s 2921 time (within-8-years s whole (p .1)) h m
+    minutes-within s gapDays time (within-gap s whole (p .1)) h m
 
 -- a firing that is found is at most that far ahead
 pub next-within : (s : Schedule) → Whole s → (t n : ℕ) → nextAfter s t ≡ At n → n ≤ t + gap

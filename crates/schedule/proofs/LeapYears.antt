@@ -14,6 +14,7 @@ use Rattle.calendar.proofs.Spans.{span-append}
 use Rattle.calendar.proofs.Years.{leap-period, cycle-days}
 use Rattle.calendar.proofs.YearStarts.{startAt, start-at}
 use Rattle.schedule.specs.Search.{leastOf}
+use Rattle.schedule.specs.Gap.{gapDays}
 use Rattle.schedule.proofs.Search.{leastOf-least}
 
 unfoldable pub leapAt : ℕ → Bool
@@ -86,10 +87,10 @@ leapOn-period w n =
     let e : (startAt n + 146097 + 4) % 7 ≡ (startAt n + 4) % 7 = omega arith in
     rw (leapAt-period n, start-shift n, e)
 
--- 2,921 days: from 2096 to 2104
-pub leap-soon : Recurs leapAt 2921
+-- as from 2096 to 2104
+pub leap-soon : Recurs leapAt gapDays
 unfolding soon reach leapAt leap leastOf startAt
-leap-soon = recurs leapAt 2921 8 leapAt-period tt tt
+leap-soon = recurs leapAt gapDays 8 leapAt-period tt tt
 
 -- three years are always enough for one that isn't leap
 pub common-soon : Recurs commonAt 1096

@@ -7,3 +7,5 @@ pub mod Recurrence
 pub mod Possible
 pub mod Gap
 pub mod Firing
+pub mod Quick
+pub mod Reached

@@ -17,7 +17,7 @@ use Rattle.schedule.specs.Sets.{hasBit}
 use Rattle.schedule.specs.Match.{byDayRule, matchesDay, matchesOn}
 use Rattle.schedule.specs.Search.{from}
 use Rattle.schedule.specs.Days.{hasDate, someDay}
-use Rattle.schedule.specs.Gap.{Whole}
+use Rattle.schedule.specs.Gap.{gapDays, Whole}
 use Rattle.schedule.proofs.Search.{from-some, some-from}
 use Rattle.schedule.proofs.Dates.{month-lengths, longest, Is}
 use Rattle.schedule.proofs.Recurrence.{Within, date-within, weekday-date-within, weekday-within}
@@ -130,18 +130,18 @@ within-40-years s t = go (matchable s t)
     go (by-both e c w k i) = weekday-date-within s (c .m) (c .d) w (c .is) k (matches-both s (c .m) (c .d) w e (c .month) (c .day) i)
 
 -- where one of the day fields is free
-pub within-8-years : (s : Schedule) → Whole s → someDay s ≡ true → Within s 2921
-within-8-years s whole t = go (matchable s t)
+pub within-gap : (s : Schedule) → Whole s → someDay s ≡ true → Within s gapDays
+within-gap s whole t = go (matchable s t)
   where
     one-free : (c : Chosen s) (w : ℕ) → w < 7 → hasBit (s .weekdays) w ≡ true → either s ≡ false
-        → (b : Bool) → s .restricted .weekdays ≡ b → Within s 2921
+        → (b : Bool) → s .restricted .weekdays ≡ b → Within s gapDays
     one-free c w k i e true r =
         weekday-within s (c .m) w (c .is .monthFrom) (c .is .monthTo) k
         (λ d h l. matches-both s (c .m) d w e (c .month) (whole .days (days-free s e r) d h (omega arith)) i)
     one-free c w k i e false r =
         date-within s (c .m) (c .d) (c .is) (λ v h. matches-both s (c .m) (c .d) v e (c .month) (c .day) (whole .weekdays r v h))
 
-    go : Matchable s → Within s 2921
+    go : Matchable s → Within s gapDays
     go (by-date e c) = date-within s (c .m) (c .d) (c .is) (λ w h. matches-either s (c .m) (c .d) w e (c .month) (inl (c .day)))
     go (by-weekday e m w a b h k i) = weekday-within s m w a b k (λ d u v. matches-either s m d w e h (inr i))
     go (by-both e c w k i) = one-free c w k i e (s .restricted .weekdays) refl

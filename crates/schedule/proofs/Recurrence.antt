@@ -1,4 +1,4 @@
--- How soon a day matches again: within 14,609 days where a date must fall on a weekday, within 2,921 where either is free.
+-- How soon a day matches again: within 14,609 days where a date must fall on a weekday, within the gap where either is free.
 -- Assumes nothing.
 use mathlib.Core.Path.{_≡_, refl, _∙_}
 use mathlib.Core.Bool.{Bool, true, false, not}
@@ -10,6 +10,7 @@ use Rattle.calendar.specs.Gregorian.{leap}
 use Rattle.calendar.specs.Dates.{calendarDays, weekdayOf}
 use Rattle.calendar.proofs.YearStarts.{startAt}
 use Rattle.schedule.specs.declared.Schedule.{Schedule}
+use Rattle.schedule.specs.Gap.{gapDays}
 use Rattle.schedule.specs.Match.{matchesDay, matchesOn}
 use Rattle.schedule.proofs.LeapYears.{leapAt, commonAt, leapOn, leap-soon, common-soon, leap-on-soon}
 use Rattle.schedule.proofs.Dates.{month-lengths, into, Is, into-small, date-comes, date-matches}
@@ -35,7 +36,7 @@ common-is j t = go (leap (1970 + j)) t
     go false t = refl
 
 -- a date, on any weekday
-pub date-within : (s : Schedule) (m d : ℕ) → Is true m d → ((w : ℕ) → w < 7 → matchesDay s m d w ≡ true) → Within s 2921
+pub date-within : (s : Schedule) (m d : ℕ) → Is true m d → ((w : ℕ) → w < 7 → matchesDay s m d w ≡ true) → Within s gapDays
 unfolding weekdayOf
 date-within s m d i t x h =
     let c = date-comes leap-soon leap-is i x h in
@@ -69,7 +70,7 @@ into-more b m i = omega arith
 
 -- a weekday, on any of those days
 pub weekday-within : (s : Schedule) (m w : ℕ) → 1 ≤ m → m ≤ 12 → w < 7 → ((d : ℕ) → 1 ≤ d → d ≤ 7 → matchesDay s m d w ≡ true)
-    → Within s 2921
+    → Within s gapDays
 weekday-within s m w m1 m2 hw t x h =
     let k = month-lengths m m1 m2 in
     let c = date-comes {d = 1} common-soon common-is (record { monthFrom = m1; monthTo = m2; dayFrom = omega arith; dayTo = omega arith }) x (omega arith) in

@@ -4,3 +4,4 @@ pub mod Search
 pub mod Next
 pub mod Days
 pub mod Gap
+pub mod Examples

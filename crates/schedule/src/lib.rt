@@ -10,7 +10,7 @@ ghost use mathlib.Core.Bool.{_&&_};
 ghost use lib.Dec.{leb};
 ghost use Rattle.calendar.specs.Dates.{lastMinute, calendarDays};
 ghost use Rattle.schedule.specs.Match.{matchesDate, matches, matchesOn};
-ghost use Rattle.schedule.specs.Next.{firingAfter, nextAfter};
+ghost use Rattle.schedule.specs.Next.{firingAfter, nextAfter, refusalOf, minuteIn};
 use calendar::Date;
 use day::day_from;
 use day::matches_day;
@@ -49,6 +49,32 @@ pub enum Next {
     PastEnd,
     // The minute asked about isn't on the calendar.
     NotOnCalendar,
+}
+
+impl Next {
+    // The number of the refusal, 0 where there is a firing.
+    pub fn refusal(self) -> u8
+        ensures { λ r. ⌜ r ≡ refusalOf self ⌝ }
+    {
+        match self {
+            Next::At(_) => 0,
+            Next::Never => 16,
+            Next::PastEnd => 17,
+            Next::NotOnCalendar => calendar::NOT_ON_CALENDAR,
+        }
+    }
+
+    // The minute of the firing, 0 where there is none.
+    pub fn minute(self) -> u64
+        ensures { λ r. ⌜ r ≡ minuteIn self ⌝ }
+    {
+        match self {
+            Next::At(minute) => minute,
+            Next::Never => 0,
+            Next::PastEnd => 0,
+            Next::NotOnCalendar => 0,
+        }
+    }
 }
 
 // Whether a date matches, whatever numbers it has.

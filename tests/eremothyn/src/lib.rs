@@ -1,7 +1,4 @@
-//! The functions of `include/eremothyn.h`, each under its own name without the prefix, and random numbers for their
-//! tests and benchmarks.
-
-pub mod random;
+//! The functions of `include/eremothyn.h`, each under its own name without the prefix.
 
 /// A refusal is this plus its number.
 pub const REFUSED: u64 = 1 << 32;

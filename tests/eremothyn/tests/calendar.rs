@@ -1,9 +1,9 @@
 //! The calendar of the library, through its C functions, against the second program's closed forms and its clock.
 //! `date`s here are rows of year, month, day, hour and minute.
 
-use eremothyn::random::Random;
 use eremothyn::{Answer, NOT_ON_CALENDAR};
 use second::calendar::{self, Clock, Date, LAST_MINUTE};
+use second::random::Random;
 use std::thread;
 
 const DAY: u64 = 1_440;

@@ -39,4 +39,9 @@ impl Random {
     pub fn below(&mut self, bound: u64) -> u64 {
         self.number() % bound
     }
+
+    /// One of a table's rows.
+    pub fn pick<T: Copy>(&mut self, rows: &[T]) -> T {
+        rows[self.below(rows.len() as u64) as usize]
+    }
 }

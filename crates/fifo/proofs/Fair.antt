@@ -1,0 +1,137 @@
+-- The third demand: an entry whose minutes recur is named in time. Within the first `gap` announcements one matches it, and
+-- from then on it waits. At most count - 1 others stand before it, those that join stand behind it, and each minute brings a
+-- request.
+-- Assumes nothing.
+use mathlib.Core.Path.{_≡_, refl, _∙_}
+use mathlib.Core.Logic.{_⊎_, inl, inr}
+use mathlib.Core.Bool.{Bool, true, false, not, _||_, false≢true}
+use mathlib.Core.List.{List, [], _∷_, _++_}
+use Prim.Native.Nat.{ℕ, zero, suc, _+_, _-_, _≤_, _<_}
+use native.Mathlib.Omega.{arith}
+use lib.Dec.{eqb}
+use lib.ListN.{length}
+use borrow.Author.Tests.{eqb-true, lt-ltb}
+use Rattle.fifo.specs.Line.{has, entriesOf}
+use Rattle.fifo.specs.Layout.{limit}
+use Rattle.fifo.specs.Steps.{Jobs, fresh, joins, joiners, ticked, front, popped, popStep}
+use Rattle.fifo.specs.Fairness.{Call, tick, pop, roomOf, unrefused, lineAfter, Follows, Paced, upTo, Names, span, Fair}
+use Rattle.fifo.proofs.Lines.{has-append, has-pick, entries-length, entries-popped}
+use Rattle.fifo.proofs.Laid.{lineOf-laid}
+use Rattle.fifo.proofs.Calls.{Undone, Done, effect, effect-entries, outcome, fresh-entries, ticked-entries, after-entries, goes-on}
+
+-- ---- where an entry stands
+
+data At (e : ℕ) : ℕ → List ℕ → Type 0 where
+  here : {l : List ℕ} → At e zero (e ∷ l)
+  there : {x p : ℕ} {l : List ℕ} → At e p l → At e (suc p) (x ∷ l)
+
+at-append : {e p : ℕ} {l : List ℕ} (k : List ℕ) → At e p l → At e p (l ++ k)
+at-append k here = here
+at-append k (there a) = there (at-append k a)
+
+at-length : {e p : ℕ} {l : List ℕ} → At e p l → p < length l
+at-length here = omega arith
+at-length (there a) = omega (arith, at-length a)
+
+at-has : (e : ℕ) (l : List ℕ) → has e l ≡ true → (p : ℕ) × At e p l
+unfolding has
+at-has e [] q = absurd (false≢true q)
+at-has e (x ∷ l) q = go (eqb x e) refl q (λ k. at-has e l k)
+  where
+    go : (b : Bool) → eqb x e ≡ b → (b || has e l) ≡ true → (has e l ≡ true → (p : ℕ) × At e p l) → (p : ℕ) × At e p (x ∷ l)
+    go true r k later = (0, rw (eqb-true x e r) here)
+    go false r k later = let a = later k in (suc (a .0), there (a .1))
+
+-- ---- a list of unrefused calls, by the lines alone
+
+abbrev Runs : Jobs → List ℕ → List Call → Type 0
+Runs jobs l [] = Unit {0}
+Runs jobs l (tick minute room ∷ cs) = Runs jobs (ticked jobs minute l) cs
+Runs jobs l (pop room ∷ cs) = (popStep (jobs .count) room .answer ≡ front l) × Runs jobs (popped l) cs
+
+module _ (jobs : Jobs) (h : jobs .count < limit) where
+  runs-done : (c : Call) (cs : List Call) (l : List ℕ) → Done jobs l c → Runs jobs (effect jobs l c) cs → Runs jobs l (c ∷ cs)
+  unfolding effect
+  runs-done (tick minute room) cs l d r = r
+  runs-done (pop room) cs l d r = (d .answer, r)
+
+  runs : (cs : List Call) (l : List ℕ) → entriesOf (jobs .count) l ≡ true → Follows jobs l cs → Runs jobs l (unrefused jobs cs)
+  unfolding unrefused lineAfter
+  runs [] l e f = tt
+  runs (c ∷ cs) l e f = go (outcome jobs h l e c (f .0)) (runs cs (lineAfter jobs l c) (after-entries jobs h l c e (f .0)) (f .1))
+    where
+      go : Undone jobs c ⊎ Done jobs l c → Runs jobs (lineAfter jobs l c) (unrefused jobs cs) → Runs jobs l (unrefused jobs (c ∷ cs))
+      go (inl u) r = rw (u .was) (rw (u .was) at r)
+      go (inr d) r =
+          rw (d .was)
+          (runs-done c (unrefused jobs cs) l d
+          (rw (d .was, d .room, lineOf-laid (jobs .count) (effect jobs l c) (roomOf c) h (effect-entries jobs l c e)) at r))
+
+-- ---- an entry that waits is named
+
+module _ (jobs : Jobs) (e : ℕ) where
+  -- how many may stand before it, with n minutes to come: one request each, and one more where none came since the last
+  abbrev Near : Bool → ℕ → ℕ → Type 0
+  Near true p n = p < n
+  Near false p n = p ≤ n
+
+  named : (cs : List Call) (l : List ℕ) (p m n : ℕ) (asked : Bool) → At e p l → Near asked p n → Runs jobs l cs → Paced m n asked cs
+      → Names jobs e (upTo n cs)
+  unfolding ticked front popped
+  named [] l p m n true a near r paced = absurd (omega (arith, paced .0))
+  named [] l p m n false a near r paced = absurd (false≢true (paced .1))
+  named (tick minute room ∷ cs) l p m zero asked a near r paced = absurd paced
+  named (tick minute room ∷ cs) l p m (suc n) true a near r paced =
+      named cs (ticked jobs minute l) p (m + 1) n false (at-append (joiners jobs minute l) a) (omega arith) r (paced .2)
+  named (tick minute room ∷ cs) l p m (suc n) false a near r paced = absurd (false≢true (paced .0))
+  named (pop room ∷ cs) (x ∷ l) zero m zero asked here near r paced = inl (r .0)
+  named (pop room ∷ cs) (x ∷ l) zero m (suc n) asked here near r paced = inl (r .0)
+  named (pop room ∷ cs) (x ∷ l) (suc p) m zero true (there a) near r paced = absurd (omega arith)
+  named (pop room ∷ cs) (x ∷ l) (suc p) m zero false (there a) near r paced = absurd (omega arith)
+  named (pop room ∷ cs) (x ∷ l) (suc p) m (suc n) true (there a) near r paced =
+      inr (named cs l p m (suc n) true a (omega arith) (r .1) paced)
+  named (pop room ∷ cs) (x ∷ l) (suc p) m (suc n) false (there a) near r paced =
+      inr (named cs l p m (suc n) true a (omega arith) (r .1) paced)
+
+-- ---- an entry joins where a minute matches it
+
+-- after the announcement it waits, whether it joined or waited before
+ticked-has : (jobs : Jobs) (e minute : ℕ) (l : List ℕ) → e < jobs .count → jobs .boot e ≡ false → jobs .matches e minute ≡ true
+    → has e (ticked jobs minute l) ≡ true
+unfolding ticked joiners joins
+ticked-has jobs e minute l h b q =
+    has-append e l (joiners jobs minute l)
+    ∙ rw (has-pick (joins jobs minute l) (jobs .count) e, lt-ltb e (jobs .count) h, b, q) (either (has e l))
+  where
+    either : (b : Bool) → (b || not b) ≡ true
+    either true = refl
+    either false = refl
+
+module _ (jobs : Jobs) (e : ℕ) (below : e < jobs .count) (timed : jobs .boot e ≡ false) where
+  -- Minute m is next, m + j matches, and n minutes are to come, enough for those before that one and for a whole line after.
+  joined : (cs : List Call) (l : List ℕ) (m n j : ℕ) (asked : Bool) → entriesOf (jobs .count) l ≡ true → jobs .matches e (m + j) ≡ true
+      → j + jobs .count ≤ n → Runs jobs l cs → Paced m n asked cs → Names jobs e (upTo n cs)
+  joined [] l m n j asked g q k r paced = absurd (omega (arith, paced .0))
+  joined (pop room ∷ cs) l m zero j asked g q k r paced = absurd (omega arith)
+  joined (pop room ∷ cs) l m (suc n) j asked g q k r paced =
+      inr (joined cs (popped l) m (suc n) j true (entries-popped (jobs .count) l g) q k (r .1) paced)
+  joined (tick minute room ∷ cs) l m zero j asked g q k r paced = absurd paced
+  joined (tick minute room ∷ cs) l m (suc n) zero asked g q k r paced =
+      let now : m + 0 ≡ minute = omega (arith, paced .1) in
+      let waits = at-has e (ticked jobs minute l) (ticked-has jobs e minute l below timed (rw now at q)) in
+      let short = entries-length (jobs .count) (ticked jobs minute l) (ticked-entries jobs minute l g) in
+      let near : waits .0 ≤ n = omega (arith, at-length (waits .1)) in
+      named jobs e cs (ticked jobs minute l) (waits .0) (m + 1) n false (waits .1) near r (paced .2)
+  joined (tick minute room ∷ cs) l m (suc n) (suc j) asked g q k r paced =
+      let next : m + suc j ≡ m + 1 + j = omega arith in
+      joined cs (ticked jobs minute l) (m + 1) n j false (ticked-entries jobs minute l g) (rw next at q) (omega arith) r (paced .2)
+
+-- ---- the theorem
+
+pub fair : Fair
+fair jobs gap e t first second h below timed recurs follows end paced =
+    let (m, after, within, matched) = recurs t (omega arith) in
+    let (l, entries, goes) = goes-on jobs h first second (fresh jobs) (fresh-entries jobs) follows in
+    let at : t + 1 + (m - (t + 1)) ≡ m = omega arith in
+    joined jobs e below timed (unrefused jobs second) l (t + 1) (span jobs gap) (m - (t + 1)) true entries (rw at matched) (omega arith)
+    (runs jobs h second l entries goes) paced

@@ -1,0 +1,216 @@
+-- A line that grows entry by entry, as a loop over the entries makes it: those below i that pass a test have joined.
+-- Assumes nothing.
+use mathlib.Core.Path.{_≡_, refl, sym, ap, _∙_}
+use mathlib.Core.Bool.{Bool, true, false, not, cond, _&&_}
+use mathlib.Core.List.{List, [], _∷_, _++_, append-assoc, append-nil}
+use Prim.Native.Nat.{ℕ, suc, _+_, _≤_, _<_}
+use native.Mathlib.Numerals.{add-one}
+use native.Mathlib.Omega.{arith}
+use lib.Dec.{leb, ltb}
+use lib.ListN.{length, length-append}
+use borrow.Author.Tests.{not-true, leb-true, le-leb, lt-leb, lt-ltb, le-ltb}
+use Rattle.fifo.specs.declared.Ticked.the-variants.{Joined, Refused}
+use Rattle.fifo.specs.Line.{has, entriesOf, pick}
+use Rattle.fifo.specs.Layout.{isLine, lineOf, laid, lineSize, roomy, limit}
+use Rattle.fifo.specs.Steps.{Jobs, fresh, initStep, joins, joiners, ticked, tickStep, cleared, canPush, pushed, canJoin, joined}
+use Rattle.fifo.proofs.Lines.{and-true, or-none, has-append, has-pick, entries-length, entries-snoc, entries-pick}
+use Rattle.fifo.proofs.Rooms.{is-line}
+use Rattle.fifo.proofs.Laid.{isLine-laid, lineOf-laid, laid-laid}
+
+-- ---- one entry more
+
+-- in a room that holds a line of n entries there is room for one that doesn't wait
+pub push-room : (n : ℕ) (room : List ℕ) (e : ℕ) → n < limit → isLine n room ≡ true → e < n → has e (lineOf room) ≡ false
+    → (canPush room ≡ true) × (pushed e room ≡ laid (lineOf room ++ e ∷ []) room)
+unfolding canPush pushed roomy
+push-room n room e h q below out =
+    let l = lineOf room in
+    let i = is-line n room q in
+    let more = entries-length n (l ++ e ∷ []) (entries-snoc n l e (i .entries-is) below out) in
+    let one = length-append l (e ∷ []) in
+    let fits : leb (lineSize (suc (length l))) (length room) ≡ true = le-leb (lineSize (suc (length l))) (length room) (omega (arith, i .size-is)) in
+    let small : ltb (suc (length l)) limit ≡ true = lt-ltb (suc (length l)) limit (omega arith) in
+    (rw (fits, small), rw (fits, small))
+
+-- the line is longer by it, and the room holds a line of n entries again
+pub push-line : (n : ℕ) (room : List ℕ) (e : ℕ) → n < limit → isLine n room ≡ true → e < n → has e (lineOf room) ≡ false
+    → (lineOf (pushed e room) ≡ lineOf room ++ e ∷ []) × (isLine n (pushed e room) ≡ true)
+push-line n room e h q below out =
+    let l = lineOf room in
+    let i = is-line n room q in
+    let g = entries-snoc n l e (i .entries-is) below out in
+    let done = push-room n room e h q below out .1 in
+    (ap lineOf done ∙ lineOf-laid n (l ++ e ∷ []) room h g, ap (isLine n) done ∙ isLine-laid n (l ++ e ∷ []) room h g (i .roomy-is))
+
+-- the same of a line that was laid
+pub push-laid : (n : ℕ) (l room : List ℕ) (e : ℕ) → n < limit → roomy n room ≡ true → entriesOf n l ≡ true → e < n → has e l ≡ false
+    → (canPush (laid l room) ≡ true) × (pushed e (laid l room) ≡ laid (l ++ e ∷ []) room)
+push-laid n l room e h r g below out =
+    let line : lineOf (laid l room) ≡ l = lineOf-laid n l room h g in
+    let one = length-append l (e ∷ []) in
+    let step = push-room n (laid l room) e h (isLine-laid n l room h g r) below (rw line out) in
+    (step .0, step .1 ∙ rw line (laid-laid (l ++ e ∷ []) l room (omega arith)))
+
+-- ---- entry by entry
+
+module _ (l room : List ℕ) (p : ℕ → Bool) where
+  -- the room after the entries below i
+  abbrev pub filled : ℕ → List ℕ
+  filled i = laid (l ++ pick p i) room
+
+  pub filled-none : filled 0 ≡ laid l room
+  unfolding pick
+  filled-none = rw append-nil
+
+  -- an entry that fails the test is passed over
+  pub filled-pass : (i : ℕ) → p i ≡ false → filled i ≡ filled (i + 1)
+  unfolding pick
+  filled-pass i q = rw (add-one i, q, append-nil (pick p i))
+
+  module _ (n : ℕ) (h : n < limit) (r : roomy n room ≡ true) (g : entriesOf n l ≡ true)
+      (new : (e : ℕ) → p e ≡ true → has e l ≡ false) where
+    filled-entries : (i : ℕ) → i ≤ n → entriesOf n (l ++ pick p i) ≡ true
+    filled-entries i k = entries-pick n l p new g i k
+
+    pub filled-line : (i : ℕ) → i ≤ n → lineOf (filled i) ≡ l ++ pick p i
+    filled-line i k = lineOf-laid n (l ++ pick p i) room h (filled-entries i k)
+
+    -- entry i waits there if it waited before
+    waits-before : (i : ℕ) → has i (l ++ pick p i) ≡ has i l
+    waits-before i = has-append i l (pick p i) ∙ rw (has-pick p i i, le-ltb i i (omega arith)) (or-none (has i l))
+
+    pub filled-waits : (i : ℕ) → i ≤ n → has i (lineOf (filled i)) ≡ has i l
+    filled-waits i k = ap (has i) (filled-line i k) ∙ waits-before i
+
+    -- an entry that passes joins
+    pub filled-push : (i : ℕ) → i < n → p i ≡ true → (canPush (filled i) ≡ true) × (pushed i (filled i) ≡ filled (i + 1))
+    unfolding pick
+    filled-push i k q =
+        let step = push-laid n (l ++ pick p i) room i h r (filled-entries i (omega arith)) k (waits-before i ∙ new i q) in
+        (step .0, rw (add-one i, q, ← append-assoc) (step .1))
+
+    -- so it does where the test is only that it doesn't wait
+    pub filled-join : (i : ℕ) → i < n → p i ≡ not (has i l) → (canJoin i (filled i) ≡ p i) × (joined i (filled i) ≡ filled (i + 1))
+    unfolding canJoin joined
+    filled-join i k q = rw (filled-waits i (omega arith), q) (go (has i l) refl)
+      where
+        go : (b : Bool) → has i l ≡ b → ((not b && canPush (filled i)) ≡ not b) × (cond b (filled i) (pushed i (filled i)) ≡ filled (i + 1))
+        go true w = (refl, filled-pass i (q ∙ rw w))
+        go false w = filled-push i k (q ∙ rw w)
+
+    -- and so it does where it is offered only if it is due
+    pub filled-offer : (i : ℕ) (due : Bool) → i < n → p i ≡ (due && not (has i l))
+        → ((due && canJoin i (filled i)) ≡ p i) × (cond due (joined i (filled i)) (filled i) ≡ filled (i + 1))
+    filled-offer i true k q = filled-join i k q
+    filled-offer i false k q = (sym q, filled-pass i q)
+
+-- how many have joined
+pub length-pick : (p : ℕ → Bool) (i : ℕ) → length (pick p (i + 1)) ≡ length (pick p i) + cond (p i) 1 0
+unfolding pick
+length-pick p i = rw (add-one i) (length-append (pick p i) (cond (p i) (i ∷ []) []) ∙ go (p i))
+  where
+    go : (b : Bool) → length (pick p i) + length (cond b (i ∷ []) []) ≡ length (pick p i) + cond b 1 0
+    go true = refl
+    go false = refl
+
+one-most : (b : Bool) → cond b 1 0 ≤ 1
+one-most true = omega arith
+one-most false = omega arith
+
+-- ---- a loop over the entries
+
+-- what holds after the entries below i: the room, and how many joined
+pub record Fills (l room₀ : List ℕ) (p : ℕ → Bool) (n i : ℕ) (room : List ℕ) (count : ℕ) : Type 0 where
+  pub upTo : i ≤ n
+  pub room-is : room ≡ filled l room₀ p i
+  pub length-is : length room ≡ length room₀
+  pub count-is : count ≡ length (pick p i)
+  pub count-most : count ≤ i
+
+module _ (l room₀ : List ℕ) (p : ℕ → Bool) (n : ℕ) where
+  pub fills-none : {room : List ℕ} → room ≡ laid l room₀ → length room ≡ length room₀ → Fills l room₀ p n 0 room 0
+  unfolding pick
+  fills-none e k =
+      record {
+        upTo = omega arith;
+        room-is = e ∙ sym (filled-none l room₀ p);
+        length-is = k;
+        count-is = refl;
+        count-most = omega arith;
+      }
+
+  pub fills-more : {i : ℕ} {room after : List ℕ} {count more : ℕ} → Fills l room₀ p n i room count → i < n
+      → after ≡ filled l room₀ p (i + 1) → length after ≡ length room₀ → more ≡ count + cond (p i) 1 0
+      → Fills l room₀ p n (i + 1) after more
+  fills-more {i} {room} {after} {count} {more} f h e k q =
+      record {
+        upTo = omega arith;
+        room-is = e;
+        length-is = k;
+        count-is = omega (arith, f .count-is, length-pick p i);
+        count-most = omega (arith, f .count-most, one-most (p i));
+      }
+
+-- ---- a fresh line and an announced minute, as loops over the entries: a turn of each, and that it ends in the step
+
+-- who joins doesn't wait
+pub joins-new : (jobs : Jobs) (minute : ℕ) (l : List ℕ) (e : ℕ) → joins jobs minute l e ≡ true → has e l ≡ false
+unfolding joins
+joins-new jobs minute l e q = not-true (has e l) (and-true (not (jobs .boot e) && jobs .matches e minute) (not (has e l)) q .1)
+
+module _ (jobs : Jobs) (room : List ℕ) where
+  pub init-start : roomy (jobs .count) room ≡ true → (roomy 0 room ≡ true) × (cleared room ≡ laid [] room)
+  unfolding cleared roomy
+  init-start r =
+      let enough : lineSize (jobs .count) ≤ length room = leb-true (lineSize (jobs .count)) (length room) r in
+      let some : leb (lineSize 0) (length room) ≡ true = le-leb (lineSize 0) (length room) (omega arith) in
+      (some, rw some)
+
+  -- each boot job is pushed
+  pub init-next : (i : ℕ) → jobs .count < limit → roomy (jobs .count) room ≡ true → i < jobs .count
+      → let at = filled [] room (jobs .boot) in
+      ((jobs .boot i && canPush (at i)) ≡ jobs .boot i) × (cond (jobs .boot i) (pushed i (at i)) (at i) ≡ at (i + 1))
+  unfolding entriesOf has
+  init-next i h r k = go (jobs .boot i) refl
+    where
+      go : (b : Bool) → jobs .boot i ≡ b
+          → let at = filled [] room (jobs .boot) in ((b && canPush (at i)) ≡ b) × (cond b (pushed i (at i)) (at i) ≡ at (i + 1))
+      go true q = filled-push [] room (jobs .boot) (jobs .count) h r refl (λ e _. refl) i k q
+      go false q = (refl, filled-pass [] room (jobs .boot) i q)
+
+  pub init-done : roomy (jobs .count) room ≡ true
+      → (Joined (length (pick (jobs .boot) (jobs .count))) ≡ initStep jobs room .answer) × (filled [] room (jobs .boot) (jobs .count) ≡ initStep jobs room .room)
+  unfolding initStep fresh
+  init-done r = (rw r, rw r)
+
+  pub init-refused : roomy (jobs .count) room ≡ false → (Refused 28 ≡ initStep jobs room .answer) × (room ≡ initStep jobs room .room)
+  unfolding initStep
+  init-refused r = (rw r, rw r)
+
+  module _ (minute : ℕ) where
+    -- each time-based entry that matches is offered
+    pub tick-next : (i : ℕ) → jobs .count < limit → isLine (jobs .count) room ≡ true → i < jobs .count
+        → let due = not (jobs .boot i) && jobs .matches i minute in
+        let p = joins jobs minute (lineOf room) in
+        let at = filled (lineOf room) room p in
+        ((due && canJoin i (at i)) ≡ p i) × (cond due (joined i (at i)) (at i) ≡ at (i + 1))
+    unfolding joins
+    tick-next i h q k =
+        let line = is-line (jobs .count) room q in
+        filled-offer (lineOf room) room (joins jobs minute (lineOf room)) (jobs .count) h (line .roomy-is) (line .entries-is)
+        (joins-new jobs minute (lineOf room)) i (not (jobs .boot i) && jobs .matches i minute) k refl
+
+    pub tick-done : isLine (jobs .count) room ≡ true → minute ≤ jobs .last
+        → let p = joins jobs minute (lineOf room) in
+        (Joined (length (pick p (jobs .count))) ≡ tickStep jobs minute room .answer) × (filled (lineOf room) room p (jobs .count) ≡ tickStep jobs minute room .room)
+    unfolding tickStep ticked joiners
+    tick-done q k = let on = le-leb minute (jobs .last) k in (rw (q, on), rw (q, on))
+
+    pub tick-late : isLine (jobs .count) room ≡ true → jobs .last < minute
+        → (Refused 14 ≡ tickStep jobs minute room .answer) × (room ≡ tickStep jobs minute room .room)
+    unfolding tickStep
+    tick-late q k = let off = lt-leb minute (jobs .last) k in (rw (q, off), rw (q, off))
+
+    pub tick-refused : isLine (jobs .count) room ≡ false → (Refused 28 ≡ tickStep jobs minute room .answer) × (room ≡ tickStep jobs minute room .room)
+    unfolding tickStep
+    tick-refused q = (rw q, rw q)

@@ -1,0 +1,11 @@
+pub mod Lines
+pub mod Numbers
+pub mod Laid
+pub mod Stores
+pub mod Marks
+pub mod Rooms
+pub mod Filling
+pub mod Calls
+pub mod Fair
+pub mod Refusals
+pub mod Buffer

@@ -1,0 +1,70 @@
+-- `fifo::move_up` meets its contract. The loop's invariant: the bytes passed are in place, and the others are as they were.
+-- Assumes nothing.
+use mathlib.Core.Path.{_≡_}
+use Prim.Native.Nat.{_-_, _≤_}
+use native.Mathlib.Omega.{arith}
+use borrow.Author.Needs.{needs}
+use lib.ListN.{length, drop, length-set}
+use lib.Seq.{paste, paste-zero}
+use Rattle.fifo.proofs.Stores.{paste-next}
+use Rattle.fifo.proofs.move_up.Statement.{statement}
+use Rattle.fifo.proofs.move_up.Tie as tie
+
+abbrev Inv-loop : tie.InvT-loop
+Inv-loop room₀ n i₀ room i = (room ≡ paste room₀ 2 (drop 4 room₀) i) × (length room ≡ length room₀) × (i ≤ n)
+
+abbrev μ-loop : tie.MeasureT-loop
+μ-loop room₀ n i₀ room i = n - i
+
+loop-holds : tie.Need-loop-holds Inv-loop μ-loop
+loop-holds c = (paste-zero (c .args .room .now) 2 (drop 4 (c .args .room .now)), search needs, search needs)
+
+add-room : tie.Need-add-room Inv-loop μ-loop
+add-room c = omega arith
+
+slice-read-room : tie.Need-slice-read-room Inv-loop μ-loop
+slice-read-room c = omega arith
+
+add-room-2 : tie.Need-add-room-2 Inv-loop μ-loop
+add-room-2 c = omega arith
+
+slice-write-room : tie.Need-slice-write-room Inv-loop μ-loop
+slice-write-room c = omega arith
+
+add-i : tie.Need-add-i Inv-loop μ-loop
+add-i c = omega arith
+
+loop-less : tie.Need-loop-less Inv-loop μ-loop
+loop-less c = omega arith
+
+loop-again : tie.Need-loop-again Inv-loop μ-loop
+loop-again c =
+    let s = c .before .before .before .args .room .now in
+    let i = c .before .before .loop .i in
+    let inv = c .before .before .loop .inv in
+    (rw (inv .0) (paste-next s i (omega arith)), simp length-set (inv .1), omega arith)
+
+same-length : tie.Need-same-length Inv-loop μ-loop
+same-length c = search needs
+
+returns : tie.Need-returns Inv-loop μ-loop
+returns c =
+    let e : c .before .loop .i ≡ c .before .before .args .n = omega arith in
+    rw e at (c .before .loop .inv .0)
+
+pub move-up-spec : {M : Type 1} → statement M
+move-up-spec =
+    tie.close
+    (tie.spec
+    Inv-loop
+    μ-loop
+    loop-holds
+    add-room
+    slice-read-room
+    add-room-2
+    slice-write-room
+    add-i
+    loop-less
+    loop-again
+    same-length
+    returns)

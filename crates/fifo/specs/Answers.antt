@@ -1,0 +1,38 @@
+-- Paper 01, "What comes back": the answers of the run queue's calls, and their numbers for C callers.
+-- Assumes nothing.
+use Prim.Native.Nat.{ℕ, _+_}
+use Rattle.fifo.specs.declared.Ticked.{Ticked}
+use Rattle.fifo.specs.declared.Popped.{Popped}
+use Rattle.fifo.specs.declared.Ticked.the-variants.{Joined, Refused as NotTicked}
+use Rattle.fifo.specs.declared.Popped.the-variants.{Entry, Nothing, Refused as NotPopped}
+
+-- not a waiting line of this table, or not room for all its entries
+abbrev pub notALine : ℕ
+notALine = 28
+
+-- the minute isn't on the calendar
+abbrev pub offCalendar : ℕ
+offCalendar = 14
+
+-- "nothing waits" is this number, and a refusal this and its own
+abbrev pub refusals : ℕ
+refusals = 4294967296
+
+unfoldable pub tickNumber : Ticked → ℕ
+tickNumber (Joined n) = n
+tickNumber (NotTicked why) = refusals + why
+
+unfoldable pub popNumber : Popped → ℕ
+popNumber (Entry e) = e
+popNumber Nothing = refusals
+popNumber (NotPopped why) = refusals + why
+
+-- the number of a refusal, and 0 where there is none; "nothing waits" is no refusal
+unfoldable pub tickRefusal : Ticked → ℕ
+tickRefusal (Joined n) = 0
+tickRefusal (NotTicked why) = why
+
+unfoldable pub popRefusal : Popped → ℕ
+popRefusal (Entry e) = 0
+popRefusal Nothing = 0
+popRefusal (NotPopped why) = why

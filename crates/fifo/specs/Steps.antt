@@ -1,0 +1,105 @@
+-- Paper 01, "The line of waiting jobs": what a fresh line, an announced minute (a tick) and a request (a pop) do to the room
+-- that a call is lent, for any jobs: what a table says of its entries is left to whoever has a table. A refused call leaves
+-- the room as it was. Of the refusals 28 comes before 14.
+-- Assumes nothing.
+use Prim.Native.Nat.{ℕ, suc}
+use mathlib.Core.Bool.{Bool, not, cond, _&&_}
+use mathlib.Core.List.{List, [], _∷_, _++_}
+use lib.Dec.{leb, ltb}
+use lib.ListN.{length}
+use Rattle.fifo.specs.declared.Ticked.{Ticked}
+use Rattle.fifo.specs.declared.Popped.{Popped}
+use Rattle.fifo.specs.declared.Ticked.the-variants.{Joined, Refused as NotTicked}
+use Rattle.fifo.specs.declared.Popped.the-variants.{Entry, Nothing, Refused as NotPopped}
+use Rattle.fifo.specs.Line.{has, pick}
+use Rattle.fifo.specs.Layout.{lineOf, laid, roomy, isLine, limit}
+use Rattle.fifo.specs.Answers.{notALine, offCalendar}
+
+-- what is known of a table's entries, numbered from 0 in file order
+pub record Jobs : Type 0 where
+  -- how many there are
+  pub count : ℕ
+  -- whether an entry is a boot job (`@reboot`); the others are time-based
+  pub boot : ℕ → Bool
+  -- whether an entry matches a minute
+  pub matches : ℕ → ℕ → Bool
+  -- the calendar's last minute
+  pub last : ℕ
+
+-- what a call comes back with, and the room as it leaves it
+pub record Step (A : Type 0) : Type 0 where
+  pub answer : A
+  pub room : List ℕ
+
+-- ---- a fresh line
+
+-- the boot jobs, in file order
+unfoldable pub fresh : Jobs → List ℕ
+fresh jobs = pick (jobs .boot) (jobs .count)
+
+-- whatever the room held; the answer is how many wait
+unfoldable pub initStep : Jobs → List ℕ → Step Ticked
+initStep jobs room =
+    cond (roomy (jobs .count) room)
+    (record { answer = Joined (length (fresh jobs)); room = laid (fresh jobs) room })
+    (record { answer = NotTicked notALine; room = room })
+
+-- ---- an announced minute
+
+-- the time-based entries that match the minute and don't wait, in file order
+unfoldable pub joins : Jobs → ℕ → List ℕ → ℕ → Bool
+joins jobs minute l e = not (jobs .boot e) && jobs .matches e minute && not (has e l)
+
+unfoldable pub joiners : Jobs → ℕ → List ℕ → List ℕ
+joiners jobs minute l = pick (joins jobs minute l) (jobs .count)
+
+-- they join at the back
+unfoldable pub ticked : Jobs → ℕ → List ℕ → List ℕ
+ticked jobs minute l = l ++ joiners jobs minute l
+
+-- the answer is how many joined
+unfoldable pub tickStep : Jobs → ℕ → List ℕ → Step Ticked
+tickStep jobs minute room =
+    cond (isLine (jobs .count) room)
+    (cond (leb minute (jobs .last))
+    (record { answer = Joined (length (joiners jobs minute (lineOf room))); room = laid (ticked jobs minute (lineOf room)) room })
+    (record { answer = NotTicked offCalendar; room = room }))
+    (record { answer = NotTicked notALine; room = room })
+
+-- ---- a request
+
+-- it names the front, or says that nothing waits
+unfoldable pub front : List ℕ → Popped
+front [] = Nothing
+front (e ∷ l) = Entry e
+
+-- the line behind the front
+unfoldable pub popped : List ℕ → List ℕ
+popped [] = []
+popped (e ∷ l) = l
+
+unfoldable pub popStep : ℕ → List ℕ → Step Popped
+popStep n room =
+    cond (isLine n room)
+    (record { answer = front (lineOf room); room = laid (popped (lineOf room)) room })
+    (record { answer = NotPopped notALine; room = room })
+
+-- ---- one entry more, and none at all: what the steps of a fresh line and of an announced minute are made of
+
+-- whether there is room behind the line, and its count can grow
+unfoldable pub canPush : List ℕ → Bool
+canPush room = roomy (suc (length (lineOf room))) room && ltb (suc (length (lineOf room))) limit
+
+unfoldable pub pushed : ℕ → List ℕ → List ℕ
+pushed e room = cond (canPush room) (laid (lineOf room ++ e ∷ []) room) room
+
+-- an entry that waits doesn't join again
+unfoldable pub canJoin : ℕ → List ℕ → Bool
+canJoin e room = not (has e (lineOf room)) && canPush room
+
+unfoldable pub joined : ℕ → List ℕ → List ℕ
+joined e room = cond (has e (lineOf room)) room (pushed e room)
+
+-- the empty line, where the count has room
+unfoldable pub cleared : List ℕ → List ℕ
+cleared room = cond (roomy 0 room) (laid [] room) room

@@ -1,0 +1,60 @@
+-- Schedules of paper 01's known days, as the reader gives them, and what they match.
+-- Assumes nothing.
+use mathlib.Core.Path.{_≡_, refl}
+use mathlib.Core.Bool.{true, false}
+use Rattle.calendar.specs.Gregorian.{leap, yearDays, monthTable, monthLength, monthDays}
+use Rattle.calendar.specs.Walk.{walk}
+use Rattle.calendar.specs.Dates.{weekdayOf, yearOf, monthOf, dateAt}
+use Rattle.schedule.specs.declared.Schedule.{Schedule}
+use Rattle.schedule.specs.Sets.{hasBit}
+use Rattle.schedule.specs.Match.{byDayRule, matchesDay, matchesTime, matchesDate, matches}
+
+-- `0 0 29 2 *`
+unfoldable pub leapDay : Schedule
+leapDay =
+    record {
+      minutes = 1;
+      hours = 1;
+      days = 0x20000000;
+      months = 0b100;
+      weekdays = 0b1111111;
+      restricted = record { days = true; weekdays = false };
+    }
+
+-- `30 4 1,15 * 5`: the 1st, the 15th and each Friday
+unfoldable pub fridays : Schedule
+fridays =
+    record {
+      minutes = 0x40000000;
+      hours = 0b10000;
+      days = 0x8002;
+      months = 0b1111111111110;
+      weekdays = 0b100000;
+      restricted = record { days = true; weekdays = true };
+    }
+
+-- 1970-01-01 04:30 is the 1st and no Friday; 1970-01-02 04:30 a Friday; 1970-01-03 04:30 neither
+first-of-month : matches fridays 270 ≡ true
+unfolding fridays matches matchesDate matchesDay matchesTime byDayRule hasBit dateAt yearOf monthOf weekdayOf walk yearDays leap monthDays monthLength monthTable
+first-of-month = refl
+
+friday : matches fridays 1710 ≡ true
+unfolding fridays matches matchesDate matchesDay matchesTime byDayRule hasBit dateAt yearOf monthOf weekdayOf walk yearDays leap monthDays monthLength monthTable
+friday = refl
+
+neither : matches fridays 3150 ≡ false
+unfolding fridays matches matchesDate matchesDay matchesTime byDayRule hasBit dateAt yearOf monthOf weekdayOf walk yearDays leap monthDays monthLength monthTable
+neither = refl
+
+-- 2096-02-29 00:00, and a day and a minute later
+leap-day : matches leapDay 66355200 ≡ true
+unfolding leapDay matches matchesDate matchesDay matchesTime byDayRule hasBit dateAt yearOf monthOf weekdayOf walk yearDays leap monthDays monthLength monthTable
+leap-day = refl
+
+day-after : matches leapDay 66356640 ≡ false
+unfolding leapDay matches matchesDate matchesDay matchesTime byDayRule hasBit dateAt yearOf monthOf weekdayOf walk yearDays leap monthDays monthLength monthTable
+day-after = refl
+
+minute-after : matches leapDay 66355201 ≡ false
+unfolding leapDay matches matchesDate matchesDay matchesTime byDayRule hasBit dateAt yearOf monthOf weekdayOf walk yearDays leap monthDays monthLength monthTable
+minute-after = refl

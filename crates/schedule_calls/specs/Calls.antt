@@ -1,0 +1,28 @@
+-- A schedule by plain numbers, and its answers as plain numbers.
+-- Assumes nothing.
+use Prim.Native.Nat.{ℕ, _+_, _/_, _%_}
+use mathlib.Core.Bool.{cond, _&&_}
+use lib.Dec.{leb, eqb}
+use Rattle.calendar.specs.Dates.{lastMinute}
+use Rattle.schedule.specs.declared.Schedule.{Schedule}
+use Rattle.schedule.specs.Match.{matches}
+use Rattle.schedule.specs.Next.{nextAfter, refusalOf, minuteIn}
+
+unfoldable pub scheduleOf : ℕ → ℕ → ℕ → ℕ → ℕ → ℕ → Schedule
+scheduleOf minutes hours days months weekdays restricted =
+    record {
+      minutes = minutes;
+      hours = hours % 4294967296;
+      days = days % 4294967296;
+      months = months % 65536;
+      weekdays = weekdays % 256;
+      restricted = record { days = eqb (restricted % 2) 1; weekdays = eqb (restricted / 2 % 2) 1 };
+    }
+
+unfoldable pub nextNumber : Schedule → ℕ → ℕ
+nextNumber s minute =
+    let next = nextAfter s minute in
+    cond (eqb (refusalOf next) 0) (minuteIn next) (4294967296 + refusalOf next)
+
+unfoldable pub matchNumber : Schedule → ℕ → ℕ
+matchNumber s minute = cond (leb minute lastMinute && matches s minute) 1 0

@@ -1,0 +1,69 @@
+// A schedule's functions over plain numbers, for the tests and benchmarks alone: they are no part of the C interface.
+ghost use mathlib.Core.Path.{_≡_};
+ghost use Rattle.schedule_calls.specs.Calls.{scheduleOf, nextNumber, matchNumber};
+use schedule::Restricted;
+use schedule::Schedule;
+
+// The sets by their numbers, cut to their widths; bit 0 of `restricted` is for the days, bit 1 for the weekdays.
+fn schedule_of(
+    minutes: u64,
+    hours: u64,
+    days: u64,
+    months: u64,
+    weekdays: u64,
+    restricted: u64,
+) -> Schedule
+    ensures { λ r. ⌜ r ≡ scheduleOf minutes hours days months weekdays restricted ⌝ }
+{
+    let rule = Restricted {
+        days: restricted % 2 == 1,
+        weekdays: restricted / 2 % 2 == 1,
+    };
+    Schedule {
+        minutes,
+        hours: (hours % 4294967296) as u32,
+        days: (days % 4294967296) as u32,
+        months: (months % 65536) as u16,
+        weekdays: (weekdays % 256) as u8,
+        restricted: rule,
+    }
+}
+
+// The minute of the next firing, or 4,294,967,296 and the refusal's number.
+#[no_mangle]
+pub extern "C" fn schedule_next(
+    minutes: u64,
+    hours: u64,
+    days: u64,
+    months: u64,
+    weekdays: u64,
+    restricted: u64,
+    minute: u64,
+) -> u64
+    ensures { λ r. ⌜ r ≡ nextNumber (scheduleOf minutes hours days months weekdays restricted) minute ⌝ }
+{
+    let s = schedule_of(minutes, hours, days, months, weekdays, restricted);
+    let next = schedule::next_firing(s, minute);
+    let refusal = next.refusal();
+    if refusal == 0 {
+        return next.minute();
+    }
+    4_294_967_296 + refusal as u64
+}
+
+// 1 if the minute matches, otherwise 0.
+#[no_mangle]
+pub extern "C" fn schedule_matches(
+    minutes: u64,
+    hours: u64,
+    days: u64,
+    months: u64,
+    weekdays: u64,
+    restricted: u64,
+    minute: u64,
+) -> u64
+    ensures { λ r. ⌜ r ≡ matchNumber (scheduleOf minutes hours days months weekdays restricted) minute ⌝ }
+{
+    let s = schedule_of(minutes, hours, days, months, weekdays, restricted);
+    if schedule::matches(s, minute) { 1 } else { 0 }
+}

@@ -1,0 +1,186 @@
+//! The paper's "Match" and its next firing. A minute is judged by its date from the closed forms. The next firing is
+//! found without them: a table has every day of the cycle as the clock shows it, the days are gone through one by one,
+//! and each day has the same list of times.
+
+pub mod samples;
+
+use crate::calendar::{date_of, Clock, Date, LAST_MINUTE};
+use std::sync::OnceLock;
+
+/// A minute, or the number of a refusal.
+pub type Answer = Result<u64, u64>;
+
+/// Refusal: the minute isn't on the calendar.
+pub const NOT_ON_CALENDAR: u64 = 14;
+
+/// Refusal: no minute of the cycle matches.
+pub const NEVER: u64 = 16;
+
+/// Refusal: a minute of the cycle matches, but none that is left on the calendar.
+pub const PAST_THE_END: u64 = 17;
+
+/// To C a refusal is this plus its number.
+pub const REFUSED: u64 = 1 << 32;
+
+const MINUTES_PER_DAY: u64 = 1_440;
+const DAYS: u64 = (LAST_MINUTE + 1) / MINUTES_PER_DAY;
+const DAYS_PER_CYCLE: usize = 146_097;
+
+/// Bit n of a set is the value n. Bits outside a field's limits are allowed, and no date has them.
+#[derive(Clone, Copy, Debug, PartialEq, Eq)]
+pub struct Schedule {
+    pub minutes: u64,
+    pub hours: u32,
+    pub days: u32,
+    pub months: u16,
+    /// Sunday 0 to Saturday 6.
+    pub weekdays: u8,
+    pub days_restricted: bool,
+    pub weekdays_restricted: bool,
+}
+
+impl Schedule {
+    /// Whether a minute matches; none does off the calendar.
+    pub fn matches(&self, minute: u64) -> bool {
+        date_of(minute).is_some_and(|date| {
+            self.has_time(date.hour, date.minute)
+                && self.has_day(date.month, date.day, date.weekday)
+        })
+    }
+
+    /// The least matching minute strictly after a minute, or 14, 16 or 17.
+    pub fn next_after(&self, minute: u64) -> Answer {
+        if minute > LAST_MINUTE {
+            return Err(NOT_ON_CALENDAR);
+        }
+        let times = self.times();
+        if times.is_empty() || !distinct().iter().any(|&shown| self.has_shown(shown)) {
+            return Err(NEVER);
+        }
+        let firing_on = |day: u64| {
+            let mut firings = times.iter().map(|time| day * MINUTES_PER_DAY + time);
+            firings.find(|&firing| firing > minute)
+        };
+        (minute / MINUTES_PER_DAY..DAYS)
+            .filter(|&day| self.has_shown(cycle()[day as usize % DAYS_PER_CYCLE]))
+            .find_map(firing_on)
+            .ok_or(PAST_THE_END)
+    }
+
+    /// The same by the plain walk, asking one minute after another; none where the walk reaches the calendar's end.
+    pub fn walk(&self, minute: u64) -> Option<u64> {
+        (minute.saturating_add(1)..=LAST_MINUTE).find(|&later| self.matches(later))
+    }
+
+    /// As C hands it over: minutes, hours, days, months, weekdays, and both restrictions in bits 0 and 1.
+    pub fn numbers(&self) -> [u64; 6] {
+        [
+            self.minutes,
+            self.hours.into(),
+            self.days.into(),
+            self.months.into(),
+            self.weekdays.into(),
+            u64::from(self.days_restricted) + 2 * u64::from(self.weekdays_restricted),
+        ]
+    }
+
+    fn has_time(&self, hour: u64, minute: u64) -> bool {
+        has(self.hours, hour) && has(self.minutes, minute)
+    }
+
+    fn has_day(&self, month: u64, day: u64, weekday: u64) -> bool {
+        let by_day = has(self.days, day);
+        let by_weekday = has(self.weekdays, weekday);
+        let by_both_fields = if self.days_restricted && self.weekdays_restricted {
+            by_day || by_weekday
+        } else {
+            by_day && by_weekday
+        };
+        has(self.months, month) && by_both_fields
+    }
+
+    fn has_shown(&self, shown: Shown) -> bool {
+        let [month, day, weekday] = shown.map(u64::from);
+        self.has_day(month, day, weekday)
+    }
+
+    /// The minutes of a day at which the schedule fires, in order.
+    fn times(&self) -> Vec<u64> {
+        (0..MINUTES_PER_DAY)
+            .filter(|time| self.has_time(time / 60, time % 60))
+            .collect()
+    }
+}
+
+/// An answer as C gets it.
+pub fn to_c(answer: Answer) -> u64 {
+    answer.unwrap_or_else(|refusal| REFUSED + refusal)
+}
+
+fn has(set: impl Into<u64>, value: u64) -> bool {
+    set.into() >> value & 1 == 1
+}
+
+/// What the clock shows on a day: month, day, weekday.
+type Shown = [u8; 3];
+
+/// Every day of the cycle, from 1970-01-01 on.
+fn cycle() -> &'static [Shown] {
+    static CYCLE: OnceLock<Vec<Shown>> = OnceLock::new();
+    CYCLE.get_or_init(|| {
+        let mut clock = Clock::start();
+        let mut show = || {
+            let Date {
+                month,
+                day,
+                weekday,
+                ..
+            } = clock.at(0, 0);
+            clock.step();
+            [month, day, weekday].map(|part| part as u8)
+        };
+        (0..DAYS_PER_CYCLE).map(|_| show()).collect()
+    })
+}
+
+/// The same days, each once.
+fn distinct() -> &'static [Shown] {
+    static DISTINCT: OnceLock<Vec<Shown>> = OnceLock::new();
+    DISTINCT.get_or_init(|| {
+        let mut days = cycle().to_vec();
+        days.sort();
+        days.dedup();
+        days
+    })
+}
+
+#[cfg(test)]
+mod tests {
+    use super::*;
+    use crate::random::Random;
+
+    #[test]
+    fn the_table_has_every_day_of_the_calendar() {
+        for day in 0..DAYS {
+            let date = date_of(day * MINUTES_PER_DAY).expect("a day of the calendar");
+            let shown = cycle()[day as usize % DAYS_PER_CYCLE].map(u64::from);
+            assert_eq!(shown, [date.month, date.day, date.weekday], "day {day}");
+        }
+    }
+
+    #[test]
+    fn the_table_and_the_walk_agree() {
+        const NEAR: u64 = 20_000;
+        let mut random = Random::seeded();
+        for _ in 0..5_000 {
+            let schedule = samples::schedule(&mut random);
+            let minute = samples::start(&mut random);
+            let after = minute.saturating_add(1);
+            let near = after..=LAST_MINUTE.min(after.saturating_add(NEAR));
+            let walked = near.clone().find(|&later| schedule.matches(later));
+            let found = schedule.next_after(minute).ok();
+            let found_near = found.filter(|firing| near.contains(firing));
+            assert_eq!(found_near, walked, "{schedule:x?} after {minute}");
+        }
+    }
+}
