@@ -4,20 +4,20 @@
 
 pub mod samples;
 
-use crate::calendar::{date_of, Clock, Date, LAST_MINUTE};
+use crate::calendar::{date_of, Clock, LAST_MINUTE};
 use std::sync::OnceLock;
 
 /// A minute, or the number of a refusal.
 pub type Answer = Result<u64, u64>;
 
 /// Refusal: the minute isn't on the calendar.
-pub const NOT_ON_CALENDAR: u64 = 14;
+const NOT_ON_CALENDAR: u64 = 14;
 
 /// Refusal: no minute of the cycle matches.
-pub const NEVER: u64 = 16;
+const NEVER: u64 = 16;
 
 /// Refusal: a minute of the cycle matches, but none that is left on the calendar.
-pub const PAST_THE_END: u64 = 17;
+const PAST_THE_END: u64 = 17;
 
 /// To C a refusal is this plus its number.
 pub const REFUSED: u64 = 1 << 32;
@@ -91,12 +91,11 @@ impl Schedule {
     fn has_day(&self, month: u64, day: u64, weekday: u64) -> bool {
         let by_day = has(self.days, day);
         let by_weekday = has(self.weekdays, weekday);
-        let by_both_fields = if self.days_restricted && self.weekdays_restricted {
-            by_day || by_weekday
-        } else {
-            by_day && by_weekday
+        let by_date = match (self.days_restricted, self.weekdays_restricted) {
+            (true, true) => by_day || by_weekday,
+            _ => by_day && by_weekday,
         };
-        has(self.months, month) && by_both_fields
+        has(self.months, month) && by_date
     }
 
     fn has_shown(&self, shown: Shown) -> bool {
@@ -130,20 +129,15 @@ fn cycle() -> &'static [Shown] {
     CYCLE.get_or_init(|| {
         let mut clock = Clock::start();
         let mut show = || {
-            let Date {
-                month,
-                day,
-                weekday,
-                ..
-            } = clock.at(0, 0);
+            let date = clock.at(0, 0);
             clock.step();
-            [month, day, weekday].map(|part| part as u8)
+            [date.month, date.day, date.weekday].map(|part| part as u8)
         };
         (0..DAYS_PER_CYCLE).map(|_| show()).collect()
     })
 }
 
-/// The same days, each once.
+/// The same days, each once: enough to say whether any of them is in a schedule.
 fn distinct() -> &'static [Shown] {
     static DISTINCT: OnceLock<Vec<Shown>> = OnceLock::new();
     DISTINCT.get_or_init(|| {
@@ -169,18 +163,29 @@ mod tests {
     }
 
     #[test]
+    fn every_date_falls_on_every_weekday() {
+        assert_eq!(distinct().len(), 366 * 7);
+    }
+
+    #[test]
     fn the_table_and_the_walk_agree() {
+        // As far as is walked where there may be no firing.
         const NEAR: u64 = 20_000;
         let mut random = Random::seeded();
         for _ in 0..5_000 {
             let schedule = samples::schedule(&mut random);
             let minute = samples::start(&mut random);
-            let after = minute.saturating_add(1);
-            let near = after..=LAST_MINUTE.min(after.saturating_add(NEAR));
-            let walked = near.clone().find(|&later| schedule.matches(later));
-            let found = schedule.next_after(minute).ok();
-            let found_near = found.filter(|firing| near.contains(firing));
-            assert_eq!(found_near, walked, "{schedule:x?} after {minute}");
+            let case = format!("{schedule:x?} after {minute}");
+            match schedule.next_after(minute) {
+                Ok(firing) if firing - minute <= NEAR => {
+                    assert_eq!(schedule.walk(minute), Some(firing), "{case}");
+                }
+                _ => {
+                    let last = LAST_MINUTE.min(minute.saturating_add(NEAR));
+                    let mut near = (minute..=last).skip(1);
+                    assert!(!near.any(|later| schedule.matches(later)), "{case}");
+                }
+            }
         }
     }
 }

@@ -7,9 +7,6 @@ use crate::random::Random;
 /// Days, months and weekdays.
 pub type DaySets = (u32, u16, u8);
 
-/// Minutes and hours.
-pub type TimeSets = (u64, u32);
-
 pub const ALL_MINUTES: u64 = 0x0fff_ffff_ffff_ffff;
 pub const ALL_HOURS: u32 = 0x00ff_ffff;
 pub const ALL_DAYS: u32 = 0xffff_fffe;
@@ -85,7 +82,8 @@ pub const DAY_SETS: [DaySets; 51] = [
     (1 << 0 | 1 << 29, 1 << 0 | FEBRUARY | 1 << 13, !0),
 ];
 
-pub const TIME_SETS: [TimeSets; 10] = [
+/// Minutes and hours.
+const TIME_SETS: [(u64, u32); 10] = [
     (1 << 0, 1 << 0),
     (1 << 59, 1 << 23),
     (1 << 30, 1 << 4),
@@ -179,7 +177,7 @@ pub fn with_times(
     }
 }
 
-/// A set by its lowest `width` bits: full, nearly full, nearly empty, sparse, or any.
+/// A set: full, nearly full, nearly empty, sparse, or any. Only its lowest `width` bits are meant.
 fn set(random: &mut Random, width: u64) -> u64 {
     let one = 1 << random.below(width);
     match random.below(6) {
