@@ -3,8 +3,8 @@
 use Prim.Native.Nat.{ℕ}
 use Rattle.calendar.specs.declared.Date.{Date}
 use Rattle.calendar.specs.Dates.{dateOf, minuteOf}
-use Rattle.eremothyn.specs.declared.Part.{Part}
-use Rattle.eremothyn.specs.declared.Part.the-variants.{Year, Month, Day, Hour, Minute, Weekday}
+use Rattle.eremothyn.specs.declared.dates.Part.{Part}
+use Rattle.eremothyn.specs.declared.dates.Part.the-variants.{Year, Month, Day, Hour, Minute, Weekday}
 use Rattle.eremothyn.specs.Answer.{answerOf}
 
 abbrev pub partIn : Date → Part → ℕ

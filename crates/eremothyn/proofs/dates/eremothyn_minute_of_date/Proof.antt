@@ -1,9 +1,9 @@
--- `eremothyn::eremothyn_minute_of_date` meets its contract, by what the calendar promises.
+-- `eremothyn::dates::eremothyn_minute_of_date` meets its contract, by what the calendar promises.
 -- Assumes nothing.
 use borrow.Author.Needs.{needs}
 use Rattle.eremothyn.specs.Dates.{dateMinute}
-use Rattle.eremothyn.proofs.eremothyn_minute_of_date.Statement.{statement}
-use Rattle.eremothyn.proofs.eremothyn_minute_of_date.Tie as tie
+use Rattle.eremothyn.proofs.dates.eremothyn_minute_of_date.Statement.{statement}
+use Rattle.eremothyn.proofs.dates.eremothyn_minute_of_date.Tie as tie
 
 minute-of-requires : tie.Need-minute-of-requires
 minute-of-requires c κs = search needs

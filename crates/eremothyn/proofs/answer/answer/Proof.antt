@@ -1,11 +1,11 @@
--- `eremothyn::answer` meets its contract: a refusal that isn't 0 is the successor of a number.
+-- `eremothyn::answer::answer` meets its contract: a refusal that isn't 0 is the successor of a number.
 -- Assumes nothing.
 use mathlib.Core.Path.{_≡_, refl}
 use Prim.Native.Nat.{ℕ, zero, suc, _+_}
 use borrow.Author.Needs.{needs}
 use Rattle.eremothyn.specs.Answer.{refused, answerOf}
-use Rattle.eremothyn.proofs.answer.Statement.{statement}
-use Rattle.eremothyn.proofs.answer.Tie as tie
+use Rattle.eremothyn.proofs.answer.answer.Statement.{statement}
+use Rattle.eremothyn.proofs.answer.answer.Tie as tie
 
 add-result : tie.Need-add-result
 add-result c = search needs

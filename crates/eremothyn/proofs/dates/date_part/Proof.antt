@@ -1,9 +1,9 @@
--- `eremothyn::date_part` meets its contract, by what the calendar promises.
+-- `eremothyn::dates::date_part` meets its contract, by what the calendar promises.
 -- Assumes nothing.
 use borrow.Author.Needs.{needs}
 use Rattle.eremothyn.specs.Dates.{datePart}
-use Rattle.eremothyn.proofs.date_part.Statement.{statement}
-use Rattle.eremothyn.proofs.date_part.Tie as tie
+use Rattle.eremothyn.proofs.dates.date_part.Statement.{statement}
+use Rattle.eremothyn.proofs.dates.date_part.Tie as tie
 
 date-of-requires : tie.Need-date-of-requires
 date-of-requires c κs = search needs

@@ -1,0 +1,91 @@
+// Minutes and dates.
+ghost use mathlib.Core.Path.{_≡_};
+ghost use Rattle.eremothyn.specs.Dates.{partIn, datePart, dateMinute};
+use crate::answer::answer;
+use calendar::Date;
+
+#[no_mangle]
+pub extern "C" fn eremothyn_minute_of_date(
+    year: u64,
+    month: u64,
+    day: u64,
+    hour: u64,
+    minute: u64,
+) -> u64
+    ensures { λ r. ⌜ r ≡ dateMinute year month day hour minute ⌝ }
+{
+    let found = calendar::minute_of(year, month, day, hour, minute);
+    answer(found.refusal, found.minute)
+}
+
+enum Part {
+    Year,
+    Month,
+    Day,
+    Hour,
+    Minute,
+    Weekday,
+}
+
+fn part_in(date: Date, part: Part) -> u64
+    ensures { λ r. ⌜ r ≡ partIn date part ⌝ }
+{
+    match part {
+        Part::Year => date.year,
+        Part::Month => date.month,
+        Part::Day => date.day,
+        Part::Hour => date.hour,
+        Part::Minute => date.minute,
+        Part::Weekday => date.weekday,
+    }
+}
+
+fn date_part(minute: u64, part: Part) -> u64
+    ensures { λ r. ⌜ r ≡ datePart minute part ⌝ }
+{
+    let found = calendar::date_of(minute);
+    let date = found.date;
+    answer(found.refusal, part_in(date, part))
+}
+
+#[no_mangle]
+pub extern "C" fn eremothyn_year(minute: u64) -> u64
+    ensures { λ r. ⌜ r ≡ datePart minute Part.Year ⌝ }
+{
+    date_part(minute, Part::Year)
+}
+
+#[no_mangle]
+pub extern "C" fn eremothyn_month(minute: u64) -> u64
+    ensures { λ r. ⌜ r ≡ datePart minute Part.Month ⌝ }
+{
+    date_part(minute, Part::Month)
+}
+
+#[no_mangle]
+pub extern "C" fn eremothyn_day(minute: u64) -> u64
+    ensures { λ r. ⌜ r ≡ datePart minute Part.Day ⌝ }
+{
+    date_part(minute, Part::Day)
+}
+
+#[no_mangle]
+pub extern "C" fn eremothyn_hour(minute: u64) -> u64
+    ensures { λ r. ⌜ r ≡ datePart minute Part.Hour ⌝ }
+{
+    date_part(minute, Part::Hour)
+}
+
+#[no_mangle]
+pub extern "C" fn eremothyn_minute_of_hour(minute: u64) -> u64
+    ensures { λ r. ⌜ r ≡ datePart minute Part.Minute ⌝ }
+{
+    date_part(minute, Part::Minute)
+}
+
+#[no_mangle]
+pub extern "C" fn eremothyn_weekday(minute: u64) -> u64
+    ensures { λ r. ⌜ r ≡ datePart minute Part.Weekday ⌝ }
+{
+    date_part(minute, Part::Weekday)
+}
