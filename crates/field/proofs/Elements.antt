@@ -1,0 +1,47 @@
+-- Laws of an element, one for each of its three forms: where its dash and its slash stand, and what stands between them.
+-- Assumes nothing.
+use mathlib.Core.Path.{_≡_}
+use mathlib.Core.List.{List}
+use Prim.Native.Nat.{ℕ, suc, _+_, _-_, _<_}
+use native.Mathlib.Numerals.{add-one}
+use native.Mathlib.Omega.{arith}
+use lib.ListN.{length, take, drop, length-drop}
+use lib.Seq.{take-all, drop-drop}
+use borrow.Author.Tests.{lt-ltb, le-ltb}
+use Rattle.field.specs.declared.number.Number.the-variants.{Value}
+use Rattle.field.specs.Parts.{until, has, before, after}
+use Rattle.field.specs.Numbers.{numberOf}
+use Rattle.field.specs.Elements.{ranging, afterDash, elementOf}
+
+module _ (s : List ℕ) (d : ℕ) (at-dash : d ≡ 0 + until 45 (drop 0 s)) where
+  place : until 45 s ≡ d
+  place = omega arith
+
+  pub element-number : d ≡ length s → elementOf s ≡ ranging (numberOf (take d s)) (numberOf (take d s)) (Value 1)
+  unfolding elementOf has
+  element-number e = rw (place, le-ltb d (length s) (omega arith), take-all d s (omega arith))
+
+  module _ (inside : d < length s) (e : ℕ) (at-slash : e ≡ d + 1 + until 47 (drop (d + 1) s)) where
+    rest-place : until 47 (drop (suc d) s) ≡ e - suc d
+    rest-place = rw (← add-one d) (omega arith)
+
+    rest-length : length (drop (suc d) s) ≡ length s - suc d
+    rest-length = length-drop (suc d) s
+
+    pub element-range : e ≡ length s → elementOf s ≡ ranging (numberOf (take d s)) (numberOf (take (e - (d + 1)) (drop (d + 1) s))) (Value 1)
+    unfolding elementOf afterDash has before after
+    element-range k =
+        rw
+        (place, lt-ltb d (length s) inside, rest-place, le-ltb (e - suc d) (length (drop (suc d) s)) (omega (arith, rest-length)), add-one d)
+        (rw (take-all (e - suc d) (drop (suc d) s) (omega (arith, rest-length))))
+
+    pub element-step : e < length s
+        → elementOf s
+        ≡ ranging (numberOf (take d s)) (numberOf (take (e - (d + 1)) (drop (d + 1) s))) (numberOf (take (length s - (e + 1)) (drop (e + 1) s)))
+    unfolding elementOf afterDash has before after
+    element-step k =
+        let t : suc d + suc (e - suc d) ≡ suc e = omega arith in
+        rw
+        (place, lt-ltb d (length s) inside, rest-place, lt-ltb (e - suc d) (length (drop (suc d) s)) (omega (arith, rest-length)), add-one d)
+        (rw
+        (drop-drop (suc (e - suc d)) (suc d) s, t, add-one e, take-all (length s - suc e) (drop (suc e) s) (omega (arith, length-drop (suc e) s))))

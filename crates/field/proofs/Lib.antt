@@ -1,0 +1,12 @@
+pub mod Bools
+pub mod Parts
+pub mod Numbers
+pub mod Elements
+pub mod Naming
+pub mod Steps
+pub mod Runs
+pub mod Lists
+pub mod Fields
+pub mod Accepted
+pub mod Members
+pub mod Theorems

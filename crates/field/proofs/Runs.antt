@@ -1,0 +1,49 @@
+-- A run of values with no gap, put into an empty set: its bits are a difference of two powers of two.
+-- Assumes nothing.
+use mathlib.Core.Path.{_≡_, sym, ap, _∙_}
+use Prim.Native.Nat.{ℕ, zero, suc, _+_, _-_, _*_, _%_, _^_, _≤_, _<_}
+use native.Mathlib.Nat.{add-zero, one-mul, div-one, sub-self, pow-succ', mod-eq-of-lt}
+use native.Mathlib.Numerals.{add-one}
+use native.Mathlib.Omega.{arith}
+use lib.Bits.{bitOr, or-shifted-r}
+use lib.Pow.{pow-pos, pow-mono, pow-lt}
+use borrow.Author.Tests.{lt-ltb}
+use Rattle.schedule.specs.Sets.{withBit}
+use Rattle.field.specs.declared.Names.{Names}
+use Rattle.field.specs.Values.{everyStep, valuesOf, bitOf, put, including}
+
+or-top : (v b : ℕ) → b < 2 ^ v → bitOr b (2 ^ v) ≡ 2 ^ v + b
+or-top v b h = ap (bitOr b) (sym (one-mul (2 ^ v))) ∙ or-shifted-r 1 v b h ∙ ap (λ (x : ℕ). x + b) (one-mul (2 ^ v))
+
+run-next : (low v : ℕ) → low ≤ v → v < 64 → put (2 ^ v - 2 ^ low) v ≡ 2 ^ (v + 1) - 2 ^ low
+unfolding put withBit
+run-next low v h k =
+    rw (lt-ltb v 64 k)
+    (or-top v (2 ^ v - 2 ^ low) (omega (arith, pow-pos low, pow-pos v))
+    ∙ omega (arith, pow-mono h, pow-succ' 2 v, ap (λ (x : ℕ). 2 ^ x) (add-one v)))
+
+-- no bit is shifted out of a word
+pub shifted-low : (low : ℕ) → low < 64 → 1 * 2 ^ low % 2 ^ 64 ≡ 2 ^ low
+shifted-low low h = ap (λ (x : ℕ). x % 2 ^ 64) (one-mul (2 ^ low)) ∙ mod-eq-of-lt (pow-lt h)
+
+pub shifted-high : (high : ℕ) → high < 63 → 2 * 2 ^ high % 2 ^ 64 ≡ 2 ^ (high + 1)
+shifted-high high h =
+    let k : suc high < 64 = omega arith in
+    ap (λ (x : ℕ). x % 2 ^ 64) (sym (pow-succ' 2 high)) ∙ mod-eq-of-lt (pow-lt k) ∙ ap (λ (x : ℕ). 2 ^ x) (sym (add-one high))
+
+module _ (names : Names) (own : (v : ℕ) → bitOf names v ≡ v) where
+  run-bits : (low v n : ℕ) → low ≤ v → v + n ≤ 64 → including names (2 ^ v - 2 ^ low) (everyStep v 1 n) ≡ 2 ^ (v + n) - 2 ^ low
+  unfolding including everyStep
+  run-bits low v zero h k = rw (add-zero v)
+  run-bits low v (suc n) h k =
+      let e : v + 1 + n ≡ v + suc n = omega arith in
+      let f : put (2 ^ v - 2 ^ low) (bitOf names v) ≡ 2 ^ (v + 1) - 2 ^ low = ap (put (2 ^ v - 2 ^ low)) (own v) ∙ run-next low v h (omega arith) in
+      ap (λ (x : ℕ). including names x (everyStep (v + 1) 1 n)) f
+      ∙ run-bits low (v + 1) n (omega arith) (omega arith)
+      ∙ ap (λ (x : ℕ). 2 ^ x - 2 ^ low) e
+
+  pub run-values : (low high : ℕ) → low ≤ high → high < 63 → including names 0 (valuesOf low high 1) ≡ 2 ^ (high + 1) - 2 ^ low
+  unfolding valuesOf
+  run-values low high h k =
+      let e : low + suc (high - low) ≡ high + 1 = omega arith in
+      rw (div-one (high - low), ← sub-self (2 ^ low)) (run-bits low low (suc (high - low)) (omega arith) (omega arith) ∙ rw e)

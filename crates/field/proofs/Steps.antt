@@ -1,0 +1,47 @@
+-- Laws of the values that an element keeps, as a loop goes through them.
+-- Assumes nothing.
+use mathlib.Core.Path.{_≡_, refl, ap, _∙_}
+use mathlib.Core.List.{List, [], _∷_}
+use Prim.Native.Nat.{ℕ, suc, _+_, _-_, _/_, _≤_, _<_}
+use native.Mathlib.Nat.{add-div-right, div-eq-of-lt}
+use native.Mathlib.Numerals.{add-one}
+use native.Mathlib.Omega.{arith}
+use borrow.Author.Tests.{ne-eqb}
+use Rattle.field.specs.declared.Names.{Names}
+use Rattle.field.specs.declared.Names.the-variants.{None, Months, Weekdays}
+use Rattle.field.specs.Values.{everyStep, valuesOf, bitOf}
+
+module _ (high step : ℕ) where
+  -- how many values are left from v on
+  left : ℕ → ℕ
+  left v = (high + step - v) / step
+
+  pub remaining : ℕ → List ℕ
+  remaining v = everyStep v step (left v)
+
+  left-more : (v : ℕ) → 0 < step → v ≤ high → left v ≡ suc ((high - v) / step)
+  unfolding left
+  left-more v p h =
+      let e : high + step - v ≡ high - v + step = omega arith in
+      ap (λ (n : ℕ). n / step) e ∙ add-div-right (high - v) p ∙ add-one _
+
+  pub remaining-first : (low : ℕ) → 0 < step → low ≤ high → remaining low ≡ valuesOf low high step
+  unfolding remaining valuesOf
+  remaining-first low p h = rw (left-more low p h)
+
+  pub remaining-next : (v : ℕ) → 0 < step → v ≤ high → remaining v ≡ v ∷ remaining (v + step)
+  unfolding remaining everyStep left
+  remaining-next v p h =
+      let e : high + step - (v + step) ≡ high - v = omega arith in
+      rw (left-more v p h, e)
+
+  pub remaining-end : (v : ℕ) → 0 < step → high < v → remaining v ≡ []
+  unfolding remaining everyStep left
+  remaining-end v p h = rw (div-eq-of-lt {n = high + step - v} {m = step} (omega arith))
+
+-- every value but 7 has its own bit
+pub bit-other : (names : Names) (v : ℕ) → (v ≡ 7 → ⊥) → v ≡ bitOf names v
+unfolding bitOf
+bit-other None v h = refl
+bit-other Months v h = refl
+bit-other Weekdays v h = rw (ne-eqb v 7 h)

@@ -1,0 +1,107 @@
+-- `field::list::read` meets its contract: what is left of the list, with the answer so far, always gives the same (`reading`).
+-- Assumes nothing.
+use mathlib.Core.Path.{_≡_, sym, _∙_}
+use Prim.Native.Nat.{_-_, _≤_}
+use native.Mathlib.Omega.{arith}
+use borrow.Author.Needs.{needs}
+use lib.ListN.{length}
+use Rattle.field.specs.Fields.{listField}
+use Rattle.field.proofs.Lists.{reading, reading-starts, reading-other, reading-last, reading-next}
+use Rattle.field.proofs.list.read.Statement.{statement}
+use Rattle.field.proofs.list.read.Tie as tie
+
+abbrev Inv-loop : tie.InvT-loop
+Inv-loop s column limits start answer₀ at₀ answer at = (reading limits column s at answer ≡ listField limits column s) × (at ≤ length s)
+
+abbrev μ-loop : tie.MeasureT-loop
+μ-loop s column limits start answer₀ at₀ answer at = length s - at
+
+loop-holds : tie.Need-loop-holds Inv-loop μ-loop
+loop-holds c = (reading-starts _ _ _, omega arith)
+
+find-requires : tie.Need-find-requires Inv-loop μ-loop
+find-requires c κs = search needs
+
+sub-read : tie.Need-sub-read Inv-loop μ-loop
+sub-read c = omega arith
+
+part-read-start : tie.Need-part-read-start Inv-loop μ-loop
+part-read-start c = omega arith
+
+part-read-end : tie.Need-part-read-end Inv-loop μ-loop
+part-read-end c = omega arith
+
+read-requires : tie.Need-read-requires Inv-loop μ-loop
+read-requires c κs = tt
+
+is-element-requires : tie.Need-is-element-requires Inv-loop μ-loop
+is-element-requires c κs = tt
+
+add-judge : tie.Need-add-judge Inv-loop μ-loop
+add-judge c = omega arith
+
+judge-requires : tie.Need-judge-requires Inv-loop μ-loop
+judge-requires c κs = tt
+
+name-alone-requires : tie.Need-name-alone-requires Inv-loop μ-loop
+name-alone-requires c κs = tt
+
+judge-requires-2 : tie.Need-judge-requires-2 Inv-loop μ-loop
+judge-requires-2 c κs = tt
+
+returns : tie.Need-returns Inv-loop μ-loop
+returns c =
+    let e = c .before .before .before in
+    let f = e .before .before .before in
+    c .judge2 .ensures
+    ∙ rw (c .before .name-alone .ensures)
+    (sym (reading-other _ _ _ _ _ _ (f .find .ensures .0) (rw (e .before .read .ensures) at (sym (e .is-element .ensures) ∙ c .before .before .if1 .left)))
+    ∙ f .before .loop .inv .0)
+
+returns-2 : tie.Need-returns-2 Inv-loop μ-loop
+returns-2 c =
+    let e = c .before .before .before in
+    let f = e .before .before .before in
+    c .before .judge .ensures
+    ∙ rw (e .before .read .ensures)
+    (sym (reading-last _ _ _ _ _ _ (f .find .ensures .0) (rw (e .before .read .ensures) at (sym (e .is-element .ensures) ∙ c .before .before .if1 .taken)) (c .if2 .taken))
+    ∙ f .before .loop .inv .0)
+
+add-at : tie.Need-add-at Inv-loop μ-loop
+add-at c = omega arith
+
+loop-less : tie.Need-loop-less Inv-loop μ-loop
+loop-less c = omega arith
+
+loop-again : tie.Need-loop-again Inv-loop μ-loop
+loop-again c =
+    let e = c .before .before .before in
+    let f = e .before .before .before in (
+      rw (c .before .judge .ensures, e .before .read .ensures)
+          (sym (reading-next _ _ _ _ _ _ (f .find .ensures .0) (rw (e .before .read .ensures) at (sym (e .is-element .ensures) ∙ c .before .before .if1 .taken)) (omega arith))
+          ∙ f .before .loop .inv .0),
+      omega arith,
+    )
+
+pub read-spec : {M : Type 1} → statement M
+read-spec =
+    tie.close
+    (tie.spec
+    Inv-loop
+    μ-loop
+    loop-holds
+    find-requires
+    sub-read
+    part-read-start
+    part-read-end
+    read-requires
+    is-element-requires
+    add-judge
+    judge-requires
+    name-alone-requires
+    judge-requires-2
+    returns
+    returns-2
+    add-at
+    loop-less
+    loop-again)

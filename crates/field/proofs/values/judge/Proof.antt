@@ -1,0 +1,86 @@
+-- `field::values::judge` meets its contract: each return is a case of the definition.
+-- Assumes nothing.
+use borrow.Author.Needs.{needs}
+use borrow.Author.Tests.{lt-ltb, le-ltb, ne-eqb}
+use Rattle.field.specs.Judgement.{judged}
+use Rattle.field.proofs.values.judge.Statement.{statement}
+use Rattle.field.proofs.values.judge.Tie as tie
+
+enum-known-answer : tie.Need-enum-known-answer
+enum-known-answer c = search needs
+
+enum-told : tie.Need-enum-told
+enum-told c = search needs
+
+returns : tie.Need-returns
+unfolding judged
+returns c = rw (c .enum-told .given .1)
+
+enum-known-element : tie.Need-enum-known-element
+enum-known-element c = search needs
+
+enum-told-2 : tie.Need-enum-told-2
+enum-told-2 c = search needs
+
+returns-2 : tie.Need-returns-2
+unfolding judged
+returns-2 c = rw (c .before .before .before .answer .given .1, c .enum-told2 .given .1)
+
+is-outside-requires : tie.Need-is-outside-requires
+is-outside-requires c κs = tt
+
+is-outside-requires-2 : tie.Need-is-outside-requires-2
+is-outside-requires-2 c κs = tt
+
+returns-3 : tie.Need-returns-3
+unfolding judged
+returns-3 c =
+    let t = c .before .before in
+    let e = t .before .before in
+    rw (e .before .before .before .answer .given .1, e .element .given .1, ← (t .is-outside .ensures), ← (c .before .is-outside2 .ensures))
+    (rw (c .if1 .taken))
+
+returns-4 : tie.Need-returns-4
+unfolding judged
+returns-4 c =
+    let t = c .before .before .before in
+    let e = t .before .before in
+    rw (e .before .before .before .answer .given .1, e .element .given .1, ← (t .is-outside .ensures), ← (c .before .before .is-outside2 .ensures))
+    (rw (c .before .if1 .left, lt-ltb _ _ (c .if2 .taken)))
+
+returns-5 : tie.Need-returns-5
+unfolding judged
+returns-5 c =
+    let t = c .before .before .before .before in
+    let e = t .before .before in
+    rw (e .before .before .before .answer .given .1, e .element .given .1, ← (t .is-outside .ensures), ← (c .before .before .before .is-outside2 .ensures))
+    (rw (c .before .before .if1 .left, le-ltb _ _ (c .before .if2 .left), c .if3 .taken))
+
+with-values-requires : tie.Need-with-values-requires
+with-values-requires c κs = search needs
+
+returns-6 : tie.Need-returns-6
+unfolding judged
+returns-6 c =
+    let t = c .before .before .before .before .before in
+    let e = t .before .before in
+    rw (e .before .before .before .answer .given .1, e .element .given .1, ← (t .is-outside .ensures), ← (c .before .before .before .before .is-outside2 .ensures))
+    (rw (c .before .before .before .if1 .left, le-ltb _ _ (c .before .before .if2 .left), ne-eqb _ _ (c .before .if3 .left), c .with-values .ensures))
+
+pub judge-spec : {M : Type 1} → statement M
+judge-spec =
+    tie.close
+    (tie.spec
+    enum-known-answer
+    enum-told
+    returns
+    enum-known-element
+    enum-told-2
+    returns-2
+    is-outside-requires
+    is-outside-requires-2
+    returns-3
+    returns-4
+    returns-5
+    with-values-requires
+    returns-6)

@@ -1,0 +1,56 @@
+-- `field::values::with_range` meets its contract: the set with the values that remain is always the whole set.
+-- Assumes nothing.
+use mathlib.Core.Path.{_≡_}
+use Prim.Native.Nat.{_+_, _-_}
+use native.Mathlib.Omega.{arith}
+use Rattle.field.specs.Values.{valuesOf, including, put}
+use Rattle.field.proofs.Steps.{remaining, remaining-first, remaining-next, remaining-end}
+use Rattle.field.proofs.values.with_range.Statement.{statement}
+use Rattle.field.proofs.values.with_range.Tie as tie
+
+abbrev Inv-loop : tie.InvT-loop
+Inv-loop set names low high step last by set₀ value₀ set' value =
+    including names set' (remaining high step value) ≡ including names set (valuesOf low high step)
+
+abbrev μ-loop : tie.MeasureT-loop
+μ-loop set names low high step last by set₀ value₀ set' value = high + step - value
+
+loop-holds : tie.Need-loop-holds Inv-loop μ-loop
+loop-holds c = rw (remaining-first _ _ _ (c .pre .1) (c .pre .0))
+
+bit-of-requires : tie.Need-bit-of-requires Inv-loop μ-loop
+bit-of-requires c κs = tt
+
+with-requires : tie.Need-with-requires Inv-loop μ-loop
+with-requires c κs = tt
+
+add-value : tie.Need-add-value Inv-loop μ-loop
+add-value c = omega arith
+
+loop-less : tie.Need-loop-less Inv-loop μ-loop
+loop-less c = omega arith
+
+loop-again : tie.Need-loop-again Inv-loop μ-loop
+unfolding including put
+loop-again c =
+    rw (c .with .ensures, c .before .bit-of .ensures)
+    (rw (remaining-next _ _ _ (c .before .before .before .before .pre .1) (c .before .before .loop-test .taken)) at (c .before .before .before .loop .inv))
+
+returns : tie.Need-returns Inv-loop μ-loop
+unfolding including
+returns c =
+    rw (remaining-end _ _ _ (c .before .before .pre .1) (c .loop-test .left)) at (c .before .loop .inv)
+
+pub with-range-spec : {M : Type 1} → statement M
+with-range-spec =
+    tie.close
+    (tie.spec
+    Inv-loop
+    μ-loop
+    loop-holds
+    bit-of-requires
+    with-requires
+    add-value
+    loop-less
+    loop-again
+    returns)

@@ -1,0 +1,56 @@
+-- The examples of paper 01, and some beside them, computed from the definitions. A field's bytes stand in ASCII: `*` is 42, `,` 44, `-` 45, `/` 47, `0` 48.
+-- Assumes nothing.
+use Prim.Native.Nat.{ℕ}
+use mathlib.Core.Path.{_≡_, refl}
+use mathlib.Core.Bool.{true, false}
+use mathlib.Core.List.{List, [], _∷_}
+use Rattle.field.specs.declared.Limits.{Limits}
+use Rattle.field.specs.declared.Answer.{Answer}
+use Rattle.field.specs.declared.Answer.the-variants.{Values, Refused}
+use Rattle.schedule.specs.Sets.{withBit}
+use Rattle.field.specs.Parts.{until, has, before, after, afterEach, split}
+use Rattle.field.specs.Numbers.{isDigit, areDigits, valueFrom, numberOf}
+use Rattle.field.specs.Elements.{isElement, ranging, afterDash, elementOf}
+use Rattle.field.specs.Names.{lower, alike, monthNames, weekdayNames, named, nameOf}
+use Rattle.field.specs.Values.{everyStep, valuesOf, bitOf, put, including}
+use Rattle.field.specs.Limits.{minuteLimits, hourLimits, monthLimits, weekdayLimits}
+use Rattle.field.specs.Judgement.{outside, judged}
+use Rattle.field.specs.Fields.{areElements, judgedAll, nameElement, listField, starElement, isEmpty, starField, readField}
+
+-- the field of a line's first column
+read : Limits → List ℕ → Answer
+read l s = readField l 1 s
+
+examples :
+    -- `*/2` as month: 1, 3, 5, 7, 9, 11
+    (read monthLimits (42 ∷ 47 ∷ 50 ∷ []) ≡ Values 2730 false)
+    -- `5-7` as weekday: Friday, Saturday, Sunday
+    × (read weekdayLimits (53 ∷ 45 ∷ 55 ∷ []) ≡ Values 97 false)
+    -- `*/7` as weekday: 0 and 7, both Sunday
+    × (read weekdayLimits (42 ∷ 47 ∷ 55 ∷ []) ≡ Values 1 false)
+    -- `*` as weekday: each of the seven, and a star
+    × (read weekdayLimits (42 ∷ []) ≡ Values 127 true)
+    -- `10-10` is 10
+    × (read minuteLimits (49 ∷ 48 ∷ 45 ∷ 49 ∷ 48 ∷ []) ≡ Values 1024 false)
+    -- `10-9` is refused with 7
+    × (read minuteLimits (49 ∷ 48 ∷ 45 ∷ 57 ∷ []) ≡ Refused 7 1)
+    -- `5/2` is refused with 5
+    × (read minuteLimits (53 ∷ 47 ∷ 50 ∷ []) ≡ Refused 5 1)
+    -- `*,5` is refused with 5
+    × (read minuteLimits (42 ∷ 44 ∷ 53 ∷ []) ≡ Refused 5 1)
+    -- `60` as minute is refused with 6
+    × (read minuteLimits (54 ∷ 48 ∷ []) ≡ Refused 6 1)
+    -- `*/0` is refused with 8
+    × (read minuteLimits (42 ∷ 47 ∷ 48 ∷ []) ≡ Refused 8 1)
+    -- `Mon` as weekday is Monday
+    × (read weekdayLimits (77 ∷ 111 ∷ 110 ∷ []) ≡ Values 2 false)
+    -- `mon-fri` is refused with 5
+    × (read weekdayLimits (109 ∷ 111 ∷ 110 ∷ 45 ∷ 102 ∷ 114 ∷ 105 ∷ []) ≡ Refused 5 1)
+    -- `0000` is 0, `00000` is no number
+    × (read hourLimits (48 ∷ 48 ∷ 48 ∷ 48 ∷ []) ≡ Values 1 false)
+    × (read hourLimits (48 ∷ 48 ∷ 48 ∷ 48 ∷ 48 ∷ []) ≡ Refused 5 1)
+    -- the second element of `1,70` is refused at its own first byte, and only where the whole field is of the form
+    × (read minuteLimits (49 ∷ 44 ∷ 55 ∷ 48 ∷ []) ≡ Refused 6 3)
+    × (read minuteLimits (49 ∷ 44 ∷ 55 ∷ 48 ∷ 44 ∷ []) ≡ Refused 5 1)
+unfolding read readField judged judgedAll areElements listField starField nameElement starElement isEmpty isElement ranging elementOf afterDash split afterEach until has before after numberOf areDigits isDigit valueFrom nameOf named alike lower monthNames weekdayNames outside including put bitOf valuesOf everyStep withBit
+examples = (refl, refl, refl, refl, refl, refl, refl, refl, refl, refl, refl, refl, refl, refl, refl, refl)

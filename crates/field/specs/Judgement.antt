@@ -1,0 +1,43 @@
+-- Paper 01, "What comes back": an element of a field against the field's limits. In an element 6 comes before 7 and 7 before 8,
+-- all at the element's first byte, and the first refusal from the left stands.
+-- Assumes nothing.
+use Prim.Native.Nat.{ℕ}
+use mathlib.Core.Bool.{Bool, cond, _||_}
+use lib.Dec.{ltb, eqb}
+use Rattle.field.specs.declared.Limits.{Limits}
+use Rattle.field.specs.declared.Answer.{Answer}
+use Rattle.field.specs.declared.Answer.the-variants.{Values, Refused}
+use Rattle.field.specs.declared.element.Element.{Element}
+use Rattle.field.specs.declared.element.Element.the-variants.{Range, Malformed}
+use Rattle.field.specs.Values.{valuesOf, including}
+
+-- not of the form
+abbrev pub malformed : ℕ
+malformed = 5
+
+-- a number outside the field's limits
+abbrev pub outOfLimits : ℕ
+outOfLimits = 6
+
+-- a range from high to low
+abbrev pub reversed : ℕ
+reversed = 7
+
+abbrev pub stepZero : ℕ
+stepZero = 8
+
+unfoldable pub outside : Limits → ℕ → Bool
+outside l n = ltb n (l .first) || ltb (l .last) n
+
+-- the answer so far, and with one element more, whose first byte stands at the column
+unfoldable pub judged : Limits → ℕ → Answer → Element → Answer
+judged l column (Refused number at) e = Refused number at
+judged l column (Values set star) Malformed = Refused malformed column
+judged l column (Values set star) (Range low high step) =
+    cond (outside l low || outside l high)
+    (Refused outOfLimits column)
+    (cond (ltb high low)
+    (Refused reversed column)
+    (cond (eqb step 0)
+    (Refused stepZero column)
+    (Values (including (l .names) set (valuesOf low high step)) star)))

@@ -1,0 +1,10 @@
+pub mod Parts
+pub mod Numbers
+pub mod Elements
+pub mod Names
+pub mod Values
+pub mod Limits
+pub mod Judgement
+pub mod Fields
+pub mod Members
+pub mod Examples

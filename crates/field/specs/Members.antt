@@ -1,0 +1,45 @@
+-- What a field's set has, in other words than those that build it: the values of the field's elements, each of them in the
+-- element's range and a multiple of its step after the first. The laws that say so are in `proofs.Members`.
+-- Assumes nothing.
+use Prim.Native.Nat.{ℕ, _-_, _%_}
+use mathlib.Core.Bool.{Bool, false, cond, _&&_, _||_}
+use mathlib.Core.List.{List, [], _∷_, _++_, map}
+use lib.Dec.{leb, eqb}
+use Rattle.field.specs.declared.Names.{Names}
+use Rattle.field.specs.declared.Limits.{Limits}
+use Rattle.field.specs.declared.element.Element.{Element}
+use Rattle.field.specs.declared.element.Element.the-variants.{Range, Malformed}
+use Rattle.field.specs.Parts.{split}
+use Rattle.field.specs.Elements.{elementOf}
+use Rattle.field.specs.Values.{valuesOf, bitOf}
+use Rattle.field.specs.Fields.{comma, asterisk, areElements, nameElement, starElement, isEmpty}
+
+unfoldable pub isIn : ℕ → List ℕ → Bool
+isIn n [] = false
+isIn n (v ∷ vs) = eqb v n || isIn n vs
+
+-- in the range, and a multiple of the step after its first value
+unfoldable pub contains : ℕ → ℕ → ℕ → ℕ → Bool
+contains low high step v = leb low v && (leb v high && eqb ((v - low) % step) 0)
+
+-- exactly `*`
+unfoldable pub isStar : List ℕ → Bool
+isStar [] = false
+isStar (b ∷ s) = eqb b asterisk && isEmpty s
+
+-- the elements of a field, whatever its form
+unfoldable pub elementsOf : Limits → List ℕ → List Element
+elementsOf l [] = []
+elementsOf l (b ∷ s) =
+    cond (eqb b asterisk)
+    (starElement l s ∷ [])
+    (cond (areElements (split comma (b ∷ s))) (map elementOf (split comma (b ∷ s))) (nameElement l (b ∷ s) ∷ []))
+
+-- the bits of all the values of elements
+unfoldable pub elementBits : Names → Element → List ℕ
+elementBits names (Range low high step) = map (bitOf names) (valuesOf low high step)
+elementBits names Malformed = []
+
+unfoldable pub bitsOf : Names → List Element → List ℕ
+bitsOf names [] = []
+bitsOf names (e ∷ es) = elementBits names e ++ bitsOf names es

@@ -1,0 +1,60 @@
+-- Paper 01: "one three-letter English name, any letter case", in the month and weekday fields only.
+-- Assumes nothing.
+use Prim.Native.Nat.{ℕ, suc, _+_}
+use mathlib.Core.Bool.{Bool, true, false, cond, _&&_}
+use mathlib.Core.List.{List, [], _∷_}
+use lib.Dec.{leb, eqb}
+use Rattle.field.specs.declared.Names.{Names}
+use Rattle.field.specs.declared.Names.the-variants.{None, Months, Weekdays}
+use Rattle.field.specs.declared.number.Number.{Number}
+use Rattle.field.specs.declared.number.Number.the-variants.{Value, Malformed}
+
+-- a letter in lower case; any other byte as it is
+unfoldable pub lower : ℕ → ℕ
+lower b = cond (leb 65 b && leb b 90) (b + 32) b
+
+-- the bytes of a name, in any letter case
+unfoldable pub alike : List ℕ → List ℕ → Bool
+alike [] [] = true
+alike (b ∷ s) (x ∷ name) = eqb (lower b) x && alike s name
+alike [] (x ∷ name) = false
+alike (b ∷ s) [] = false
+
+-- jan, feb, mar, apr, may, jun, jul, aug, sep, oct, nov, dec
+unfoldable pub monthNames : List (List ℕ)
+monthNames =
+    (106 ∷ 97 ∷ 110 ∷ [])
+    ∷ (102 ∷ 101 ∷ 98 ∷ [])
+    ∷ (109 ∷ 97 ∷ 114 ∷ [])
+    ∷ (97 ∷ 112 ∷ 114 ∷ [])
+    ∷ (109 ∷ 97 ∷ 121 ∷ [])
+    ∷ (106 ∷ 117 ∷ 110 ∷ [])
+    ∷ (106 ∷ 117 ∷ 108 ∷ [])
+    ∷ (97 ∷ 117 ∷ 103 ∷ [])
+    ∷ (115 ∷ 101 ∷ 112 ∷ [])
+    ∷ (111 ∷ 99 ∷ 116 ∷ [])
+    ∷ (110 ∷ 111 ∷ 118 ∷ [])
+    ∷ (100 ∷ 101 ∷ 99 ∷ [])
+    ∷ []
+
+-- sun, mon, tue, wed, thu, fri, sat
+unfoldable pub weekdayNames : List (List ℕ)
+weekdayNames =
+    (115 ∷ 117 ∷ 110 ∷ [])
+    ∷ (109 ∷ 111 ∷ 110 ∷ [])
+    ∷ (116 ∷ 117 ∷ 101 ∷ [])
+    ∷ (119 ∷ 101 ∷ 100 ∷ [])
+    ∷ (116 ∷ 104 ∷ 117 ∷ [])
+    ∷ (102 ∷ 114 ∷ 105 ∷ [])
+    ∷ (115 ∷ 97 ∷ 116 ∷ [])
+    ∷ []
+
+-- the number of a name in a row of names, of which the first has the number n
+unfoldable pub named : ℕ → List (List ℕ) → List ℕ → Number
+named n [] s = Malformed
+named n (name ∷ names) s = let later = named (suc n) names s in cond (alike s name) (Value n) later
+
+unfoldable pub nameOf : Names → List ℕ → Number
+nameOf None s = Malformed
+nameOf Months s = named 1 monthNames s
+nameOf Weekdays s = named 0 weekdayNames s

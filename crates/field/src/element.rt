@@ -1,0 +1,59 @@
+// One element of a comma list: `n`, `n-m` or `n-m/step`.
+ghost use mathlib.Core.Path.{_≡_};
+ghost use Rattle.field.specs.Elements.{isElement, ranging, elementOf};
+use crate::number;
+use crate::number::Number;
+use crate::part::find;
+
+// The values from low to high, of which every step-th counts, or bytes that are no element.
+pub(crate) enum Element {
+    Range { low: u16, high: u16, step: u16 },
+    Malformed,
+}
+
+// Whether bytes were read as an element.
+pub(crate) fn is_element(e: Element) -> bool
+    ensures { λ r. ⌜ r ≡ isElement e ⌝ }
+{
+    match e {
+        Element::Range {
+            low: _,
+            high: _,
+            step: _,
+        } => true,
+        Element::Malformed => false,
+    }
+}
+
+// The range of three numbers, if all three are.
+pub(crate) fn range(low: Number, high: Number, step: Number) -> Element
+    ensures { λ r. ⌜ r ≡ ranging low high step ⌝ }
+{
+    let Number::Value(low) = low else {
+        return Element::Malformed;
+    };
+    let Number::Value(high) = high else {
+        return Element::Malformed;
+    };
+    let Number::Value(step) = step else {
+        return Element::Malformed;
+    };
+    Element::Range { low, high, step }
+}
+
+// A dash parts n from what follows, and there a slash parts m from the step; with no step it is 1.
+pub(crate) fn read(s: &[u8]) -> Element
+    ensures { λ r. ⌜ r ≡ elementOf (now (s .entry)) ⌝ }
+{
+    let dash = find(s, 0, b'-');
+    let low = number::read(&s[..dash]);
+    if dash == s.len() {
+        return range(low, low, Number::Value(1));
+    }
+    let slash = find(s, dash + 1, b'/');
+    let high = number::read(&s[dash + 1..slash]);
+    if slash == s.len() {
+        return range(low, high, Number::Value(1));
+    }
+    range(low, high, number::read(&s[slash + 1..]))
+}

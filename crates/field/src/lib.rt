@@ -1,0 +1,112 @@
+// One time field of a crontab line (paper 01, "Fields"): from its bytes to the set of its values, or the refusal with its column.
+mod element;
+mod list;
+mod name;
+mod number;
+mod part;
+mod values;
+
+ghost use mathlib.Core.Path.{_≡_};
+ghost use Rattle.field.specs.Fields.{starElement, readField};
+use element::Element;
+use number::Number;
+
+// The refusals, by their numbers in paper 01.
+pub const MALFORMED: u8 = 5;
+
+pub const OUT_OF_LIMITS: u8 = 6;
+
+pub const REVERSED: u8 = 7;
+
+pub const STEP_ZERO: u8 = 8;
+
+// Which names a field may be, instead of numbers.
+pub enum Names {
+    None,
+    Months,
+    Weekdays,
+}
+
+// What a field's numbers may be, first to last. As a weekday, 7 is Sunday as 0 is.
+pub struct Limits {
+    pub first: u8,
+    pub last: u8,
+    pub names: Names,
+}
+
+// What a field means.
+pub enum Answer {
+    // Bit n of the set stands for the value n; `star` says whether the field is exactly `*`.
+    Values { set: u64, star: bool },
+    Refused { number: u8, column: u64 },
+}
+
+// The five fields.
+pub const MINUTE: Limits = Limits {
+    first: 0,
+    last: 59,
+    names: Names::None,
+};
+
+pub const HOUR: Limits = Limits {
+    first: 0,
+    last: 23,
+    names: Names::None,
+};
+
+pub const DAY: Limits = Limits {
+    first: 1,
+    last: 31,
+    names: Names::None,
+};
+
+pub const MONTH: Limits = Limits {
+    first: 1,
+    last: 12,
+    names: Names::Months,
+};
+
+pub const WEEKDAY: Limits = Limits {
+    first: 0,
+    last: 7,
+    names: Names::Weekdays,
+};
+
+// A field that starts with an asterisk, by what follows it: nothing, or a slash and a step.
+fn after_star(s: &[u8], limits: Limits) -> Element
+    ensures { λ r. ⌜ r ≡ starElement limits (now (s .entry)) ⌝ }
+{
+    let first = limits.first as u16;
+    let last = limits.last as u16;
+    if s.len() == 0 {
+        return Element::Range {
+            low: first,
+            high: last,
+            step: 1,
+        };
+    }
+    if s[0] == b'/' {
+        let step = number::read(&s[1..]);
+        return element::range(Number::Value(first), Number::Value(last), step);
+    }
+    Element::Malformed
+}
+
+// Any bytes as a field whose first byte stands at the column.
+pub fn read(s: &[u8], column: u32, limits: Limits) -> Answer
+    ensures { λ r. ⌜ r ≡ readField limits column (now (s .entry)) ⌝ }
+{
+    let column = column as u64;
+    if s.len() == 0 {
+        return Answer::Refused {
+            number: MALFORMED,
+            column,
+        };
+    }
+    if s[0] == b'*' {
+        let star = s.len() == 1;
+        let element = after_star(&s[1..], limits);
+        return values::judge(limits, column, Answer::Values { set: 0, star }, element);
+    }
+    list::read(s, column, limits)
+}
