@@ -1,0 +1,5 @@
+pub mod Sentences
+pub mod Ahead
+pub mod Sizes
+pub mod Filling
+pub mod Buffers
