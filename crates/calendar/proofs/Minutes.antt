@@ -6,8 +6,9 @@ use mathlib.Core.List.{List, [], _∷_}
 use Prim.Native.Nat.{ℕ, _+_, _-_, _*_, _/_, _%_, _≤_, _<_}
 use native.Mathlib.Omega.{arith}
 use lib.ListN.{getD}
+use borrow.Author.Tests.{le-leb}
 use Rattle.calendar.specs.Gregorian.{yearDays, monthDays}
-use Rattle.calendar.specs.Dates.{calendarDays, lastMinute, weekdayOf, yearOf, monthOf, dateAt, daysBefore, minuteAt}
+use Rattle.calendar.specs.Dates.{calendarDays, lastMinute, weekdayOf, yearOf, monthOf, dateAt, dateOf, daysBefore, minuteAt}
 use Rattle.calendar.specs.Order.{parts, Earlier}
 use Rattle.calendar.proofs.Spans.{Falls, falls-walk, falls-order}
 use Rattle.calendar.proofs.Dates.{OnCalendar, year-falls, month-falls, date-in-month, date-in-year, daysBefore-small}
@@ -47,6 +48,11 @@ pub minuteAt-dateAt : (m : ℕ) → m ≤ lastMinute
     → let d = dateAt m in minuteAt (d .year) (d .month) (d .day) (d .hour) (d .minute) ≡ m
 unfolding minuteAt dateAt
 minuteAt-dateAt m h = omega (arith, daysBefore-dateAt m h, time-of-day m)
+
+-- the date of a minute of the calendar is no refusal
+pub dateOf-on : (m : ℕ) → m ≤ lastMinute → dateOf m ≡ record { refusal = 0; date = dateAt m }
+unfolding dateOf
+dateOf-on m h = rw (le-leb m lastMinute h)
 
 -- ---- from a date to its minute
 

@@ -1,4 +1,4 @@
--- What holds of the calendar's definitions. Each theorem is stated by itself; nothing in the functions' contracts leans on them.
+-- What holds of the calendar's definitions. Each theorem is stated by itself; the functions' contracts don't cite them.
 -- Assumes nothing.
 use mathlib.Core.Path.{_≡_, refl, subst}
 use mathlib.Core.Bool.{Bool, true, false, cond, _&&_}
@@ -12,7 +12,7 @@ use lib.Dec.{leb}
 use lib.ListN.{getD}
 use borrow.Author.Tests.{le-leb}
 use Rattle.calendar.specs.declared.MinuteAnswer.{MinuteAnswer}
-use Rattle.calendar.specs.Dates.{firstYear, lastYear, lastMinute, cycleMinutes, weekdayOf, yearOf, monthOf, dateAt, dateOf, exists, minuteAt, minuteOf}
+use Rattle.calendar.specs.Dates.{firstYear, lastYear, lastMinute, cycleMinutes, weekdayOf, yearOf, monthOf, dateAt, exists, minuteAt, minuteOf}
 use Rattle.calendar.specs.Order.{parts, Earlier}
 use Rattle.calendar.proofs.Years.{years-shift, months-shift}
 use Rattle.calendar.proofs.Minutes.{dateAt-on, minuteAt-dateAt, minuteAt-on, parts-minuteAt, later-day, weekday-cycle}
@@ -26,24 +26,19 @@ pub minute-date-minute : (m : ℕ) → m ≤ lastMinute
 unfolding minuteOf
 minute-date-minute m h = rw (calendar-on (dateAt-on m h), minuteAt-dateAt m h)
 
--- the date of a minute of the calendar is no refusal
-pub dateOf-on : (m : ℕ) → m ≤ lastMinute → dateOf m ≡ record { refusal = 0; date = dateAt m }
-unfolding dateOf
-dateOf-on m h = rw (le-leb m lastMinute h)
-
 -- ---- from a date to its minute and back
 
--- date to minute to date
+-- date to minute to date: an accepted date has a minute of the calendar, whose date it is
 pub date-minute-date : (year month day hour minute : ℕ)
     → let a = minuteOf year month day hour minute in
-    a .refusal ≡ 0 → parts (dateAt (a .minute)) ≡ year ∷ month ∷ day ∷ hour ∷ minute ∷ []
+    a .refusal ≡ 0 → (a .minute ≤ lastMinute) × (parts (dateAt (a .minute)) ≡ year ∷ month ∷ day ∷ hour ∷ minute ∷ [])
 unfolding minuteOf
 date-minute-date year month day hour minute = go (exists year month day hour minute && leb 1970 year && leb year 9999) refl
   where
     go : (b : Bool) → (exists year month day hour minute && leb 1970 year && leb year 9999) ≡ b
         → let a : MinuteAnswer = cond b (record { refusal = 0; minute = minuteAt year month day hour minute }) (record { refusal = 14; minute = 0 }) in
-        a .refusal ≡ 0 → parts (dateAt (a .minute)) ≡ year ∷ month ∷ day ∷ hour ∷ minute ∷ []
-    go true e z = parts-minuteAt (on-calendar e)
+        a .refusal ≡ 0 → (a .minute ≤ lastMinute) × (parts (dateAt (a .minute)) ≡ year ∷ month ∷ day ∷ hour ∷ minute ∷ [])
+    go true e z = (minuteAt-on (on-calendar e), parts-minuteAt (on-calendar e))
     go false e z = absurd (omega arith)
 
 -- A date has a minute exactly where it exists and its year is 1970 to 9999: some minute of the calendar has that date.
@@ -66,6 +61,21 @@ has-minute year month day hour minute = (only, all)
     all (e, a, b) =
         let o = on-calendar {year = year} {month = month} {day = day} {hour = hour} {minute = minute} (rw (e, le-leb _ _ a, le-leb _ _ b)) in
         (minuteAt year month day hour minute, minuteAt-on o, parts-minuteAt o)
+
+-- a date is accepted exactly where it exists and its year is 1970 to 9999
+pub accepted : (year month day hour minute : ℕ)
+    → (minuteOf year month day hour minute .refusal ≡ 0)
+    ↔ ((exists year month day hour minute ≡ true) × (firstYear ≤ year) × (year ≤ lastYear))
+unfolding minuteOf
+accepted year month day hour minute = (only, all)
+  where
+    only : minuteOf year month day hour minute .refusal ≡ 0 → (exists year month day hour minute ≡ true) × (firstYear ≤ year) × (year ≤ lastYear)
+    only z =
+        let p = date-minute-date year month day hour minute z in
+        has-minute year month day hour minute .0 (minuteOf year month day hour minute .minute, p .0, p .1)
+
+    all : (exists year month day hour minute ≡ true) × (firstYear ≤ year) × (year ≤ lastYear) → minuteOf year month day hour minute .refusal ≡ 0
+    all (e, a, b) = rw (e, le-leb _ _ a, le-leb _ _ b)
 
 -- ---- order
 

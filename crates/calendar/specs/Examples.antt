@@ -1,6 +1,8 @@
 -- The calendar's known days, as paper 01 has them, computed from the definitions.
 -- Assumes nothing.
 use mathlib.Core.Path.{_≡_, refl}
+use mathlib.Core.List.{List, [], _∷_}
+use Prim.Native.Nat.{ℕ, zero, suc}
 use Rattle.calendar.specs.Gregorian.{leap, yearDays, monthTable, monthLength, monthDays}
 use Rattle.calendar.specs.Walk.{span, walk}
 use Rattle.calendar.specs.Dates.{weekdayOf, yearOf, monthOf, dateAt, noDate, dateOf, exists, daysBefore, minuteAt, minuteOf}
@@ -40,3 +42,23 @@ no-leap-day = refl
 day-in-2096 : minuteOf 2096 2 29 0 0 ≡ record { refusal = 0; minute = 66355200 }
 unfolding minuteOf minuteAt daysBefore exists span yearDays leap monthDays monthLength monthTable
 day-in-2096 = refl
+
+-- the calendar begins with 1970 and ends with 9999
+year-before : minuteOf 1969 12 31 23 59 ≡ record { refusal = 14; minute = 0 }
+unfolding minuteOf minuteAt daysBefore exists span yearDays leap monthDays monthLength monthTable
+year-before = refl
+
+year-after : minuteOf 10000 1 1 0 0 ≡ record { refusal = 14; minute = 0 }
+unfolding minuteOf minuteAt daysBefore exists span yearDays leap monthDays monthLength monthTable
+year-after = refl
+
+-- the first minutes of the months of 1970
+firsts : List ℕ → ℕ → List ℕ
+firsts l zero = l
+firsts l (suc m) = firsts (minuteOf 1970 (suc m) 1 0 0 .minute ∷ l) m
+
+months-of-1970 :
+    firsts [] 12
+    ≡ 0 ∷ 44640 ∷ 84960 ∷ 129600 ∷ 172800 ∷ 217440 ∷ 260640 ∷ 305280 ∷ 349920 ∷ 393120 ∷ 437760 ∷ 480960 ∷ []
+unfolding firsts minuteOf minuteAt daysBefore exists span yearDays leap monthDays monthLength monthTable
+months-of-1970 = refl

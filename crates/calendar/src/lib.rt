@@ -15,9 +15,13 @@ const FIRST_YEAR: u64 = 1970;
 
 const LAST_YEAR: u64 = 9999;
 
-const LAST_MINUTE: u64 = 4_223_371_679;
+// The last minute of the calendar, 9999-12-31 23:59.
+pub const LAST_MINUTE: u64 = 4_223_371_679;
 
-const DAY_MINUTES: u64 = 1440;
+// How many days the calendar has.
+pub const CALENDAR_DAYS: u64 = 2_932_897;
+
+pub const DAY_MINUTES: u64 = 1440;
 
 // The refusal of a minute or a date that isn't on the calendar.
 pub const NOT_ON_CALENDAR: u8 = 14;

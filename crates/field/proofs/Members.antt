@@ -10,14 +10,14 @@ use native.Mathlib.Decide.{decLe}
 use native.Mathlib.Omega.{arith}
 use lib.Dec.{ltb, leb, eqb}
 use borrow.Author.Tests.{ltb-false, le-leb, lt-leb, eq-eqb, ne-eqb, eqb-true, eqb-false}
-use Rattle.schedule.specs.Sets.{hasBit, withBit}
+use Rattle.schedule.specs.Sets.{hasBit, withBit, put}
 use Rattle.schedule.proofs.Sets.{none-has, with-has, with-keeps}
 use Rattle.field.specs.declared.Names.{Names}
 use Rattle.field.specs.declared.Limits.{Limits}
 use Rattle.field.specs.declared.Answer.the-variants.{Values}
 use Rattle.field.specs.declared.element.Element.{Element}
 use Rattle.field.specs.declared.element.Element.the-variants.{Range, Malformed}
-use Rattle.field.specs.Values.{valuesOf, bitOf, put, including}
+use Rattle.field.specs.Values.{valuesOf, bitOf, including}
 use Rattle.field.specs.Fields.{readField}
 use Rattle.field.specs.Members.{isIn, contains, elementsOf, elementBits, bitsOf}
 use Rattle.field.proofs.Bools.{and-false, or-none, or-assoc, or-swap}

@@ -8,9 +8,9 @@ use native.Mathlib.Omega.{arith}
 use lib.Bits.{bitOr, or-shifted-r}
 use lib.Pow.{pow-pos, pow-mono, pow-lt}
 use borrow.Author.Tests.{lt-ltb}
-use Rattle.schedule.specs.Sets.{withBit}
+use Rattle.schedule.specs.Sets.{withBit, put}
 use Rattle.field.specs.declared.Names.{Names}
-use Rattle.field.specs.Values.{everyStep, valuesOf, bitOf, put, including}
+use Rattle.field.specs.Values.{everyStep, valuesOf, bitOf, including}
 
 or-top : (v b : ℕ) → b < 2 ^ v → bitOr b (2 ^ v) ≡ 2 ^ v + b
 or-top v b h = ap (bitOr b) (sym (one-mul (2 ^ v))) ∙ or-shifted-r 1 v b h ∙ ap (λ (x : ℕ). x + b) (one-mul (2 ^ v))

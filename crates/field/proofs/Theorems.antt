@@ -5,13 +5,13 @@ use mathlib.Core.Path.{_≡_, refl, sym, ap, _∙_}
 use mathlib.Core.Logic.{⊎-elim}
 use mathlib.Core.Bool.{Bool, true, false, cond, _&&_, _||_}
 use mathlib.Core.List.{List, [], _∷_, _++_, map}
-use Prim.Native.Nat.{ℕ, _+_, _-_, _%_, _^_, _≤_, _<_}
+use Prim.Native.Nat.{ℕ, _-_, _%_, _^_, _≤_, _<_}
 use native.Mathlib.Nat.{mod-one}
 use native.Mathlib.Omega.{arith}
 use lib.Pow.{pow-pos}
 use lib.Dec.{ltb, leb, eqb}
 use borrow.Author.Tests.{le-leb, leb-true, eq-eqb, eqb-true, eqb-false}
-use Rattle.schedule.specs.Sets.{hasBit, withBit}
+use Rattle.schedule.specs.Sets.{hasBit, withBit, put}
 use Rattle.schedule.proofs.Sets.{with-fits}
 use Rattle.field.specs.declared.Names.{Names}
 use Rattle.field.specs.declared.Names.the-variants.{Weekdays}
@@ -19,7 +19,7 @@ use Rattle.field.specs.declared.Limits.{Limits}
 use Rattle.field.specs.declared.Answer.the-variants.{Values}
 use Rattle.field.specs.declared.element.Element.{Element}
 use Rattle.field.specs.declared.element.Element.the-variants.{Range, Malformed}
-use Rattle.field.specs.Values.{valuesOf, bitOf, put, including}
+use Rattle.field.specs.Values.{valuesOf, bitOf, including}
 use Rattle.field.specs.Limits.{minuteLimits, hourLimits, dayLimits, monthLimits, weekdayLimits}
 use Rattle.field.specs.Fields.{isEmpty, starElement, readField}
 use Rattle.field.specs.Members.{isIn, contains, isStar, elementsOf, elementBits, bitsOf}

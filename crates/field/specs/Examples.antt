@@ -7,13 +7,13 @@ use mathlib.Core.List.{List, [], _∷_}
 use Rattle.field.specs.declared.Limits.{Limits}
 use Rattle.field.specs.declared.Answer.{Answer}
 use Rattle.field.specs.declared.Answer.the-variants.{Values, Refused}
-use Rattle.schedule.specs.Sets.{withBit}
+use Rattle.schedule.specs.Sets.{withBit, put}
 use Rattle.field.specs.Parts.{until, has, before, after, afterEach, split}
 use Rattle.field.specs.Numbers.{isDigit, areDigits, valueFrom, numberOf}
 use Rattle.field.specs.Elements.{isElement, ranging, afterDash, elementOf}
 use Rattle.field.specs.Names.{lower, alike, monthNames, weekdayNames, named, nameOf}
-use Rattle.field.specs.Values.{everyStep, valuesOf, bitOf, put, including}
-use Rattle.field.specs.Limits.{minuteLimits, hourLimits, monthLimits, weekdayLimits}
+use Rattle.field.specs.Values.{everyStep, valuesOf, bitOf, including}
+use Rattle.field.specs.Limits.{minuteLimits, hourLimits, dayLimits, monthLimits, weekdayLimits}
 use Rattle.field.specs.Judgement.{outside, judged}
 use Rattle.field.specs.Fields.{areElements, judgedAll, nameElement, listField, starElement, isEmpty, starField, readField}
 
@@ -52,5 +52,41 @@ examples :
     -- the second element of `1,70` is refused at its own first byte, and only where the whole field is of the form
     × (read minuteLimits (49 ∷ 44 ∷ 55 ∷ 48 ∷ []) ≡ Refused 6 3)
     × (read minuteLimits (49 ∷ 44 ∷ 55 ∷ 48 ∷ 44 ∷ []) ≡ Refused 5 1)
+    -- `*` in the other four: first to last
+    × (read minuteLimits (42 ∷ []) ≡ Values 1152921504606846975 true)
+    × (read hourLimits (42 ∷ []) ≡ Values 16777215 true)
+    × (read dayLimits (42 ∷ []) ≡ Values 4294967294 true)
+    × (read monthLimits (42 ∷ []) ≡ Values 8190 true)
+    -- `0` and `32` as day, `13` as month, `8` as weekday, `24` as hour are refused with 6
+    × (read dayLimits (48 ∷ []) ≡ Refused 6 1)
+    × (read dayLimits (51 ∷ 50 ∷ []) ≡ Refused 6 1)
+    × (read monthLimits (49 ∷ 51 ∷ []) ≡ Refused 6 1)
+    × (read weekdayLimits (56 ∷ []) ≡ Refused 6 1)
+    × (read hourLimits (50 ∷ 52 ∷ []) ≡ Refused 6 1)
+    -- `10-20/5` is 10, 15, 20
+    × (read minuteLimits (49 ∷ 48 ∷ 45 ∷ 50 ∷ 48 ∷ 47 ∷ 53 ∷ []) ≡ Values 1082368 false)
+    -- in an element 6 comes before 7, and 7 before 8; the first bad element decides
+    × (read minuteLimits (54 ∷ 49 ∷ 45 ∷ 54 ∷ 48 ∷ 47 ∷ 48 ∷ []) ≡ Refused 6 1)
+    × (read minuteLimits (49 ∷ 48 ∷ 45 ∷ 57 ∷ 47 ∷ 48 ∷ []) ≡ Refused 7 1)
+    × (read minuteLimits (55 ∷ 48 ∷ 44 ∷ 49 ∷ 48 ∷ 45 ∷ 57 ∷ []) ≡ Refused 6 1)
 unfolding read readField judged judgedAll areElements listField starField nameElement starElement isEmpty isElement ranging elementOf afterDash split afterEach until has before after numberOf areDigits isDigit valueFrom nameOf named alike lower monthNames weekdayNames outside including put bitOf valuesOf everyStep withBit
-examples = (refl, refl, refl, refl, refl, refl, refl, refl, refl, refl, refl, refl, refl, refl, refl, refl)
+examples = (refl, refl, refl, refl, refl, refl, refl, refl, refl, refl, refl, refl, refl, refl, refl, refl, refl, refl, refl, refl, refl, refl, refl, refl, refl, refl, refl, refl, refl)
+
+-- each name alone is the one value that it names
+eachSet : Limits → List (List ℕ) → List Answer
+eachSet l [] = []
+eachSet l (s ∷ ss) = read l s ∷ eachSet l ss
+
+month-names :
+    eachSet monthLimits
+    ((106 ∷ 97 ∷ 110 ∷ []) ∷ (102 ∷ 101 ∷ 98 ∷ []) ∷ (109 ∷ 97 ∷ 114 ∷ []) ∷ (97 ∷ 112 ∷ 114 ∷ []) ∷ (109 ∷ 97 ∷ 121 ∷ []) ∷ (106 ∷ 117 ∷ 110 ∷ []) ∷ (106 ∷ 117 ∷ 108 ∷ []) ∷ (97 ∷ 117 ∷ 103 ∷ []) ∷ (115 ∷ 101 ∷ 112 ∷ []) ∷ (111 ∷ 99 ∷ 116 ∷ []) ∷ (110 ∷ 111 ∷ 118 ∷ []) ∷ (100 ∷ 101 ∷ 99 ∷ []) ∷ [])
+    ≡ Values 2 false ∷ Values 4 false ∷ Values 8 false ∷ Values 16 false ∷ Values 32 false ∷ Values 64 false ∷ Values 128 false ∷ Values 256 false ∷ Values 512 false ∷ Values 1024 false ∷ Values 2048 false ∷ Values 4096 false ∷ []
+unfolding eachSet read readField judged judgedAll areElements listField nameElement isElement ranging elementOf split afterEach until has before after numberOf areDigits isDigit valueFrom nameOf named alike lower monthNames weekdayNames outside including put bitOf valuesOf everyStep withBit
+month-names = refl
+
+weekday-names :
+    eachSet weekdayLimits
+    ((115 ∷ 117 ∷ 110 ∷ []) ∷ (109 ∷ 111 ∷ 110 ∷ []) ∷ (116 ∷ 117 ∷ 101 ∷ []) ∷ (119 ∷ 101 ∷ 100 ∷ []) ∷ (116 ∷ 104 ∷ 117 ∷ []) ∷ (102 ∷ 114 ∷ 105 ∷ []) ∷ (115 ∷ 97 ∷ 116 ∷ []) ∷ [])
+    ≡ Values 1 false ∷ Values 2 false ∷ Values 4 false ∷ Values 8 false ∷ Values 16 false ∷ Values 32 false ∷ Values 64 false ∷ []
+unfolding eachSet read readField judged judgedAll areElements listField nameElement isElement ranging elementOf split afterEach until has before after numberOf areDigits isDigit valueFrom nameOf named alike lower monthNames weekdayNames outside including put bitOf valuesOf everyStep withBit
+weekday-names = refl

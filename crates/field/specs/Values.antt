@@ -4,10 +4,10 @@
 use Prim.Native.Nat.{ℕ, zero, suc, _+_, _-_, _/_}
 use mathlib.Core.Bool.{cond}
 use mathlib.Core.List.{List, [], _∷_}
-use lib.Dec.{eqb, ltb}
+use lib.Dec.{eqb}
 use Rattle.field.specs.declared.Names.{Names}
 use Rattle.field.specs.declared.Names.the-variants.{None, Months, Weekdays}
-use Rattle.schedule.specs.Sets.{withBit}
+use Rattle.schedule.specs.Sets.{put}
 
 -- n values from v on, each step-th
 unfoldable pub everyStep : ℕ → ℕ → ℕ → List ℕ
@@ -23,10 +23,6 @@ unfoldable pub bitOf : Names → ℕ → ℕ
 bitOf None v = v
 bitOf Months v = v
 bitOf Weekdays v = cond (eqb v 7) 0 v
-
--- a set of 64 bits with one value more
-unfoldable pub put : ℕ → ℕ → ℕ
-put set n = cond (ltb n 64) (withBit set n) set
 
 unfoldable pub including : Names → ℕ → List ℕ → ℕ
 including names set [] = set

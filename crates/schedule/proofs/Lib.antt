@@ -8,4 +8,5 @@ pub mod Possible
 pub mod Gap
 pub mod Firing
 pub mod Quick
-pub mod Reached
+pub mod KnownDays
+pub mod Theorems

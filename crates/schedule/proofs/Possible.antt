@@ -14,7 +14,7 @@ use Rattle.calendar.proofs.Dates.{OnCalendar}
 use Rattle.calendar.proofs.Minutes.{dateAt-on, midnight-weekday}
 use Rattle.schedule.specs.declared.Schedule.{Schedule}
 use Rattle.schedule.specs.Sets.{hasBit}
-use Rattle.schedule.specs.Match.{byDayRule, matchesDay, matchesOn}
+use Rattle.schedule.specs.Match.{eitherMay, byDayRule, matchesDay, matchesOn}
 use Rattle.schedule.specs.Search.{from}
 use Rattle.schedule.specs.Days.{hasDate, someDay}
 use Rattle.schedule.specs.Gap.{gapDays, Whole}
@@ -24,12 +24,9 @@ use Rattle.schedule.proofs.Recurrence.{Within, date-within, weekday-dat
 
 -- ---- the day rule
 
-either : Schedule → Bool
-either s = s .restricted .days && s .restricted .weekdays
-
 -- if not both are restricted and the weekdays are, the days aren't
-days-free : (s : Schedule) → either s ≡ false → s .restricted .weekdays ≡ true → s .restricted .days ≡ false
-unfolding either
+days-free : (s : Schedule) → eitherMay s ≡ false → s .restricted .weekdays ≡ true → s .restricted .days ≡ false
+unfolding eitherMay
 days-free s e r = go (s .restricted .days) (rw r at e)
   where
     go : (b : Bool) → (b && true) ≡ false → b ≡ false
@@ -37,26 +34,26 @@ days-free s e r = go (s .restricted .days) (rw r at e)
     go false e = refl
 
 module _ (s : Schedule) (m d w : ℕ) where
-  matches-either : either s ≡ true → hasBit (s .months) m ≡ true → (hasBit (s .days) d ≡ true) ⊎ (hasBit (s .weekdays) w ≡ true)
+  matches-either : eitherMay s ≡ true → hasBit (s .months) m ≡ true → (hasBit (s .days) d ≡ true) ⊎ (hasBit (s .weekdays) w ≡ true)
       → matchesDay s m d w ≡ true
-  unfolding matchesDay byDayRule either
+  unfolding matchesDay byDayRule eitherMay
   matches-either e h o = rw (h, e) (true-or _ _ o)
 
-  matches-both : either s ≡ false → hasBit (s .months) m ≡ true → hasBit (s .days) d ≡ true → hasBit (s .weekdays) w ≡ true
+  matches-both : eitherMay s ≡ false → hasBit (s .months) m ≡ true → hasBit (s .days) d ≡ true → hasBit (s .weekdays) w ≡ true
       → matchesDay s m d w ≡ true
-  unfolding matchesDay byDayRule either
+  unfolding matchesDay byDayRule eitherMay
   matches-both e h i j = rw (h, e, i, j)
 
-  either-matches : either s ≡ true → matchesDay s m d w ≡ true
+  either-matches : eitherMay s ≡ true → matchesDay s m d w ≡ true
       → (hasBit (s .months) m ≡ true) × ((hasBit (s .days) d ≡ true) ⊎ (hasBit (s .weekdays) w ≡ true))
-  unfolding matchesDay byDayRule either
+  unfolding matchesDay byDayRule eitherMay
   either-matches e t =
       let p = and-true (hasBit (s .months) m) (byDayRule s (hasBit (s .days) d) (hasBit (s .weekdays) w)) t in
       (p .0, or-true (hasBit (s .days) d) (hasBit (s .weekdays) w) (rw e at (p .1)))
 
-  both-matches : either s ≡ false → matchesDay s m d w ≡ true
+  both-matches : eitherMay s ≡ false → matchesDay s m d w ≡ true
       → (hasBit (s .months) m ≡ true) × (hasBit (s .days) d ≡ true) × (hasBit (s .weekdays) w ≡ true)
-  unfolding matchesDay byDayRule either
+  unfolding matchesDay byDayRule eitherMay
   both-matches e t =
       let p = and-true (hasBit (s .months) m) (byDayRule s (hasBit (s .days) d) (hasBit (s .weekdays) w)) t in
       let q = and-true (hasBit (s .days) d) (hasBit (s .weekdays) w) (rw e at (p .1)) in
@@ -82,14 +79,14 @@ some-date s t =
 
 -- what a day can match by: a date or a weekday in some month where either may match, otherwise both
 data Matchable (s : Schedule) : Type 0 where
-  by-date : either s ≡ true → Chosen s → Matchable s
-  by-weekday : either s ≡ true → (m w : ℕ) → 1 ≤ m → m ≤ 12 → hasBit (s .months) m ≡ true → w < 7 → hasBit (s .weekdays) w ≡ true
+  by-date : eitherMay s ≡ true → Chosen s → Matchable s
+  by-weekday : eitherMay s ≡ true → (m w : ℕ) → 1 ≤ m → m ≤ 12 → hasBit (s .months) m ≡ true → w < 7 → hasBit (s .weekdays) w ≡ true
       → Matchable s
-  by-both : either s ≡ false → Chosen s → (w : ℕ) → w < 7 → hasBit (s .weekdays) w ≡ true → Matchable s
+  by-both : eitherMay s ≡ false → Chosen s → (w : ℕ) → w < 7 → hasBit (s .weekdays) w ≡ true → Matchable s
 
 matchable : (s : Schedule) → someDay s ≡ true → Matchable s
-unfolding someDay either
-matchable s t = go (either s) refl t
+unfolding someDay eitherMay
+matchable s t = go (eitherMay s) refl t
   where
     month : Bool
     month = ltb (from (hasBit (s .months)) 13 1) 13
@@ -100,7 +97,7 @@ matchable s t = go (either s) refl t
     date : Bool
     date = ltb (from (hasDate s) 13 1) 13
 
-    go : (b : Bool) → either s ≡ b → cond b (month && (weekday || date)) (weekday && date) ≡ true → Matchable s
+    go : (b : Bool) → eitherMay s ≡ b → cond b (month && (weekday || date)) (weekday && date) ≡ true → Matchable s
     go true e t =
         let p = and-true month (weekday || date) t in
         let (m, a, b, h) = some-from (hasBit (s .months)) 13 1 (omega arith) (ltb-true _ _ (p .0)) in
@@ -133,7 +130,7 @@ within-40-years s t = go (matchable s t)
 pub within-gap : (s : Schedule) → Whole s → someDay s ≡ true → Within s gapDays
 within-gap s whole t = go (matchable s t)
   where
-    one-free : (c : Chosen s) (w : ℕ) → w < 7 → hasBit (s .weekdays) w ≡ true → either s ≡ false
+    one-free : (c : Chosen s) (w : ℕ) → w < 7 → hasBit (s .weekdays) w ≡ true → eitherMay s ≡ false
         → (b : Bool) → s .restricted .weekdays ≡ b → Within s gapDays
     one-free c w k i e true r =
         weekday-within s (c .m) w (c .is .monthFrom) (c .is .monthTo) k
@@ -157,8 +154,8 @@ date-some s m d i h k =
     (rw (h, lt-ltb _ _ (from-some (hasBit (s .days)) (monthLength true m + 1) 1 d (i .dayFrom) (omega (arith, i .dayTo)) k))))
 
 pub matching-some : (s : Schedule) (day : ℕ) → day < calendarDays → matchesOn s day ≡ true → someDay s ≡ true
-unfolding matchesOn someDay either weekdayOf
-matching-some s day h t = go (either s) refl
+unfolding matchesOn someDay eitherMay weekdayOf
+matching-some s day h t = go (eitherMay s) refl
   where
     x : ℕ
     x = day * 1440
@@ -191,7 +188,7 @@ matching-some s day h t = go (either s) refl
           dayTo = omega (arith, o .dayTo, longest (dateAt x .year) m (o .monthFrom) (o .monthTo));
         })
 
-    go : (b : Bool) → either s ≡ b
+    go : (b : Bool) → eitherMay s ≡ b
         → cond b
         (ltb (from (hasBit (s .months)) 13 1) 13 && (ltb (from (hasBit (s .weekdays)) 7 0) 7 || ltb (from (hasDate s) 13 1) 13))
         (ltb (from (hasBit (s .weekdays)) 7 0) 7 && ltb (from (hasDate s) 13 1) 13)

@@ -1,4 +1,5 @@
--- Days as the search for a firing goes by them: a day within its month, and which days there can be at all.
+-- Days as the search for a firing goes by them: a day within its month, and which days there can be at all. Only the inner
+-- functions' contracts cite these; what a reader must believe is in Match, Search and Next.
 -- Assumes nothing.
 use Prim.Native.Nat.{ℕ, _+_, _-_}
 use mathlib.Core.Bool.{Bool, cond, _&&_, _||_}
@@ -7,7 +8,7 @@ use Rattle.calendar.specs.Gregorian.{monthDays}
 use Rattle.calendar.specs.Dates.{weekdayOf}
 use Rattle.schedule.specs.declared.Schedule.{Schedule}
 use Rattle.schedule.specs.Sets.{hasBit}
-use Rattle.schedule.specs.Match.{matchesDay}
+use Rattle.schedule.specs.Match.{eitherMay, matchesDay}
 use Rattle.schedule.specs.Search.{from}
 
 -- a day, counted from 1970-01-01, of a month whose first day is `first`
@@ -27,4 +28,4 @@ someDay s =
     let month = ltb (from (hasBit (s .months)) 13 1) 13 in
     let weekday = ltb (from (hasBit (s .weekdays)) 7 0) 7 in
     let date = ltb (from (hasDate s) 13 1) 13 in
-    cond (s .restricted .days && s .restricted .weekdays) (month && (weekday || date)) (weekday && date)
+    cond (eitherMay s) (month && (weekday || date)) (weekday && date)

@@ -7,7 +7,7 @@ use Rattle.calendar.specs.Walk.{walk}
 use Rattle.calendar.specs.Dates.{weekdayOf, yearOf, monthOf, dateAt}
 use Rattle.schedule.specs.declared.Schedule.{Schedule}
 use Rattle.schedule.specs.Sets.{hasBit}
-use Rattle.schedule.specs.Match.{byDayRule, matchesDay, matchesTime, matchesDate, matches}
+use Rattle.schedule.specs.Match.{eitherMay, byDayRule, matchesDay, matchesTime, matchesDate, matches}
 
 -- `0 0 29 2 *`
 unfoldable pub leapDay : Schedule
@@ -33,28 +33,93 @@ fridays =
       restricted = record { days = true; weekdays = true };
     }
 
+-- `0 0 30 2 *`
+unfoldable pub february30 : Schedule
+february30 =
+    record {
+      minutes = 1;
+      hours = 1;
+      days = 0x40000000;
+      months = 0b100;
+      weekdays = 0b1111111;
+      restricted = record { days = true; weekdays = false };
+    }
+
+-- `0 0 30 2 1`: the Mondays of February
+unfoldable pub mondays30 : Schedule
+mondays30 =
+    record {
+      minutes = 1;
+      hours = 1;
+      days = 0x40000000;
+      months = 0b100;
+      weekdays = 0b10;
+      restricted = record { days = true; weekdays = true };
+    }
+
+-- `0 0 31 12 *`
+unfoldable pub lastDay : Schedule
+lastDay =
+    record {
+      minutes = 1;
+      hours = 1;
+      days = 0x80000000;
+      months = 0b1000000000000;
+      weekdays = 0b1111111;
+      restricted = record { days = true; weekdays = false };
+    }
+
+-- `0 0 * * 1`: Mondays, and no other day
+unfoldable pub mondays : Schedule
+mondays =
+    record {
+      minutes = 1;
+      hours = 1;
+      days = 0xfffffffe;
+      months = 0b1111111111110;
+      weekdays = 0b10;
+      restricted = record { days = false; weekdays = true };
+    }
+
 -- 1970-01-01 04:30 is the 1st and no Friday; 1970-01-02 04:30 a Friday; 1970-01-03 04:30 neither
 first-of-month : matches fridays 270 ≡ true
-unfolding fridays matches matchesDate matchesDay matchesTime byDayRule hasBit dateAt yearOf monthOf weekdayOf walk yearDays leap monthDays monthLength monthTable
+unfolding fridays matches matchesDate matchesDay matchesTime byDayRule eitherMay hasBit dateAt yearOf monthOf weekdayOf walk yearDays leap monthDays monthLength monthTable
 first-of-month = refl
 
 friday : matches fridays 1710 ≡ true
-unfolding fridays matches matchesDate matchesDay matchesTime byDayRule hasBit dateAt yearOf monthOf weekdayOf walk yearDays leap monthDays monthLength monthTable
+unfolding fridays matches matchesDate matchesDay matchesTime byDayRule eitherMay hasBit dateAt yearOf monthOf weekdayOf walk yearDays leap monthDays monthLength monthTable
 friday = refl
 
 neither : matches fridays 3150 ≡ false
-unfolding fridays matches matchesDate matchesDay matchesTime byDayRule hasBit dateAt yearOf monthOf weekdayOf walk yearDays leap monthDays monthLength monthTable
+unfolding fridays matches matchesDate matchesDay matchesTime byDayRule eitherMay hasBit dateAt yearOf monthOf weekdayOf walk yearDays leap monthDays monthLength monthTable
 neither = refl
 
 -- 2096-02-29 00:00, and a day and a minute later
 leap-day : matches leapDay 66355200 ≡ true
-unfolding leapDay matches matchesDate matchesDay matchesTime byDayRule hasBit dateAt yearOf monthOf weekdayOf walk yearDays leap monthDays monthLength monthTable
+unfolding leapDay matches matchesDate matchesDay matchesTime byDayRule eitherMay hasBit dateAt yearOf monthOf weekdayOf walk yearDays leap monthDays monthLength monthTable
 leap-day = refl
 
 day-after : matches leapDay 66356640 ≡ false
-unfolding leapDay matches matchesDate matchesDay matchesTime byDayRule hasBit dateAt yearOf monthOf weekdayOf walk yearDays leap monthDays monthLength monthTable
+unfolding leapDay matches matchesDate matchesDay matchesTime byDayRule eitherMay hasBit dateAt yearOf monthOf weekdayOf walk yearDays leap monthDays monthLength monthTable
 day-after = refl
 
 minute-after : matches leapDay 66355201 ≡ false
-unfolding leapDay matches matchesDate matchesDay matchesTime byDayRule hasBit dateAt yearOf monthOf weekdayOf walk yearDays leap monthDays monthLength monthTable
+unfolding leapDay matches matchesDate matchesDay matchesTime byDayRule eitherMay hasBit dateAt yearOf monthOf weekdayOf walk yearDays leap monthDays monthLength monthTable
 minute-after = refl
+
+-- 1970-01-01 is a Thursday, 1970-01-05 a Monday in January, 1970-02-02 one in February
+thursday : matches mondays 0 ≡ false
+unfolding mondays matches matchesDate matchesDay matchesTime byDayRule eitherMay hasBit dateAt yearOf monthOf weekdayOf walk yearDays leap monthDays monthLength monthTable
+thursday = refl
+
+monday : matches mondays 5760 ≡ true
+unfolding mondays matches matchesDate matchesDay matchesTime byDayRule eitherMay hasBit dateAt yearOf monthOf weekdayOf walk yearDays leap monthDays monthLength monthTable
+monday = refl
+
+january : matches mondays30 5760 ≡ false
+unfolding mondays30 matches matchesDate matchesDay matchesTime byDayRule eitherMay hasBit dateAt yearOf monthOf weekdayOf walk yearDays leap monthDays monthLength monthTable
+january = refl
+
+february : matches mondays30 46080 ≡ true
+unfolding mondays30 matches matchesDate matchesDay matchesTime byDayRule eitherMay hasBit dateAt yearOf monthOf weekdayOf walk yearDays leap monthDays monthLength monthTable
+february = refl

@@ -2,14 +2,18 @@
 -- Assumes nothing.
 use Prim.Native.Nat.{ℕ, _*_, _/_, _%_}
 use mathlib.Core.Bool.{Bool, cond, _&&_, _||_}
+use lib.Dec.{leb}
 use Rattle.calendar.specs.declared.Date.{Date}
-use Rattle.calendar.specs.Dates.{dateAt}
+use Rattle.calendar.specs.Dates.{lastMinute, dateAt}
 use Rattle.schedule.specs.declared.Schedule.{Schedule}
 use Rattle.schedule.specs.Sets.{hasBit}
 
 -- if both day fields are restricted, either may match; otherwise both must
+unfoldable pub eitherMay : Schedule → Bool
+eitherMay s = s .restricted .days && s .restricted .weekdays
+
 unfoldable pub byDayRule : Schedule → Bool → Bool → Bool
-byDayRule s day weekday = cond (s .restricted .days && s .restricted .weekdays) (day || weekday) (day && weekday)
+byDayRule s day weekday = cond (eitherMay s) (day || weekday) (day && weekday)
 
 -- the month must be in its set, and the day of the month and the weekday match by the rule
 unfoldable pub matchesDay : Schedule → ℕ → ℕ → ℕ → Bool
@@ -24,6 +28,10 @@ matchesDate s d = matchesDay s (d .month) (d .day) (d .weekday) && matchesTime s
 
 unfoldable pub matches : Schedule → ℕ → Bool
 matches s m = matchesDate s (dateAt m)
+
+-- a minute that isn't on the calendar is never due
+unfoldable pub isDue : Schedule → ℕ → Bool
+isDue s m = leb m lastMinute && matches s m
 
 -- The two parts of a minute by themselves: a day, counted from 1970-01-01, and a minute of the day.
 unfoldable pub matchesOn : Schedule → ℕ → Bool

@@ -7,8 +7,8 @@ ghost use Rattle.schedule.specs.Search.{from};
 ghost use Rattle.schedule.specs.Days.{matchesIn};
 use crate::Schedule;
 use crate::set::has;
-
-const CALENDAR_DAYS: u64 = 2_932_897;
+use calendar::CALENDAR_DAYS;
+use calendar::DAY_MINUTES;
 
 // Whether a day matches by its month, its number in the month and its weekday.
 pub(crate) fn matches_day(s: Schedule, month: u64, day: u64, weekday: u64) -> bool
@@ -48,7 +48,7 @@ pub(crate) fn day_from(s: Schedule, day: u64) -> u64
     if CALENDAR_DAYS <= day {
         return day;
     }
-    let date = calendar::date_of(day * 1440).date;
+    let date = calendar::date_of(day * DAY_MINUTES).date;
     let mut count = date.year * 12 + (date.month - 1);
     let mut first = day - (date.day - 1);
     let mut at = day;

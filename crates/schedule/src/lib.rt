@@ -6,22 +6,17 @@ mod time;
 
 ghost use mathlib.Core.Path.{_≡_};
 ghost use Prim.Native.Nat.{_≤_, _<_};
-ghost use mathlib.Core.Bool.{_&&_};
-ghost use lib.Dec.{leb};
 ghost use Rattle.calendar.specs.Dates.{lastMinute, calendarDays};
-ghost use Rattle.schedule.specs.Match.{matchesDate, matches, matchesOn};
+ghost use Rattle.schedule.specs.Match.{matchesDate, isDue, matchesOn};
 ghost use Rattle.schedule.specs.Next.{firingAfter, nextAfter, refusalOf, minuteIn};
+use calendar::CALENDAR_DAYS;
+use calendar::DAY_MINUTES;
 use calendar::Date;
+use calendar::LAST_MINUTE;
 use day::day_from;
 use day::matches_day;
 use never::can_fire;
 use time::time_from;
-
-const LAST_MINUTE: u64 = 4_223_371_679;
-
-const CALENDAR_DAYS: u64 = 2_932_897;
-
-const DAY_MINUTES: u64 = 1440;
 
 // Which of the two day fields are restricted: not exactly `*`.
 pub struct Restricted {
@@ -87,7 +82,7 @@ pub fn matches_date(s: Schedule, date: Date) -> bool
 
 // Whether a minute of the calendar matches; no other does.
 pub fn matches(s: Schedule, minute: u64) -> bool
-    ensures { λ r. ⌜ r ≡ (leb minute lastMinute && matches s minute) ⌝ }
+    ensures { λ r. ⌜ r ≡ isDue s minute ⌝ }
 {
     if LAST_MINUTE < minute {
         return false;

@@ -7,6 +7,7 @@ use crate::Schedule;
 use crate::set::has;
 use crate::set::next;
 use crate::time::time_from;
+use calendar::DAY_MINUTES;
 
 // A leap year, in which each month is as long as it ever is.
 const LEAP_YEAR: u64 = 2000;
@@ -54,5 +55,5 @@ fn some_day(s: Schedule) -> bool
 pub(crate) fn can_fire(s: Schedule) -> bool
     ensures { λ r. ⌜ r ≡ canFire s ⌝ }
 {
-    (time_from(s, 0) < 1440) & some_day(s)
+    (time_from(s, 0) < DAY_MINUTES) & some_day(s)
 }

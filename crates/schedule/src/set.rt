@@ -1,8 +1,6 @@
 // Sets of small numbers in the bits of a word: bit n stands for the value n.
 ghost use mathlib.Core.Path.{_≡_};
-ghost use mathlib.Core.Bool.{cond};
-ghost use lib.Dec.{ltb};
-ghost use Rattle.schedule.specs.Sets.{hasBit, withBit};
+ghost use Rattle.schedule.specs.Sets.{hasBit, put};
 ghost use Rattle.schedule.specs.Search.{from};
 
 // Whether the set has n.
@@ -17,7 +15,7 @@ pub fn has(set: u64, n: u64) -> bool
 
 // The set with n in it; a number that a word has no bit for changes nothing.
 pub fn with(set: u64, n: u64) -> u64
-    ensures { λ r. ⌜ r ≡ cond (ltb n 64) (withBit set n) set ⌝ }
+    ensures { λ r. ⌜ r ≡ put set n ⌝ }
 {
     if n < 64 {
         return set | 1 << n;

@@ -6,6 +6,7 @@ ghost use Rattle.schedule.specs.Search.{from};
 use crate::Schedule;
 use crate::set::has;
 use crate::set::next;
+use calendar::DAY_MINUTES;
 
 // The least minute of the day from `t` on whose hour and minute are in their sets, or 1,440.
 pub(crate) fn time_from(s: Schedule, t: u64) -> u64
@@ -23,5 +24,5 @@ pub(crate) fn time_from(s: Schedule, t: u64) -> u64
     if (later < 24) & (first < 60) {
         return later * 60 + first;
     }
-    1440
+    DAY_MINUTES
 }

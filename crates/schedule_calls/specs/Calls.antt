@@ -5,7 +5,7 @@ use mathlib.Core.Bool.{cond, _&&_}
 use lib.Dec.{leb, eqb}
 use Rattle.calendar.specs.Dates.{lastMinute}
 use Rattle.schedule.specs.declared.Schedule.{Schedule}
-use Rattle.schedule.specs.Match.{matches}
+use Rattle.schedule.specs.Match.{isDue}
 use Rattle.schedule.specs.Next.{nextAfter, refusalOf, minuteIn}
 
 unfoldable pub scheduleOf : ℕ → ℕ → ℕ → ℕ → ℕ → ℕ → Schedule
@@ -25,4 +25,4 @@ nextNumber s minute =
     cond (eqb (refusalOf next) 0) (minuteIn next) (4294967296 + refusalOf next)
 
 unfoldable pub matchNumber : Schedule → ℕ → ℕ
-matchNumber s minute = cond (leb minute lastMinute && matches s minute) 1 0
+matchNumber s minute = cond (isDue s minute) 1 0

@@ -4,12 +4,13 @@ use mathlib.Core.Path.{ap, _∙_}
 use borrow.Author.Needs.{needs}
 use borrow.Author.Tests.{le-leb, lt-leb}
 use Rattle.calendar.specs.declared.DateAnswer.{DateAnswer}
-use Rattle.calendar.proofs.Theorems.{dateOf-on}
-use Rattle.schedule.specs.Match.{matchesDate, matches}
+use Rattle.calendar.proofs.Minutes.{dateOf-on}
+use Rattle.schedule.specs.Match.{matchesDate, matches, isDue}
 use Rattle.schedule.proofs.matches.Statement.{statement}
 use Rattle.schedule.proofs.matches.Tie as tie
 
 returns : tie.Need-returns
+unfolding isDue
 returns c = rw (lt-leb _ _ (c .if1 .taken))
 
 date-of-requires : tie.Need-date-of-requires
@@ -19,7 +20,7 @@ matches-date-requires : tie.Need-matches-date-requires
 matches-date-requires c κs = search needs
 
 returns-2 : tie.Need-returns-2
-unfolding matches
+unfolding isDue matches
 returns-2 c =
     let h = c .before .before .before .if1 .left in
     let e = c .before .before .date-of .ensures ∙ dateOf-on _ h in

@@ -3,7 +3,8 @@
 use mathlib.Core.Path.{_≡_}
 use Prim.Native.Nat.{_+_, _-_}
 use native.Mathlib.Omega.{arith}
-use Rattle.field.specs.Values.{valuesOf, including, put}
+use Rattle.schedule.specs.Sets.{put}
+use Rattle.field.specs.Values.{valuesOf, including}
 use Rattle.field.proofs.Steps.{remaining, remaining-first, remaining-next, remaining-end}
 use Rattle.field.proofs.values.with_range.Statement.{statement}
 use Rattle.field.proofs.values.with_range.Tie as tie

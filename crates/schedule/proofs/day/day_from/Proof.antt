@@ -9,7 +9,7 @@ use Rattle.calendar.specs.Dates.{calendarDays, dateAt}
 use Rattle.calendar.proofs.Dates.{OnCalendar}
 use Rattle.calendar.proofs.Minutes.{dateAt-on}
 use Rattle.calendar.proofs.Months.{lengthOf, InMonth, day-in-month}
-use Rattle.calendar.proofs.Theorems.{dateOf-on}
+use Rattle.calendar.proofs.Minutes.{dateOf-on}
 use Rattle.schedule.proofs.Search.{from-past}
 use Rattle.schedule.proofs.Days.{Searching, searching-starts, searching-inside, searching-end, searching-found, searching-on}
 use Rattle.schedule.proofs.day.day_from.Statement.{statement}

@@ -1,47 +1,39 @@
 -- `schedule::day::matches_day` meets its contract: it tests what the definition does.
 -- Assumes nothing.
 use borrow.Author.Needs.{needs}
-use Rattle.schedule.specs.Match.{byDayRule, matchesDay}
+use Rattle.schedule.specs.Match.{eitherMay, byDayRule, matchesDay}
 use Rattle.schedule.proofs.day.matches_day.Statement.{statement}
 use Rattle.schedule.proofs.day.matches_day.Tie as tie
 use Rattle.schedule.proofs.day.matches_day.Reads as reads
 use Rattle.schedule.proofs.day.matches_day.Lts as lts
 use Rattle.schedule.proofs.set.has.Reads as has-reads
 
--- src/day.rt:18:24
 cast-has : tie.Need-cast-has
 cast-has c = search needs
 
--- src/day.rt:18:9
 has-requires : tie.Need-has-requires
 has-requires c κs = search needs
 
--- src/day.rt:19:22
 cast-has-2 : tie.Need-cast-has-2
 cast-has-2 c = search needs
 
--- src/day.rt:19:9
 has-requires-2 : tie.Need-has-requires-2
 has-requires-2 c κs = search needs
 
--- src/day.rt:20:26
 cast-has-3 : tie.Need-cast-has-3
 cast-has-3 c = search needs
 
--- src/day.rt:20:9
 has-requires-3 : tie.Need-has-requires-3
 has-requires-3 c κs = search needs
 
--- src/day.rt:23:9
 returns : tie.Need-returns
-unfolding matchesDay byDayRule
+unfolding matchesDay byDayRule eitherMay
 returns c =
     let b = c .before .before .before in
     rw (c .if1 .taken, b .has3 .ensures, b .before .before .has2 .ensures, b .before .before .before .before .has .ensures)
 
--- src/day.rt:15:1
 returns-2 : tie.Need-returns-2
-unfolding matchesDay byDayRule
+unfolding matchesDay byDayRule eitherMay
 returns-2 c =
     let b = c .before .before .before in
     rw (c .if1 .left, b .has3 .ensures, b .before .before .has2 .ensures, b .before .before .before .before .has .ensures)

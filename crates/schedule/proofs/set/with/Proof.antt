@@ -5,7 +5,7 @@ use native.Mathlib.Nat.{mod-eq-of-lt, one-mul}
 use borrow.Author.Needs.{needs}
 use borrow.Author.Tests.{lt-ltb, le-ltb}
 use lib.Pow.{pow-lt}
-use Rattle.schedule.specs.Sets.{withBit}
+use Rattle.schedule.specs.Sets.{withBit, put}
 use Rattle.schedule.proofs.set.with.Statement.{statement}
 use Rattle.schedule.proofs.set.with.Tie as tie
 
@@ -13,11 +13,12 @@ shl-result : tie.Need-shl-result
 shl-result c = search needs
 
 returns : tie.Need-returns
-unfolding withBit
+unfolding put withBit
 returns c =
     rw (lt-ltb (c .before .args .n) 64 (c .if1 .taken), one-mul (2 ^ (c .before .args .n)), mod-eq-of-lt (pow-lt (c .if1 .taken)))
 
 returns-2 : tie.Need-returns-2
+unfolding put
 returns-2 c = rw (le-ltb (c .before .args .n) 64 (c .if1 .left))
 
 pub with-spec : {M : Type 1} → statement M
