@@ -65,9 +65,16 @@ fn add(cases: &mut Vec<Case>, schedule: Schedule, start: u64) {
     }
 }
 
+/// What the files `stdin` and `stdout` hold.
+fn texts(cases: &[Case]) -> (Vec<u8>, String) {
+    (
+        cases.iter().flat_map(record).collect(),
+        cases.iter().map(line).collect(),
+    )
+}
+
 fn write(dir: &Path, cases: &[Case]) -> io::Result<()> {
-    let records: Vec<u8> = cases.iter().flat_map(record).collect();
-    let lines: String = cases.iter().map(line).collect();
+    let (records, lines) = texts(cases);
     fs::create_dir_all(dir)?;
     fs::write(dir.join("stdin"), records)?;
     fs::write(dir.join("stdout"), lines)
@@ -93,4 +100,19 @@ fn line((schedule, start): &Case) -> String {
     let matches = u64::from(schedule.matches(*start));
     let next = to_c(schedule.next_after(*start));
     format!("{matches} {next}\n")
+}
+
+#[cfg(test)]
+mod tests {
+    use super::*;
+
+    #[test]
+    fn the_program_s_files_are_these_cases() {
+        let dir = Path::new(env!("CARGO_MANIFEST_DIR")).join("../../crates/schedule_cases");
+        let (records, lines) = texts(&cases());
+        let stdin = fs::read(dir.join("stdin")).expect("stdin is there");
+        assert!(stdin == records, "write the cases anew");
+        let stdout = fs::read_to_string(dir.join("stdout")).expect("stdout is there");
+        assert!(stdout == lines, "write the cases anew");
+    }
 }
