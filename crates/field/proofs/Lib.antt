@@ -10,3 +10,4 @@ pub mod Fields
 pub mod Accepted
 pub mod Members
 pub mod Theorems
+pub mod Refusals

@@ -1,0 +1,9 @@
+pub mod Runs
+pub mod Words
+pub mod Times
+pub mod Proper
+pub mod Lines
+pub mod Tables
+pub mod Settings
+pub mod Minutes
+pub mod Theorems

@@ -1,0 +1,72 @@
+-- Laws of the lines of a table: the first line of what is left, and where the next one starts.
+-- Assumes nothing.
+use mathlib.Core.Path.{_≡_, refl, sym, ap, _∙_}
+use mathlib.Core.Bool.{Bool, true, false, cond, not}
+use mathlib.Core.List.{List, [], _∷_}
+use Prim.Native.Nat.{ℕ, suc, _+_, _-_, _≤_, _<_}
+use native.Mathlib.Numerals.{add-one}
+use native.Mathlib.Omega.{arith}
+use lib.ListN.{length, take, drop, length-drop, drop-of-length-le}
+use lib.Seq.{length-take-le, drop-drop}
+use lib.Dec.{eqb}
+use borrow.Author.Tests.{lt-ltb, le-ltb}
+use Rattle.crontab.specs.declared.class.Class.the-variants.{Not}
+use Rattle.crontab.specs.declared.Entry.{Entry}
+use Rattle.crontab.specs.declared.Table.{Table}
+use Rattle.crontab.specs.declared.Part.{Part}
+use Rattle.crontab.specs.declared.line.Fault.{Fault}
+use Rattle.crontab.specs.declared.line.Line.the-variants.{Ignored, Setting, Refused}
+use Rattle.crontab.specs.declared.line.Line.the-variants as line
+use Rattle.crontab.specs.Bytes.{isIn, run, skipped}
+use Rattle.crontab.specs.Lines.{onto, linesOf, lineOf}
+use Rattle.crontab.specs.Tables.{refusedTable, emptyTable, placed, withEntry, afterLine, withLines, tableOf}
+use Rattle.crontab.proofs.Runs.{skipped-from, skipped-within}
+
+-- ---- the first line of what is left
+
+line-first : (b : ℕ) (s : List ℕ)
+    → linesOf (b ∷ s) ≡ take (run (Not 10) (b ∷ s)) (b ∷ s) ∷ linesOf (drop (suc (run (Not 10) (b ∷ s))) (b ∷ s))
+unfolding linesOf run isIn onto
+line-first b [] = go (eqb b 10)
+  where
+    go : (t : Bool) → cond t ([] ∷ []) ((b ∷ []) ∷ []) ≡ take (cond (not t) 1 0) (b ∷ []) ∷ linesOf (drop (suc (cond (not t) 1 0)) (b ∷ []))
+    go true = refl
+    go false = refl
+line-first b (x ∷ s) = go (eqb b 10) (line-first x s)
+  where
+    k : ℕ
+    k = run (Not 10) (x ∷ s)
+
+    go : (t : Bool) → linesOf (x ∷ s) ≡ take k (x ∷ s) ∷ linesOf (drop (suc k) (x ∷ s))
+        → cond t ([] ∷ linesOf (x ∷ s)) (onto b (linesOf (x ∷ s)))
+        ≡ take (cond (not t) (suc k) 0) (b ∷ x ∷ s) ∷ linesOf (drop (suc (cond (not t) (suc k) 0)) (b ∷ x ∷ s))
+    go true e = refl
+    go false e = rw e
+
+-- where the line that starts at a place ends
+abbrev pub lineEnd : List ℕ → ℕ → ℕ
+lineEnd s at = skipped (Not 10) s at
+
+lines-from : (s : List ℕ) (at : ℕ) → at < length s
+    → linesOf (drop at s) ≡ take (lineEnd s at - at) (drop at s) ∷ linesOf (drop (lineEnd s at + 1) s)
+unfolding skipped
+lines-from s at h =
+    let e : at + run (Not 10) (drop at s) - at ≡ run (Not 10) (drop at s) = omega arith in
+    let f : at + suc (run (Not 10) (drop at s)) ≡ at + run (Not 10) (drop at s) + 1 = omega arith in
+    rw (e, ← f, ← drop-drop (suc (run (Not 10) (drop at s))) at s) (first (drop at s) (omega (arith, length-drop at s)))
+  where
+    first : (l : List ℕ) → 0 < length l → linesOf l ≡ take (run (Not 10) l) l ∷ linesOf (drop (suc (run (Not 10) l)) l)
+    first [] k = absurd (omega arith)
+    first (b ∷ l) k = line-first b l
+
+-- the line that starts at a place, by where it ends
+module _ (s : List ℕ) (at end : ℕ) (inside : at < length s) (found : end ≡ lineEnd s at) where
+  pub lines-first : linesOf (drop at s) ≡ take (end - at) (drop at s) ∷ linesOf (drop (end + 1) s)
+  lines-first = rw found (lines-from s at inside)
+
+  pub next-start : at + length (take (end - at) (drop at s)) + 1 ≡ end + 1
+  next-start =
+      let i : end ≤ length s = rw found (skipped-within (Not 10) s at (omega arith)) in
+      let j : at ≤ end = rw found (skipped-from (Not 10) s at) in
+      let l = length-take-le (end - at) (drop at s) (omega (arith, length-drop at s)) in
+      omega (arith, l)

@@ -1,0 +1,330 @@
+-- What holds of each line that is read. An entry's command is some bytes of the line, and its unrestricted day fields have every
+-- value; a setting's name and value are parts of the line; a refusal has its number in paper 01.
+-- Assumes nothing.
+use mathlib.Core.Path.{_≡_, refl, sym, ap, _∙_}
+use mathlib.Core.Bool.{Bool, true, false, cond, not, _||_, true≢false}
+use mathlib.Core.List.{List, [], _∷_}
+use Prim.Native.Nat.{ℕ, _+_, _≤_, _<_}
+use native.Mathlib.Omega.{arith}
+use lib.ListN.{length, drop, getD, length-drop}
+use lib.Dec.{T, eqb, leb, ltb}
+use borrow.Author.Tests.{ltb-true, ltb-false, eqb-true, ne-eqb}
+use Rattle.calendar.proofs.Tests.{at-each}
+use Rattle.field.specs.declared.Limits.{Limits}
+use Rattle.field.specs.declared.Answer.{Answer}
+use Rattle.field.specs.declared.Answer.the-variants as answer
+use Rattle.field.specs.Limits.{minuteLimits, hourLimits, dayLimits, monthLimits, weekdayLimits}
+use Rattle.field.specs.Fields.{readField}
+use Rattle.field.proofs.Theorems.{day-full, weekday-full}
+use Rattle.schedule.specs.declared.Schedule.{Schedule}
+use Rattle.schedule.specs.Sets.{hasBit}
+use Rattle.schedule.specs.Gap.{Whole}
+use Rattle.crontab.specs.declared.When.{When}
+use Rattle.crontab.specs.declared.When.the-variants.{Reboot, Timed}
+use Rattle.crontab.specs.declared.class.Class.the-variants.{Blank, Solid, Name, Not}
+use Rattle.crontab.specs.declared.Entry.{Entry}
+use Rattle.crontab.specs.declared.Part.{Part}
+use Rattle.crontab.specs.declared.word.Word.{Word}
+use Rattle.crontab.specs.declared.word.Word.the-variants.{Known, Unknown}
+use Rattle.crontab.specs.declared.time.Values.{Values}
+use Rattle.crontab.specs.declared.time.Field.{Field}
+use Rattle.crontab.specs.declared.time.Field.the-variants.{Read, Refused}
+use Rattle.crontab.specs.declared.assignment.Text.{Text}
+use Rattle.crontab.specs.declared.assignment.Text.the-variants.{Found, Malformed}
+use Rattle.crontab.specs.declared.line.Fault.{Fault}
+use Rattle.crontab.specs.declared.line.Line.{Line}
+use Rattle.crontab.specs.declared.line.Line.the-variants as line
+use Rattle.crontab.specs.Bytes.{isQuote, skipped, trimmed, between}
+use Rattle.crontab.specs.Words.{same, Meaning, meanings, meaningIn, wordOf}
+use Rattle.crontab.specs.Entries.{withCommand, afterWord, wordEntry}
+use Rattle.crontab.specs.Times.{answered, fieldAt, afterMinute, afterHour, afterDay, afterMonth, afterWeekday, timedEntry}
+use Rattle.crontab.specs.Assignments.{quotedAt, nonEmpty, nameAt, closed, valueAt, afterEquals, afterName, settingLine}
+use Rattle.crontab.specs.Lines.{startsFields, contentFrom, contentOf, lineOf}
+use Rattle.crontab.proofs.Runs.{skipped-from, skipped-within, byte-within, trimmed-le}
+use Rattle.field.proofs.Refusals.{FieldNumber, field-number}
+use Rattle.crontab.proofs.Times.{fieldBytes, field-values}
+
+abbrev pub WholeTimes : When → Type 0
+WholeTimes Reboot = Unit {0}
+WholeTimes (Timed s) = Whole s
+
+-- an entry of n bytes
+pub record Sound (n : ℕ) (e : Entry) : Type 0 where
+  pub some : e .start < e .end
+  pub within : e .end ≤ n
+  pub times : WholeTimes (e .when)
+
+-- a part of n bytes
+pub record Inside (n : ℕ) (p : Part) : Type 0 where
+  pub order : p .start ≤ p .end
+  pub within : p .end ≤ n
+
+-- the refusals of lines
+pub record Numbered (n : ℕ) : Type 0 where
+  pub from : 1 ≤ n
+  pub to : n ≤ 11
+
+-- a line of n bytes
+abbrev pub Proper : ℕ → Line → Type 0
+Proper n line.Ignored = Unit {0}
+Proper n (line.Setting name value) = (n ≤ 1000) × (Inside n name) × (Inside n value)
+Proper n (line.Entry e) = (n ≤ 1000) × (Sound n e)
+Proper n (line.Refused fault) = Numbered (fault .number)
+
+-- ---- an `@` word
+
+is-true : (b : Bool) → T b → b ≡ true
+is-true true t = refl
+is-true false t = absurd t
+
+-- the sets of `*`
+all-days : (d : ℕ) → 1 ≤ d → d ≤ 31 → hasBit 4294967294 d ≡ true
+unfolding hasBit
+all-days d h k =
+    rw (ne-eqb d 0 (λ e. omega (arith, e))) at (is-true (test d) (at-each test 32 tt d (omega arith)))
+  where
+    test : ℕ → Bool
+    test d = eqb d 0 || hasBit 4294967294 d
+
+all-weekdays : (w : ℕ) → w < 7 → hasBit 127 w ≡ true
+unfolding hasBit
+all-weekdays w h = is-true (hasBit 127 w) (at-each (hasBit 127) 7 tt w h)
+
+AllWhole : List Meaning → Type 0
+AllWhole [] = Unit {0}
+AllWhole (m ∷ ms) = WholeTimes (m .when) × AllWhole ms
+
+some-days : (s : Schedule) → s .restricted .days ≡ true → s .weekdays ≡ 127 → Whole s
+some-days s d w = record { days = λ e. absurd (true≢false (sym d ∙ e)); weekdays = λ e. rw w all-weekdays }
+
+every-day : (s : Schedule) → s .days ≡ 4294967294 → s .weekdays ≡ 127 → Whole s
+every-day s d w = record { days = λ e. rw d all-days; weekdays = λ e. rw w all-weekdays }
+
+all-whole : AllWhole meanings
+unfolding AllWhole meanings
+all-whole = (
+  tt,
+  (
+    some-days _ refl refl,
+    (
+      some-days _ refl refl,
+      (
+        some-days _ refl refl,
+        (
+          record { days = λ e. all-days; weekdays = λ e. absurd (true≢false e) },
+          (every-day _ refl refl, (every-day _ refl refl, (every-day _ refl refl, tt))),
+        ),
+      ),
+    ),
+  ),
+)
+
+meaning-whole : (ms : List Meaning) (s : List ℕ) {when : When} → AllWhole ms → meaningIn ms s ≡ Known when → WholeTimes when
+unfolding AllWhole meaningIn
+meaning-whole [] s a q = absurd (let z : _≡_ {A = ℕ} 0 1 = cc in omega arith)
+meaning-whole (m ∷ ms) s {when} a q = go (same s (m .word)) q (meaning-whole ms s (a .1))
+  where
+    go : (t : Bool) → cond t (Known (m .when)) (meaningIn ms s) ≡ Known when → (meaningIn ms s ≡ Known when → WholeTimes when) → WholeTimes when
+    go true q later = let p : when ≡ m .when = cc in rw p (a .0)
+    go false q later = later q
+
+-- ---- the fields
+
+not-false : (b : Bool) → not b ≡ false → b ≡ true
+not-false true e = refl
+not-false false e = absurd (true≢false e)
+
+plain-star : (l : Limits) (s : List ℕ) (at : ℕ) {v : Values} → fieldAt l s at ≡ Read v → not (v .star) ≡ false
+    → readField l (at + 1) (fieldBytes s at) ≡ answer.Values (v .set) true
+plain-star l s at {v} p k = field-values l s at p ∙ ap (λ b. answer.Values (v .set) b) (not-false (v .star) k)
+
+WholeDays : Values → Type 0
+WholeDays v = not (v .star) ≡ false → (d : ℕ) → 1 ≤ d → d ≤ 31 → hasBit (v .set) d ≡ true
+
+abbrev FieldFault : Field → Type 0
+FieldFault (Read v) = Unit {0}
+FieldFault (Refused fault) = Numbered (fault .number)
+
+answered-fault : (a : Answer) (next : ℕ) → FieldNumber a → FieldFault (answered a next)
+unfolding answered
+answered-fault (answer.Values set star) next h = tt
+answered-fault (answer.Refused number column) next h = record { from = omega arith; to = omega arith }
+
+field-fault : (l : Limits) (s : List ℕ) (at : ℕ) → FieldFault (fieldAt l s at)
+unfolding fieldAt
+field-fault l s at = go (leb (length s) at)
+  where
+    go : (t : Bool)
+        → FieldFault (cond t (Refused (record { number = 4; column = length s + 1 })) (answered (readField l (at + 1) (fieldBytes s at)) (skipped Blank s (skipped Solid s at))))
+    go true = record { from = omega arith; to = omega arith }
+    go false = answered-fault _ _ (field-number l (at + 1) (fieldBytes s at))
+
+refused-number : {f : Field} {fault : Fault} → FieldFault f → f ≡ Refused fault → Numbered (fault .number)
+refused-number {f = Read v} h e = absurd (let z : _≡_ {A = ℕ} 0 1 = cc in omega arith)
+refused-number {f = Refused g} {fault} h e = let p : fault ≡ g = cc in rw p h
+
+-- ---- a line that is short enough
+
+module _ (s : List ℕ) (short : length s ≤ 1000) where
+  command-proper : (when : When) (start : ℕ) → WholeTimes when → Proper (length s) (withCommand s when start)
+  unfolding withCommand
+  command-proper when start w = go (ltb start (length s)) refl
+    where
+      go : (t : Bool) → ltb start (length s) ≡ t
+          → Proper (length s) (cond t (line.Entry (record { when = when; start = start; end = length s })) (line.Refused (record { number = 9; column = length s + 1 })))
+      go true p = (short, record { some = ltb-true _ _ p; within = omega arith; times = w })
+      go false p = record { from = omega arith; to = omega arith }
+
+  word-proper : (at : ℕ) → Proper (length s) (wordEntry s at)
+  unfolding wordEntry afterWord wordOf
+  word-proper at = go (wordOf (between s at (skipped Solid s at))) refl
+    where
+      go : (w : Word) → wordOf (between s at (skipped Solid s at)) ≡ w → Proper (length s) (afterWord s at (skipped Blank s (skipped Solid s at)) w)
+      go Unknown p = record { from = omega arith; to = omega arith }
+      go (Known when) p = command-proper when _ (meaning-whole meanings _ all-whole p)
+
+  weekday-proper : (at : ℕ) (minute hour day month : Values) (f : Field) → fieldAt weekdayLimits s at ≡ f → WholeDays day
+      → Proper (length s) (afterWeekday s minute hour day month f)
+  unfolding afterWeekday WholeDays
+  weekday-proper at minute hour day month (Refused fault) p d = refused-number (field-fault weekdayLimits s at) p
+  weekday-proper at minute hour day month (Read weekday) p d =
+      command-proper (Timed _) (weekday .next)
+      (record { days = d; weekdays = λ k w h. weekday-full _ _ (plain-star weekdayLimits s at p k) w h })
+
+  month-proper : (at : ℕ) (minute hour day : Values) (f : Field) → fieldAt monthLimits s at ≡ f → WholeDays day
+      → Proper (length s) (afterMonth s minute hour day f)
+  unfolding afterMonth
+  month-proper at minute hour day (Refused fault) p d = refused-number (field-fault monthLimits s at) p
+  month-proper at minute hour day (Read month) p d = weekday-proper (month .next) minute hour day month _ refl d
+
+  day-proper : (at : ℕ) (minute hour : Values) (f : Field) → fieldAt dayLimits s at ≡ f → Proper (length s) (afterDay s minute hour f)
+  unfolding afterDay WholeDays
+  day-proper at minute hour (Refused fault) p = refused-number (field-fault dayLimits s at) p
+  day-proper at minute hour (Read day) p =
+      month-proper (day .next) minute hour day _ refl (λ k. day-full _ _ (plain-star dayLimits s at p k))
+
+  hour-proper : (at : ℕ) (minute : Values) (f : Field) → fieldAt hourLimits s at ≡ f → Proper (length s) (afterHour s minute f)
+  unfolding afterHour
+  hour-proper at minute (Refused fault) p = refused-number (field-fault hourLimits s at) p
+  hour-proper at minute (Read hour) p = day-proper (hour .next) minute hour _ refl
+
+  minute-proper : (at : ℕ) (f : Field) → fieldAt minuteLimits s at ≡ f → Proper (length s) (afterMinute s f)
+  unfolding afterMinute
+  minute-proper at (Refused fault) p = refused-number (field-fault minuteLimits s at) p
+  minute-proper at (Read minute) p = hour-proper (minute .next) minute _ refl
+
+  -- ---- a setting
+
+  abbrev TextInside : Text → Type 0
+  TextInside Malformed = Unit {0}
+  TextInside (Found p next) = Inside (length s) p
+
+  quoted-inside : (at : ℕ) → TextInside (quotedAt s at)
+  unfolding quotedAt
+  quoted-inside at = go (ltb (skipped (Not (getD s at 0)) s (at + 1)) (length s)) refl
+    where
+      end : ℕ
+      end = skipped (Not (getD s at 0)) s (at + 1)
+
+      go : (t : Bool) → ltb end (length s) ≡ t → TextInside (cond t (Found (record { start = at + 1; end = end }) (end + 1)) Malformed)
+      go true p =
+          let h : end < length s = ltb-true _ _ p in
+          record { order = skipped-from _ s (at + 1); within = omega arith }
+      go false p = tt
+
+  non-empty-inside : (t : Text) → TextInside t → TextInside (nonEmpty t)
+  unfolding nonEmpty
+  non-empty-inside Malformed h = tt
+  non-empty-inside (Found p next) h = go (ltb (p .start) (p .end))
+    where
+      go : (t : Bool) → TextInside (cond t (Found p next) Malformed)
+      go true = h
+      go false = tt
+
+  closed-inside : (t : Text) → TextInside t → TextInside (closed s t)
+  unfolding closed
+  closed-inside Malformed h = tt
+  closed-inside (Found p next) h = go (leb (length s) (skipped Blank s next))
+    where
+      go : (t : Bool) → TextInside (cond t (Found p next) Malformed)
+      go true = h
+      go false = tt
+
+  name-inside : (at : ℕ) → at ≤ length s → TextInside (nameAt s at)
+  unfolding nameAt
+  name-inside at h = non-empty-inside _ (go (isQuote (getD s at 0)))
+    where
+      go : (t : Bool) → TextInside (cond t (quotedAt s at) (Found (record { start = at; end = skipped Name s at }) (skipped Name s at)))
+      go true = quoted-inside at
+      go false = record { order = skipped-from Name s at; within = skipped-within Name s at h }
+
+  value-inside : (at : ℕ) → at ≤ length s → TextInside (valueAt s at)
+  unfolding valueAt
+  value-inside at h = go (isQuote (getD s at 0))
+    where
+      go : (t : Bool) → TextInside (cond t (closed s (quotedAt s at)) (Found (record { start = at; end = at + trimmed (drop at s) }) (length s)))
+      go true = closed-inside _ (quoted-inside at)
+      go false = record { order = omega arith; within = omega (arith, trimmed-le (drop at s), length-drop at s) }
+
+  equals-proper : (at : ℕ) (name : Part) (v : Text) → Inside (length s) name → TextInside v → Proper (length s) (afterEquals at name v)
+  unfolding afterEquals
+  equals-proper at name Malformed n h = record { from = omega arith; to = omega arith }
+  equals-proper at name (Found value next) n h = (short, n, h)
+
+  name-proper : (at : ℕ) (t : Text) → TextInside t → Proper (length s) (afterName s at t)
+  unfolding afterName
+  name-proper at Malformed h = record { from = omega arith; to = omega arith }
+  name-proper at (Found name next) h = go (eqb (getD s equals 0) 61) refl
+    where
+      equals : ℕ
+      equals = skipped Blank s next
+
+      go : (b : Bool) → eqb (getD s equals 0) 61 ≡ b
+          → Proper (length s) (cond b (afterEquals at name (valueAt s (skipped Blank s (equals + 1)))) (line.Refused (record { number = 11; column = at + 1 })))
+      go true p =
+          let e : getD s equals 0 ≡ 61 = eqb-true _ _ p in
+          let k : equals < length s = byte-within s equals (omega arith) in
+          equals-proper at name _ h (value-inside _ (skipped-within Blank s (equals + 1) (omega arith)))
+      go false p = record { from = omega arith; to = omega arith }
+
+  -- ---- by the first byte that isn't blank
+
+  first-proper : (at first : ℕ) → at ≤ length s → Proper (length s) (contentFrom s at first)
+  unfolding contentFrom timedEntry settingLine
+  first-proper at first h = go (eqb first 35) (eqb first 64) (startsFields first)
+    where
+      go : (a b c : Bool) → Proper (length s) (cond a line.Ignored (cond b (wordEntry s at) (cond c (timedEntry s at) (settingLine s at))))
+      go true b c = tt
+      go false true c = word-proper at
+      go false false true = minute-proper at _ refl
+      go false false false = name-proper at _ (name-inside at h)
+
+  content-proper : Proper (length s) (contentOf s)
+  unfolding contentOf
+  content-proper = go (leb (length s) (skipped Blank s 0))
+    where
+      go : (a : Bool) → Proper (length s) (cond a line.Ignored (contentFrom s (skipped Blank s 0) (getD s (skipped Blank s 0) 0)))
+      go true = tt
+      go false = first-proper _ _ (skipped-within Blank s 0 (omega arith))
+
+-- ---- any line
+
+pub line-proper : (s : List ℕ) → Proper (length s) (lineOf s)
+unfolding lineOf
+line-proper s = go (ltb 1000 (length s)) (ltb (skipped (Not 0) s 0) (length s)) refl
+  where
+    go : (a b : Bool) → ltb 1000 (length s) ≡ a
+        → Proper (length s) (cond a (line.Refused (record { number = 2; column = 1001 })) (cond b (line.Refused (record { number = 3; column = skipped (Not 0) s 0 + 1 })) (contentOf s)))
+    go true b p = record { from = omega arith; to = omega arith }
+    go false true p = record { from = omega arith; to = omega arith }
+    go false false p = content-proper s (ltb-false _ _ p)
+
+pub entry-proper : (s : List ℕ) {e : Entry} → lineOf s ≡ line.Entry e → (length s ≤ 1000) × (Sound (length s) e)
+entry-proper s p = rw p at (line-proper s)
+
+pub setting-proper : (s : List ℕ) {name value : Part} → lineOf s ≡ line.Setting name value
+    → (length s ≤ 1000) × (Inside (length s) name) × (Inside (length s) value)
+setting-proper s p = rw p at (line-proper s)
+
+pub refused-proper : (s : List ℕ) {fault : Fault} → lineOf s ≡ line.Refused fault → Numbered (fault .number)
+refused-proper s p = rw p at (line-proper s)

@@ -1,0 +1,69 @@
+-- Laws of a table, line by line: what is left to read always gives the same answer.
+-- Assumes nothing.
+use mathlib.Core.Path.{_≡_, refl, sym, ap, _∙_}
+use mathlib.Core.Bool.{Bool, true, false, cond, not}
+use mathlib.Core.List.{List, [], _∷_}
+use Prim.Native.Nat.{ℕ, suc, _+_, _-_, _≤_, _<_}
+use native.Mathlib.Numerals.{add-one}
+use native.Mathlib.Omega.{arith}
+use lib.ListN.{length, take, drop, length-drop, drop-of-length-le}
+use lib.Seq.{length-take-le, drop-drop}
+use lib.Dec.{eqb}
+use borrow.Author.Tests.{lt-ltb, le-ltb}
+use Rattle.crontab.specs.declared.class.Class.the-variants.{Not}
+use Rattle.crontab.specs.declared.Entry.{Entry}
+use Rattle.crontab.specs.declared.Table.{Table}
+use Rattle.crontab.specs.declared.Part.{Part}
+use Rattle.crontab.specs.declared.line.Fault.{Fault}
+use Rattle.crontab.specs.declared.line.Line.the-variants.{Ignored, Setting, Refused}
+use Rattle.crontab.specs.declared.line.Line.the-variants as line
+use Rattle.crontab.specs.Bytes.{isIn, run, skipped}
+use Rattle.crontab.specs.Lines.{onto, linesOf, lineOf}
+use Rattle.crontab.specs.Tables.{refusedTable, emptyTable, placed, withEntry, afterLine, withLines, tableOf}
+use Rattle.crontab.proofs.Lines.{lineEnd, lines-first, next-start}
+
+-- ---- the table from a place on
+
+-- a table so far
+abbrev pub good : ℕ → List Entry → Table
+good count entries = record { refusal = 0; line = 0; column = 0; count = count; entries = entries }
+
+pub reading : List ℕ → Table → ℕ → ℕ → Table
+reading s t at n = withLines t at n (linesOf (drop at s))
+
+pub reading-end : (s : List ℕ) (t : Table) (at n : ℕ) → length s ≤ at → reading s t at n ≡ t
+unfolding reading withLines linesOf
+reading-end s t at n h = rw (drop-of-length-le s h)
+
+module _ (s : List ℕ) (t : Table) (at n end : ℕ) (inside : at < length s) (found : end ≡ lineEnd s at) where
+  abbrev bytes : List ℕ
+  bytes = take (end - at) (drop at s)
+
+  here : reading s t at n ≡ afterLine t at n (lineOf bytes) (λ u. reading s u (end + 1) (n + 1))
+  unfolding reading withLines
+  here = rw (lines-first s at end inside found, next-start s at end inside found)
+
+  pub reading-ignored : lineOf bytes ≡ Ignored → reading s t at n ≡ reading s t (end + 1) (n + 1)
+  unfolding afterLine
+  reading-ignored e = here ∙ rw e
+
+  pub reading-setting : {name value : Part} → lineOf bytes ≡ Setting name value → reading s t at n ≡ reading s t (end + 1) (n + 1)
+  unfolding afterLine
+  reading-setting e = here ∙ rw e
+
+  pub reading-refused : {f : Fault} → lineOf bytes ≡ Refused f → reading s t at n ≡ refusedTable (f .number) n (f .column)
+  unfolding afterLine
+  reading-refused e = here ∙ rw e
+
+  module _ {e : Entry} (is : lineOf bytes ≡ line.Entry e) where
+    pub reading-entry : t .count < 128 → reading s t at n ≡ reading s (withEntry t (placed at e)) (end + 1) (n + 1)
+    unfolding afterLine
+    reading-entry h = here ∙ rw (is, lt-ltb (t .count) 128 h)
+
+    pub reading-full : 128 ≤ t .count → reading s t at n ≡ refusedTable 12 n 1
+    unfolding afterLine
+    reading-full h = here ∙ rw (is, le-ltb (t .count) 128 h)
+
+pub reading-starts : (s : List ℕ) → length s ≤ 16384 → reading s emptyTable 0 1 ≡ tableOf s
+unfolding reading tableOf
+reading-starts s h = rw (le-ltb 16384 (length s) h)

@@ -1,0 +1,13 @@
+-- `crontab::by_line::refused` meets its contract.
+-- Assumes nothing.
+use mathlib.Core.Path.{refl}
+use Rattle.crontab.specs.Settings.{refusedSetting}
+use Rattle.crontab.proofs.by_line.refused.Statement.{statement}
+use Rattle.crontab.proofs.by_line.refused.Tie as tie
+
+returns : tie.Need-returns
+unfolding refusedSetting
+returns c = refl
+
+pub refused-spec : {M : Type 1} → statement M
+refused-spec = tie.close (tie.spec returns)

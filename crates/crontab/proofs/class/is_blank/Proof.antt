@@ -1,0 +1,13 @@
+-- `crontab::class::is_blank` meets its contract.
+-- Assumes nothing.
+use mathlib.Core.Path.{refl}
+use Rattle.crontab.specs.Bytes.{isBlank}
+use Rattle.crontab.proofs.class.is_blank.Statement.{statement}
+use Rattle.crontab.proofs.class.is_blank.Tie as tie
+
+returns : tie.Need-returns
+unfolding isBlank
+returns c = refl
+
+pub is-blank-spec : {M : Type 1} → statement M
+is-blank-spec = tie.close (tie.spec returns)

@@ -1,0 +1,17 @@
+-- `crontab::word::known_or` meets its contract.
+-- Assumes nothing.
+use borrow.Author.Needs.{needs}
+use Rattle.crontab.proofs.word.known_or.Statement.{statement}
+use Rattle.crontab.proofs.word.known_or.Tie as tie
+
+is-word-requires : tie.Need-is-word-requires
+is-word-requires c κs = search needs
+
+returns : tie.Need-returns
+returns c = rw (← (c .before .is-word .ensures), c .if1 .taken)
+
+returns-2 : tie.Need-returns-2
+returns-2 c = rw (← (c .before .is-word .ensures), c .if1 .left)
+
+pub known-or-spec : {M : Type 1} → statement M
+known-or-spec = tie.close (tie.spec is-word-requires returns returns-2)

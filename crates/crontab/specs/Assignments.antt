@@ -1,0 +1,61 @@
+-- Paper 01, "Setting": name, optional blanks, `=`, optional blanks, value. Any other line of this kind is refused at its first byte
+-- that isn't blank.
+-- Assumes nothing.
+use Prim.Native.Nat.{ℕ, _+_}
+use mathlib.Core.Bool.{cond}
+use mathlib.Core.List.{List}
+use lib.ListN.{length, drop, getD}
+use lib.Dec.{eqb, ltb, leb}
+use Rattle.crontab.specs.declared.class.Class.the-variants.{Blank, Name, Not}
+use Rattle.crontab.specs.declared.Part.{Part}
+use Rattle.crontab.specs.declared.assignment.Text.{Text}
+use Rattle.crontab.specs.declared.assignment.Text.the-variants.{Found, Malformed}
+use Rattle.crontab.specs.declared.line.Line.{Line}
+use Rattle.crontab.specs.declared.line.Line.the-variants.{Setting, Refused}
+use Rattle.crontab.specs.Limits.{badSetting}
+use Rattle.crontab.specs.Bytes.{equalsSign, isQuote, skipped, trimmed}
+
+-- from the quote at a place to the next quote of its kind
+unfoldable pub quotedAt : List ℕ → ℕ → Text
+quotedAt s at =
+    let end = skipped (Not (getD s at 0)) s (at + 1) in
+    cond (ltb end (length s)) (Found (record { start = at + 1; end = end }) (end + 1)) Malformed
+
+unfoldable pub nonEmpty : Text → Text
+nonEmpty Malformed = Malformed
+nonEmpty (Found p next) = cond (ltb (p .start) (p .end)) (Found p next) Malformed
+
+-- a bare name has one or more bytes, none of them blank, `=` or a quote; a quoted one isn't empty
+unfoldable pub nameAt : List ℕ → ℕ → Text
+nameAt s at =
+    let end = skipped Name s at in
+    nonEmpty (cond (isQuote (getD s at 0)) (quotedAt s at) (Found (record { start = at; end = end }) end))
+
+-- only blanks after it
+unfoldable pub closed : List ℕ → Text → Text
+closed s Malformed = Malformed
+closed s (Found p next) = cond (leb (length s) (skipped Blank s next)) (Found p next) Malformed
+
+-- a value that starts with a quote ends at the next of that kind; any other is the rest of the line without trailing blanks
+unfoldable pub valueAt : List ℕ → ℕ → Text
+valueAt s at =
+    cond (isQuote (getD s at 0))
+    (closed s (quotedAt s at))
+    (Found (record { start = at; end = at + trimmed (drop at s) }) (length s))
+
+-- ---- the setting whose name starts at a place
+
+unfoldable pub afterEquals : ℕ → Part → Text → Line
+afterEquals at name Malformed = Refused (record { number = badSetting; column = at + 1 })
+afterEquals at name (Found value next) = Setting name value
+
+unfoldable pub afterName : List ℕ → ℕ → Text → Line
+afterName s at Malformed = Refused (record { number = badSetting; column = at + 1 })
+afterName s at (Found name next) =
+    let equals = skipped Blank s next in
+    cond (eqb (getD s equals 0) equalsSign)
+    (afterEquals at name (valueAt s (skipped Blank s (equals + 1))))
+    (Refused (record { number = badSetting; column = at + 1 }))
+
+unfoldable pub settingLine : List ℕ → ℕ → Line
+settingLine s at = afterName s at (nameAt s at)

@@ -1,0 +1,10 @@
+pub mod Limits
+pub mod Bytes
+pub mod Assignments
+pub mod Words
+pub mod Entries
+pub mod Times
+pub mod Lines
+pub mod Tables
+pub mod Answers
+pub mod Settings

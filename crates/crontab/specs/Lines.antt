@@ -1,0 +1,62 @@
+-- Paper 01, "A table, line by line": what one line is, by its bytes without the newline. Places count from 0, columns from 1.
+-- Assumes nothing.
+use Prim.Native.Nat.{ℕ, _+_}
+use mathlib.Core.Bool.{Bool, cond, _||_}
+use mathlib.Core.List.{List, [], _∷_}
+use lib.ListN.{length, getD}
+use lib.Dec.{eqb, leb, ltb}
+use Rattle.field.specs.Numbers.{isDigit}
+use Rattle.field.specs.Fields.{asterisk}
+use Rattle.crontab.specs.declared.class.Class.the-variants.{Blank, Not}
+use Rattle.crontab.specs.declared.line.Line.{Line}
+use Rattle.crontab.specs.declared.line.Line.the-variants.{Ignored, Refused}
+use Rattle.crontab.specs.Limits.{maxLine, lineTooLong, nulByte}
+use Rattle.crontab.specs.Bytes.{skipped}
+use Rattle.crontab.specs.Assignments.{settingLine}
+use Rattle.crontab.specs.Entries.{wordEntry}
+use Rattle.crontab.specs.Times.{timedEntry}
+
+-- ---- the lines of a table
+
+abbrev pub newline : ℕ
+newline = 10
+
+unfoldable pub onto : ℕ → List (List ℕ) → List (List ℕ)
+onto b [] = (b ∷ []) ∷ []
+onto b (line ∷ lines) = (b ∷ line) ∷ lines
+
+-- a newline ends a line, and the bytes after the last one are a line if there are any
+unfoldable pub linesOf : List ℕ → List (List ℕ)
+linesOf [] = []
+linesOf (b ∷ s) = let later = linesOf s in cond (eqb b newline) ([] ∷ later) (onto b later)
+
+-- ---- one line
+
+-- `#`
+abbrev pub hash : ℕ
+hash = 35
+
+-- `@`
+abbrev pub atSign : ℕ
+atSign = 64
+
+unfoldable pub startsFields : ℕ → Bool
+startsFields b = eqb b asterisk || isDigit b
+
+-- by its first byte that isn't blank
+unfoldable pub contentFrom : List ℕ → ℕ → ℕ → Line
+contentFrom s at first =
+    cond (eqb first hash)
+    Ignored
+    (cond (eqb first atSign) (wordEntry s at) (cond (startsFields first) (timedEntry s at) (settingLine s at)))
+
+-- leading blanks are skipped, and an empty rest is ignored
+unfoldable pub contentOf : List ℕ → Line
+contentOf s = let at = skipped Blank s 0 in cond (leb (length s) at) Ignored (contentFrom s at (getD s at 0))
+
+unfoldable pub lineOf : List ℕ → Line
+lineOf s =
+    let nul = skipped (Not 0) s 0 in
+    cond (ltb maxLine (length s))
+    (Refused (record { number = lineTooLong; column = maxLine + 1 }))
+    (cond (ltb nul (length s)) (Refused (record { number = nulByte; column = nul + 1 })) (contentOf s))

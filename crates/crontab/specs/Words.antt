@@ -1,0 +1,72 @@
+-- Paper 01: "Words, in this case only": `@reboot`, and seven that stand for five fields. `specs.Examples` checks that the
+-- schedules are what those fields read to.
+-- Assumes nothing.
+use Prim.Native.Nat.{ℕ}
+use mathlib.Core.Bool.{Bool, true, false, cond, _&&_}
+use mathlib.Core.List.{List, [], _∷_}
+use lib.Dec.{eqb}
+use Rattle.schedule.specs.declared.Schedule.{Schedule}
+use Rattle.crontab.specs.declared.When.{When}
+use Rattle.crontab.specs.declared.When.the-variants.{Reboot, Timed}
+use Rattle.crontab.specs.declared.word.Word.{Word}
+use Rattle.crontab.specs.declared.word.Word.the-variants.{Known, Unknown}
+
+unfoldable pub same : List ℕ → List ℕ → Bool
+same [] [] = true
+same (b ∷ s) (x ∷ word) = eqb b x && same s word
+same [] (x ∷ word) = false
+same (b ∷ s) [] = false
+
+-- ---- the schedules
+
+-- `0 0 1 1 *`
+abbrev pub yearly : Schedule
+yearly =
+    record { minutes = 1; hours = 1; days = 2; months = 2; weekdays = 127; restricted = record { days = true; weekdays = false } }
+
+-- `0 0 1 * *`
+abbrev pub monthly : Schedule
+monthly =
+    record { minutes = 1; hours = 1; days = 2; months = 8190; weekdays = 127; restricted = record { days = true; weekdays = false } }
+
+-- `0 0 * * 0`
+abbrev pub weekly : Schedule
+weekly =
+    record { minutes = 1; hours = 1; days = 4294967294; months = 8190; weekdays = 1; restricted = record { days = false; weekdays = true } }
+
+-- `0 0 * * *`
+abbrev pub daily : Schedule
+daily =
+    record { minutes = 1; hours = 1; days = 4294967294; months = 8190; weekdays = 127; restricted = record { days = false; weekdays = false } }
+
+-- `0 * * * *`
+abbrev pub hourly : Schedule
+hourly =
+    record { minutes = 1; hours = 16777215; days = 4294967294; months = 8190; weekdays = 127; restricted = record { days = false; weekdays = false } }
+
+-- ---- the words
+
+pub record Meaning : Type 0 where
+  pub word : List ℕ
+  pub when : When
+
+-- @reboot, @yearly, @annually, @monthly, @weekly, @daily, @midnight, @hourly
+unfoldable pub meanings : List Meaning
+meanings =
+    record { word = 64 ∷ 114 ∷ 101 ∷ 98 ∷ 111 ∷ 111 ∷ 116 ∷ []; when = Reboot }
+    ∷ record { word = 64 ∷ 121 ∷ 101 ∷ 97 ∷ 114 ∷ 108 ∷ 121 ∷ []; when = Timed yearly }
+    ∷ record { word = 64 ∷ 97 ∷ 110 ∷ 110 ∷ 117 ∷ 97 ∷ 108 ∷ 108 ∷ 121 ∷ []; when = Timed yearly }
+    ∷ record { word = 64 ∷ 109 ∷ 111 ∷ 110 ∷ 116 ∷ 104 ∷ 108 ∷ 121 ∷ []; when = Timed monthly }
+    ∷ record { word = 64 ∷ 119 ∷ 101 ∷ 101 ∷ 107 ∷ 108 ∷ 121 ∷ []; when = Timed weekly }
+    ∷ record { word = 64 ∷ 100 ∷ 97 ∷ 105 ∷ 108 ∷ 121 ∷ []; when = Timed daily }
+    ∷ record { word = 64 ∷ 109 ∷ 105 ∷ 100 ∷ 110 ∷ 105 ∷ 103 ∷ 104 ∷ 116 ∷ []; when = Timed daily }
+    ∷ record { word = 64 ∷ 104 ∷ 111 ∷ 117 ∷ 114 ∷ 108 ∷ 121 ∷ []; when = Timed hourly }
+    ∷ []
+
+-- the meaning of a word in a row of words
+unfoldable pub meaningIn : List Meaning → List ℕ → Word
+meaningIn [] s = Unknown
+meaningIn (m ∷ ms) s = let later = meaningIn ms s in cond (same s (m .word)) (Known (m .when)) later
+
+unfoldable pub wordOf : List ℕ → Word
+wordOf s = meaningIn meanings s

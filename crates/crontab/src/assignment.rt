@@ -1,0 +1,120 @@
+// A setting: a name, `=` and a value.
+ghost use mathlib.Core.Path.{_≡_};
+ghost use Prim.Native.Nat.{_≤_, _<_};
+ghost use lib.ListN.{length};
+ghost use Rattle.crontab.specs.Assignments.{quotedAt, nonEmpty, nameAt, closed, valueAt, settingLine};
+use crate::BAD_SETTING;
+use crate::Part;
+use crate::class::Class;
+use crate::class::byte_at;
+use crate::class::is_quote;
+use crate::class::skip;
+use crate::class::trimmed_end;
+use crate::line::Fault;
+use crate::line::Line;
+
+// A name or a value: where it stands, and where the line goes on after it.
+pub(crate) enum Text {
+    Found { part: Part, next: usize },
+    Malformed,
+}
+
+// The text from a quote to the next quote of its kind.
+fn quoted(s: &[u8], at: usize) -> Text
+    requires { ⌜ at < length (now s) ⌝ }
+    ensures { λ r. ⌜ r ≡ quotedAt (now (s .entry)) at ⌝ }
+{
+    let start = at + 1;
+    let end = skip(s, start, Class::Not(s[at]));
+    if end < s.len() {
+        return Text::Found {
+            part: Part { start, end },
+            next: end + 1,
+        };
+    }
+    Text::Malformed
+}
+
+fn non_empty(text: Text) -> Text
+    ensures { λ r. ⌜ r ≡ nonEmpty text ⌝ }
+{
+    let Text::Found { part, next: _ } = text else {
+        return text;
+    };
+    if part.start < part.end {
+        return text;
+    }
+    Text::Malformed
+}
+
+// The name that starts at a place.
+fn name_at(s: &[u8], at: usize) -> Text
+    requires { ⌜ at < length (now s) ⌝ }
+    ensures { λ r. ⌜ r ≡ nameAt (now (s .entry)) at ⌝ }
+{
+    if is_quote(s[at]) {
+        return non_empty(quoted(s, at));
+    }
+    let end = skip(s, at, Class::Name);
+    non_empty(Text::Found {
+        part: Part { start: at, end },
+        next: end,
+    })
+}
+
+// A text after which the line has only blanks.
+fn closed(s: &[u8], text: Text) -> Text
+    ensures { λ r. ⌜ r ≡ closed (now (s .entry)) text ⌝ }
+{
+    let Text::Found { part: _, next } = text else {
+        return text;
+    };
+    if s.len() <= skip(s, next, Class::Blank) {
+        return text;
+    }
+    Text::Malformed
+}
+
+// The value that starts at a place.
+fn value_at(s: &[u8], at: usize) -> Text
+    requires { ⌜ at ≤ length (now s) ⌝ }
+    ensures { λ r. ⌜ r ≡ valueAt (now (s .entry)) at ⌝ }
+{
+    if is_quote(byte_at(s, at)) {
+        return closed(s, quoted(s, at));
+    }
+    Text::Found {
+        part: Part {
+            start: at,
+            end: trimmed_end(s, at),
+        },
+        next: s.len(),
+    }
+}
+
+// The setting whose name starts at a place.
+pub(crate) fn read(s: &[u8], at: usize) -> Line
+    requires { ⌜ at < length (now s) ⌝ }
+    ensures { λ r. ⌜ r ≡ settingLine (now (s .entry)) at ⌝ }
+{
+    let refused = Line::Refused(Fault {
+        number: BAD_SETTING,
+        column: at + 1,
+    });
+    let Text::Found { part: name, next } = name_at(s, at) else {
+        return refused;
+    };
+    let equals = skip(s, next, Class::Blank);
+    if byte_at(s, equals) != b'=' {
+        return refused;
+    }
+    let start = skip(s, equals + 1, Class::Blank);
+    let Text::Found {
+        part: value,
+        next: _,
+    } = value_at(s, start)
+    else {
+        return refused;
+    };
+    Line::Setting { name, value }
+}

@@ -1,0 +1,94 @@
+// The five time fields of an entry, left to right.
+ghost use mathlib.Core.Path.{_≡_};
+ghost use Prim.Native.Nat.{_≤_};
+ghost use lib.ListN.{length};
+ghost use Rattle.crontab.specs.Limits.{maxLine};
+ghost use Rattle.crontab.specs.Times.{fieldAt, timedEntry};
+use crate::TOO_FEW_FIELDS;
+use crate::When;
+use crate::class::Class;
+use crate::class::skip;
+use crate::line;
+use crate::line::Fault;
+use crate::line::Line;
+use field::Answer;
+use field::Limits;
+use schedule::Restricted;
+use schedule::Schedule;
+
+// What a field of a line says, and where the line goes on after its blanks.
+pub(crate) struct Values {
+    pub set: u64,
+    pub star: bool,
+    pub next: usize,
+}
+
+pub(crate) enum Field {
+    Read(Values),
+    Refused(Fault),
+}
+
+// The field that starts at a place.
+fn field_at(s: &[u8], at: usize, limits: Limits) -> Field
+    requires { ⌜ length (now s) ≤ maxLine ⌝ }
+    ensures { λ r. ⌜ r ≡ fieldAt limits (now (s .entry)) at ⌝ }
+{
+    if s.len() <= at {
+        return Field::Refused(Fault {
+            number: TOO_FEW_FIELDS,
+            column: s.len() + 1,
+        });
+    }
+    let end = skip(s, at, Class::Solid);
+    let answer = field::read(&s[at..end], (at + 1) as u32, limits);
+    match answer {
+        Answer::Values { set, star } => Field::Read(Values {
+            set,
+            star,
+            next: skip(s, end, Class::Blank),
+        }),
+        Answer::Refused { number, column } => Field::Refused(Fault {
+            number,
+            column: column as usize,
+        }),
+    }
+}
+
+// The entry whose first field starts at a place.
+pub(crate) fn read(s: &[u8], at: usize) -> Line
+    requires { ⌜ length (now s) ≤ maxLine ⌝ }
+    ensures { λ r. ⌜ r ≡ timedEntry (now (s .entry)) at ⌝ }
+{
+    let minute = match field_at(s, at, field::MINUTE) {
+        Field::Read(values) => values,
+        Field::Refused(fault) => return Line::Refused(fault),
+    };
+    let hour = match field_at(s, minute.next, field::HOUR) {
+        Field::Read(values) => values,
+        Field::Refused(fault) => return Line::Refused(fault),
+    };
+    let day = match field_at(s, hour.next, field::DAY) {
+        Field::Read(values) => values,
+        Field::Refused(fault) => return Line::Refused(fault),
+    };
+    let month = match field_at(s, day.next, field::MONTH) {
+        Field::Read(values) => values,
+        Field::Refused(fault) => return Line::Refused(fault),
+    };
+    let weekday = match field_at(s, month.next, field::WEEKDAY) {
+        Field::Read(values) => values,
+        Field::Refused(fault) => return Line::Refused(fault),
+    };
+    let schedule = Schedule {
+        minutes: minute.set,
+        hours: hour.set as u32,
+        days: day.set as u32,
+        months: month.set as u16,
+        weekdays: weekday.set as u8,
+        restricted: Restricted {
+            days: !day.star,
+            weekdays: !weekday.star,
+        },
+    };
+    line::with_command(s, When::Timed(schedule), weekday.next)
+}

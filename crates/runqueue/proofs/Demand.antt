@@ -1,0 +1,65 @@
+-- The third demand holds: fifo's theorem of fairness, with the reader's promise that free day fields have every value and the
+-- schedule's gap.
+-- Assumes nothing.
+use mathlib.Core.Path.{_≡_, refl, sym, ap, subst, _∙_}
+use mathlib.Core.Bool.{Bool, true, false, true≢false}
+use mathlib.Core.List.{List}
+use Prim.Native.Nat.{ℕ, _+_, _≤_, _<_}
+use native.Mathlib.Omega.{arith}
+use borrow.Author.Tests.{lt-ltb}
+use Rattle.calendar.specs.Dates.{lastMinute, cycleMinutes}
+use Rattle.schedule.specs.declared.Schedule.{Schedule}
+use Rattle.schedule.specs.Match.{matches}
+use Rattle.schedule.specs.Next.{canFire}
+use Rattle.schedule.specs.Gap.{gap, Whole}
+use Rattle.schedule.proofs.Search.{from-some}
+use Rattle.schedule.proofs.Gap.{fires-within}
+use Rattle.crontab.specs.declared.When.{When}
+use Rattle.crontab.specs.declared.When.the-variants.{Reboot, Timed}
+use Rattle.crontab.specs.Tables.{blankEntry, tableOf}
+use Rattle.crontab.specs.Answers.{firesAt}
+use Rattle.crontab.proofs.Proper.{WholeTimes}
+use Rattle.crontab.proofs.Theorems.{table-sound}
+use Rattle.fifo.specs.Layout.{limit}
+use Rattle.fifo.specs.Fairness.{Recurs}
+use Rattle.fifo.proofs.Fair.{fair}
+use Rattle.fifo.proofs.Refusals.{refused-only}
+use Rattle.fifo.proofs.Buffer.{fair-in-buffer}
+use Rattle.runqueue.specs.Jobs.{isBoot, whenOf, jobsOf}
+use Rattle.runqueue.specs.Demand.{jobsIn, CanFire, TableFair, TableRefusedOnly, TableFairInBuffer}
+
+fires : (s : Schedule) (m : ℕ) → m < cycleMinutes → matches s m ≡ true → canFire s ≡ true
+unfolding canFire
+fires s m h t = lt-ltb _ _ (from-some (matches s) cycleMinutes 0 m (omega arith) h t)
+
+-- an entry that can fire has a match in every window of the gap
+recurs : (table : List ℕ) (e : ℕ) → CanFire table e → Recurs (jobsIn table) gap e
+unfolding jobsOf isBoot firesAt whenOf
+recurs table e f = go (whenOf (tableOf table) e) refl (f .timed) (f .matched)
+  where
+    whole : {s : Schedule} → whenOf (tableOf table) e ≡ Timed s → Whole s
+    whole p = subst WholeTimes p (table-sound table .each e (f .entry) .times)
+
+    go : (w : When) → whenOf (tableOf table) e ≡ w → isBoot w ≡ false → firesAt w (f .minute) ≡ true
+        → (t : ℕ) → t + gap ≤ lastMinute → (m : ℕ) × (t < m) × (m ≤ t + gap) × (firesAt (whenOf (tableOf table) e) m ≡ true)
+    go Reboot p b m t h = absurd (true≢false b)
+    go (Timed s) p b m t h =
+        let (n, u, v, x) = fires-within s (whole p) (fires s (f .minute) (f .cycle) m) t h in
+        (n, u, v, rw p x)
+
+few : (table : List ℕ) → jobsIn table .count < limit
+unfolding jobsOf
+few table = omega (arith, table-sound table .few)
+
+-- the third demand
+pub table-fair : TableFair
+unfolding jobsOf
+table-fair table e t first second f = fair (jobsIn table) gap e t first second (few table) (f .entry) (f .timed) (recurs table e f)
+
+pub table-refused-only : TableRefusedOnly
+table-refused-only table cs = refused-only (jobsIn table) cs (few table)
+
+pub table-fair-in-buffer : TableFairInBuffer
+unfolding jobsOf
+table-fair-in-buffer table e t size buffer first second f =
+    fair-in-buffer (jobsIn table) gap e t size buffer first second (few table) (f .entry) (f .timed) (recurs table e f)

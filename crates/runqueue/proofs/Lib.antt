@@ -1,0 +1,3 @@
+pub mod Whens
+pub mod Exits
+pub mod Demand

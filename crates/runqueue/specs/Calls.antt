@@ -1,0 +1,35 @@
+-- The run queue's three calls by table bytes and room. The table's own refusal comes first, and then the room stays as it was;
+-- 28 and 14 come after it, as the steps of `fifo` have them.
+-- Assumes nothing.
+use Prim.Native.Nat.{ℕ}
+use mathlib.Core.Bool.{cond}
+use mathlib.Core.List.{List}
+use lib.Dec.{eqb}
+use Rattle.crontab.specs.declared.Table.{Table}
+use Rattle.crontab.specs.Tables.{tableOf}
+use Rattle.fifo.specs.declared.Ticked.{Ticked}
+use Rattle.fifo.specs.declared.Popped.{Popped}
+use Rattle.fifo.specs.declared.Ticked.the-variants.{Refused as NotTicked}
+use Rattle.fifo.specs.declared.Popped.the-variants.{Refused as NotPopped}
+use Rattle.fifo.specs.Steps.{Step, initStep, tickStep, popStep}
+use Rattle.runqueue.specs.Jobs.{jobsOf}
+
+-- a fresh line (init), an announcement (tick) and a request (pop)
+unfoldable pub initIn : Table → List ℕ → Step Ticked
+initIn t room = cond (eqb (t .refusal) 0) (initStep (jobsOf t) room) (record { answer = NotTicked (t .refusal); room = room })
+
+unfoldable pub tickIn : Table → ℕ → List ℕ → Step Ticked
+tickIn t minute room =
+    cond (eqb (t .refusal) 0) (tickStep (jobsOf t) minute room) (record { answer = NotTicked (t .refusal); room = room })
+
+unfoldable pub popIn : Table → List ℕ → Step Popped
+popIn t room = cond (eqb (t .refusal) 0) (popStep (t .count) room) (record { answer = NotPopped (t .refusal); room = room })
+
+unfoldable pub initOf : List ℕ → List ℕ → Step Ticked
+initOf table room = initIn (tableOf table) room
+
+unfoldable pub tickOf : List ℕ → ℕ → List ℕ → Step Ticked
+tickOf table minute room = tickIn (tableOf table) minute room
+
+unfoldable pub popOf : List ℕ → List ℕ → Step Popped
+popOf table room = popIn (tableOf table) room

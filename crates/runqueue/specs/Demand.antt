@@ -1,0 +1,58 @@
+-- The third demand for tables: one claim about whole lists of calls, made of the steps that `init`, `tick` and `pop` promise
+-- (`initOf`, `tickOf`, `popOf` of Calls are those steps with the table's own refusal before them). The words of the claim are
+-- those of fifo's Fairness, whose header lays the demand beside them sentence by sentence; here the jobs are a table's, the
+-- calendar ends with its last minute, and the gap is the schedule's. That the claims hold is proved in proofs/Demand.
+--   "a table of N entries and a time-based entry in it that some minute of the cycle matches"
+--       `e < jobs .count`, `jobs .boot e ≡ false`, and a minute below 210,379,680 that matches.
+--   "up to minute t + 4,206,240 + N - 1, which must be on the calendar"
+--       `t + span jobs gap ≤ lastMinute`.
+-- Assumes nothing.
+use mathlib.Core.Path.{_≡_}
+use Prim.Native.Nat.{ℕ, _+_, _≤_, _<_}
+use mathlib.Core.Bool.{true, false}
+use mathlib.Core.List.{List, _++_}
+use lib.ListN.{take}
+use Rattle.calendar.specs.Dates.{lastMinute, cycleMinutes}
+use Rattle.schedule.specs.Gap.{gap}
+use Rattle.crontab.specs.Tables.{tableOf}
+use Rattle.fifo.specs.Layout.{roomy}
+use Rattle.fifo.specs.Steps.{Jobs, fresh}
+use Rattle.fifo.specs.Fairness.{Call, Follows, unrefused, Paced, upTo, Names, span}
+use Rattle.fifo.specs.Refusals.{Expected}
+use Rattle.fifo.specs.Buffer.{Use, callsOn, endOf, started}
+use Rattle.runqueue.specs.Jobs.{jobsOf}
+
+-- the jobs that a table's bytes say
+abbrev pub jobsIn : List ℕ → Jobs
+jobsIn table = jobsOf (tableOf table)
+
+-- a time-based entry that some minute of the cycle matches
+pub record CanFire (table : List ℕ) (e : ℕ) : Type 0 where
+  pub entry : e < jobsIn table .count
+  pub timed : jobsIn table .boot e ≡ false
+  pub minute : ℕ
+  pub cycle : minute < cycleMinutes
+  pub matched : jobsIn table .matches e minute ≡ true
+
+abbrev pub TableFair : Type 0
+TableFair = (table : List ℕ) (e t : ℕ) (first second : List Call)
+    → let jobs = jobsIn table in
+    CanFire table e
+    → Follows jobs (fresh jobs) (first ++ second)
+    → t + span jobs gap ≤ lastMinute
+    → Paced (t + 1) (span jobs gap) true (unrefused jobs second)
+    → Names jobs e (upTo (span jobs gap) (unrefused jobs second))
+
+-- in a list from the fresh line a call is refused only with 28 for too small a room or 14 for a minute off the calendar
+abbrev pub TableRefusedOnly : Type 0
+TableRefusedOnly = (table : List ℕ) (cs : List Call) → Follows (jobsIn table) (fresh (jobsIn table)) cs → Expected (jobsIn table) cs
+
+-- the same claim for one buffer, of which each call is lent the first bytes
+abbrev pub TableFairInBuffer : Type 0
+TableFairInBuffer = (table : List ℕ) (e t : ℕ) (size : ℕ) (buffer : List ℕ) (first second : List Use)
+    → let jobs = jobsIn table in
+    CanFire table e
+    → roomy (jobs .count) (take size buffer) ≡ true
+    → t + span jobs gap ≤ lastMinute
+    → let calls = unrefused jobs (callsOn jobs (endOf jobs (started jobs size buffer) first) second) in
+    Paced (t + 1) (span jobs gap) true calls → Names jobs e (upTo (span jobs gap) calls)

@@ -1,0 +1,3 @@
+pub mod Jobs
+pub mod Calls
+pub mod Demand

@@ -1,0 +1,149 @@
+// The line of waiting jobs of a table (paper 01), by table bytes and the room that holds the line: a fresh line (init), an
+// announced minute (tick) and a request (pop).
+ghost use mathlib.Core.Path.{_≡_};
+ghost use mathlib.Core.Bool.{true, not, cond, _&&_};
+ghost use Prim.Native.Nat.{_≤_};
+ghost use mathlib.Core.List.{[]};
+ghost use lib.ListN.{length};
+ghost use Rattle.calendar.specs.Dates.{dateAt};
+ghost use Rattle.fifo.specs.Line.{pick};
+ghost use Rattle.fifo.specs.Layout.{lineOf, laid, roomy, isLine};
+ghost use Rattle.fifo.specs.Steps.{joins, ticked, fresh, canPush, pushed, canJoin, joined};
+ghost use Rattle.crontab.specs.Answers.{firesAt};
+ghost use Rattle.runqueue.specs.Jobs.{isBoot, jobsOf};
+ghost use Rattle.runqueue.specs.Calls.{initOf, tickOf, popOf};
+
+use calendar::Date;
+use crontab::firing;
+use crontab::Table;
+use crontab::When;
+use fifo::Popped;
+use fifo::Ticked;
+
+const LAST_MINUTE: u64 = 4_223_371_679;
+
+fn is_boot(when: When) -> bool
+    ensures { λ r. ⌜ r ≡ isBoot when ⌝ }
+{
+    match when {
+        When::Reboot => true,
+        When::Timed(_) => false,
+    }
+}
+
+// A boot job goes to the back of the line: how many joined, 1 or 0.
+fn enlist(room: &mut [u8], e: u16, when: When) -> usize
+    ensures answer { λ r. ⌜ r ≡ cond (isBoot when && canPush (now (room .entry))) 1 0 ⌝ }
+    ensures room { λ _. ⌜ now (room .exit) ≡ cond (isBoot when) (pushed e (now (room .entry))) (now (room .entry)) ⌝ }
+    ensures small { λ r. ⌜ r ≤ 1 ⌝ }
+{
+    if is_boot(when) {
+        if fifo::push(room, e) {
+            return 1;
+        }
+        return 0;
+    }
+    0
+}
+
+// An entry that is due and doesn't wait goes to the back of the line: how many joined, 1 or 0.
+fn offer(room: &mut [u8], e: u16, when: When, minute: u64, date: Date) -> usize
+    requires { ⌜ date ≡ dateAt minute ⌝ }
+    ensures answer { λ r. ⌜ r ≡ cond (not (isBoot when) && firesAt when minute && canJoin e (now (room .entry))) 1 0 ⌝ }
+    ensures room { λ _. ⌜ now (room .exit) ≡ cond (not (isBoot when) && firesAt when minute) (joined e (now (room .entry))) (now (room .entry)) ⌝ }
+    ensures small { λ r. ⌜ r ≤ 1 ⌝ }
+{
+    if firing::fires_on(when, date) {
+        if fifo::join(room, e) {
+            return 1;
+        }
+        return 0;
+    }
+    0
+}
+
+// The boot jobs join an empty line in file order. Answers how many there are.
+fn enlist_all(t: Table, room: &mut [u8]) -> usize
+    requires { ⌜ (t .count ≤ 128) × (roomy (t .count) (now room) ≡ true) × (now room ≡ laid [] (now room)) ⌝ }
+    ensures answer { λ r. ⌜ r ≡ length (fresh (jobsOf t)) ⌝ }
+    ensures room { λ _. ⌜ now (room .exit) ≡ laid (fresh (jobsOf t)) (now (room .entry)) ⌝ }
+{
+    let n = t.count;
+    let mut count = 0;
+    let mut i = 0;
+    while i < n {
+        let entry = t.entries[i];
+        let when = entry.when;
+        count += enlist(room, i as u16, when);
+        i += 1;
+    }
+    count
+}
+
+// Offers each entry in file order. Answers how many joined.
+fn offer_all(t: Table, room: &mut [u8], minute: u64, date: Date) -> usize
+    requires { ⌜ (t .count ≤ 128) × (isLine (t .count) (now room) ≡ true) × (date ≡ dateAt minute) ⌝ }
+    ensures answer { λ r. ⌜ r ≡ length (pick (joins (jobsOf t) minute (lineOf (now (room .entry)))) (t .count)) ⌝ }
+    ensures room { λ _. ⌜ now (room .exit) ≡ laid (ticked (jobsOf t) minute (lineOf (now (room .entry)))) (now (room .entry)) ⌝ }
+{
+    let n = t.count;
+    let mut count = 0;
+    let mut i = 0;
+    while i < n {
+        let entry = t.entries[i];
+        let when = entry.when;
+        count += offer(room, i as u16, when, minute, date);
+        i += 1;
+    }
+    count
+}
+
+// A fresh line of a table, whatever the room held: the boot jobs in file order. Answers how many wait.
+pub fn init(table: &[u8], room: &mut [u8]) -> Ticked
+    ensures answer { λ r. ⌜ r ≡ initOf (now (table .entry)) (now (room .entry)) .answer ⌝ }
+    ensures room { λ _. ⌜ now (room .exit) ≡ initOf (now (table .entry)) (now (room .entry)) .room ⌝ }
+{
+    let t = crontab::read(table);
+    let refusal = t.refusal;
+    if refusal != 0 {
+        return Ticked::Refused(refusal);
+    }
+    if fifo::has_room(room, t.count) {
+        fifo::clear(room);
+        return Ticked::Joined(enlist_all(t, room));
+    }
+    Ticked::Refused(fifo::NOT_A_LINE)
+}
+
+// Announces a minute: each time-based entry that matches it and doesn't wait joins in file order. Answers how many joined.
+pub fn tick(table: &[u8], room: &mut [u8], minute: u64) -> Ticked
+    ensures answer { λ r. ⌜ r ≡ tickOf (now (table .entry)) minute (now (room .entry)) .answer ⌝ }
+    ensures room { λ _. ⌜ now (room .exit) ≡ tickOf (now (table .entry)) minute (now (room .entry)) .room ⌝ }
+{
+    let t = crontab::read(table);
+    let refusal = t.refusal;
+    if refusal != 0 {
+        return Ticked::Refused(refusal);
+    }
+    if fifo::is_line(room, t.count) {
+        if LAST_MINUTE < minute {
+            return Ticked::Refused(calendar::NOT_ON_CALENDAR);
+        }
+        let date = calendar::date_of(minute).date;
+        return Ticked::Joined(offer_all(t, room, minute, date));
+    }
+    Ticked::Refused(fifo::NOT_A_LINE)
+}
+
+// Requests the next job: removes and names the front entry, or says that nothing waits.
+pub fn pop(table: &[u8], room: &mut [u8]) -> Popped
+    ensures answer { λ r. ⌜ r ≡ popOf (now (table .entry)) (now (room .entry)) .answer ⌝ }
+    ensures room { λ _. ⌜ now (room .exit) ≡ popOf (now (table .entry)) (now (room .entry)) .room ⌝ }
+{
+    let t = crontab::read(table);
+    let refusal = t.refusal;
+    if refusal != 0 {
+        return Popped::Refused(refusal);
+    }
+    fifo::pop(room, t.count)
+}
