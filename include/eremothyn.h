@@ -4,8 +4,10 @@
  * Minutes count from 0, which is 1970-01-01 00:00, a Thursday, to EREMOTHYN_LAST_MINUTE, which is 9999-12-31 23:59.
  * The calendar is the proleptic Gregorian one, without time zones or daylight saving.
  *
- * Every parameter and every answer is a uint64_t. Any values may be passed: what has no answer is refused. A refusal is
- * EREMOTHYN_REFUSED plus its number; no other answer is above EREMOTHYN_REFUSED.
+ * A run of bytes is a pointer and its length; every other parameter and every answer is a uint64_t. Any values may be
+ * passed: what has no answer is refused. A refusal is EREMOTHYN_REFUSED plus its number; no other answer is above
+ * EREMOTHYN_REFUSED. A refused call changes no byte. A table's bytes are never changed. Runs of bytes that are lent to one
+ * call must not overlap. No call keeps a pointer, and calls on other bytes may run at the same time.
  *
  *     uint64_t minute = eremothyn_minute_of_date(2000, 2, 29, 0, 0);
  *     if (EREMOTHYN_IS_REFUSED(minute))
@@ -31,8 +33,36 @@ extern "C" {
 #define EREMOTHYN_IS_REFUSED(answer) ((answer) > EREMOTHYN_REFUSED)
 #define EREMOTHYN_REFUSAL(answer) ((answer) - EREMOTHYN_REFUSED)
 
-/* Refusal: the minute or the date is not on the calendar. */
-#define EREMOTHYN_NOT_ON_CALENDAR UINT64_C(14)
+/* Where a request finds nothing waiting, and where a command has no standard input: no refusals. */
+#define EREMOTHYN_NOTHING_WAITS EREMOTHYN_REFUSED
+#define EREMOTHYN_NO_INPUT EREMOTHYN_REFUSED
+
+/*
+ * Refusals of a table; the first bad line decides, and on it the first of these that holds, from left to right. Lines and
+ * columns count from 1.
+ */
+#define EREMOTHYN_TABLE_TOO_LONG UINT64_C(1)    /* over 16,384 bytes; line 0, column 0 */
+#define EREMOTHYN_LINE_TOO_LONG UINT64_C(2)     /* over 1,000 bytes without its newline; column 1,001 */
+#define EREMOTHYN_NUL_BYTE UINT64_C(3)          /* byte 0 in a line; its column */
+#define EREMOTHYN_TOO_FEW_FIELDS UINT64_C(4)    /* fewer than five fields; the column after the line's last byte */
+#define EREMOTHYN_FIELD_MALFORMED UINT64_C(5)   /* field not of the form; its first byte */
+#define EREMOTHYN_OUT_OF_LIMITS UINT64_C(6)     /* a number outside the field's limits; the element's first byte */
+#define EREMOTHYN_RANGE_REVERSED UINT64_C(7)    /* range from high to low; the same place */
+#define EREMOTHYN_STEP_ZERO UINT64_C(8)         /* step 0; the same place */
+#define EREMOTHYN_NO_COMMAND UINT64_C(9)        /* no command; the column after the line's last byte */
+#define EREMOTHYN_UNKNOWN_WORD UINT64_C(10)     /* unknown @ word; the @ */
+#define EREMOTHYN_BAD_SETTING UINT64_C(11)      /* setting not of the form; the first non-blank byte */
+#define EREMOTHYN_TOO_MANY_ENTRIES UINT64_C(12) /* the 129th entry; column 1 */
+
+/* Refusals of one entry, one minute, one setting and one line of waiting jobs. */
+#define EREMOTHYN_NO_SUCH_ENTRY UINT64_C(13)   /* no entry of that number */
+#define EREMOTHYN_NOT_ON_CALENDAR UINT64_C(14) /* the minute or the date is not on the calendar */
+#define EREMOTHYN_AT_BOOT_ONLY UINT64_C(15)    /* next firing of an @reboot entry */
+#define EREMOTHYN_NEVER UINT64_C(16)           /* no minute of the 400-year cycle matches */
+#define EREMOTHYN_PAST_THE_END UINT64_C(17)    /* would fire, but not before the calendar ends */
+#define EREMOTHYN_TOO_SHORT UINT64_C(18)       /* a lent buffer is too short for the text */
+#define EREMOTHYN_NO_SETTING UINT64_C(19)      /* the line asked for is no setting, or isn't there */
+#define EREMOTHYN_NOT_A_QUEUE UINT64_C(28)     /* not a waiting line of this table, or not room for all its entries */
 
 /*
  * The minute of a date: year 1970 to 9999, month 1 to 12, day 1 to the month's last, hour 0 to 23, minute 0 to 59.
@@ -62,6 +92,78 @@ uint64_t eremothyn_minute_of_hour(uint64_t minute);
 
 /* Sunday 0 to Saturday 6. */
 uint64_t eremothyn_weekday(uint64_t minute);
+
+/*
+ * Tables. A table is the bytes of a crontab; its entries have the numbers 0, 1 and on, in file order. Every call reads the
+ * table anew and refuses it as eremothyn_check does, before anything else.
+ */
+
+/* How many entries the table has. */
+uint64_t eremothyn_check(const uint8_t *table, uint64_t table_length);
+
+/* The line and the column of the table's fault; 0 where it is good, and for EREMOTHYN_TABLE_TOO_LONG. */
+uint64_t eremothyn_fault_line(const uint8_t *table, uint64_t table_length);
+uint64_t eremothyn_fault_column(const uint8_t *table, uint64_t table_length);
+
+/*
+ * Whether an entry is due at a minute: 1 or 0, and 0 for an @reboot entry. Refused with EREMOTHYN_NO_SUCH_ENTRY, then
+ * EREMOTHYN_NOT_ON_CALENDAR.
+ */
+uint64_t eremothyn_due(const uint8_t *table, uint64_t table_length, uint64_t entry, uint64_t minute);
+
+/*
+ * The minute at which an entry fires next, strictly after a minute. Refused with EREMOTHYN_NO_SUCH_ENTRY,
+ * EREMOTHYN_NOT_ON_CALENDAR, EREMOTHYN_AT_BOOT_ONLY, EREMOTHYN_NEVER or EREMOTHYN_PAST_THE_END, the first that holds.
+ */
+uint64_t eremothyn_next(const uint8_t *table, uint64_t table_length, uint64_t entry, uint64_t minute);
+
+/*
+ * Splits an entry's command: the shell line goes to the front of one buffer and the standard input to the front of the
+ * other; the bytes behind stay. Answers the length of the shell line. Refused with EREMOTHYN_NO_SUCH_ENTRY, or with
+ * EREMOTHYN_TOO_SHORT if either buffer is too short. A command's length is always room enough for both.
+ */
+uint64_t eremothyn_split_command(const uint8_t *table, uint64_t table_length, uint64_t entry, uint8_t *shell,
+                                 uint64_t shell_length, uint8_t *input, uint64_t input_length);
+
+/*
+ * The length of an entry's standard input, or EREMOTHYN_NO_INPUT if its command has none; empty input is 0. Refused with
+ * EREMOTHYN_NO_SUCH_ENTRY.
+ */
+uint64_t eremothyn_stdin_length(const uint8_t *table, uint64_t table_length, uint64_t entry);
+
+/*
+ * The name and the value of the setting on a line, as parts of the table: where each starts, counted from 0, and its
+ * length, without quotes. Refused with EREMOTHYN_NO_SETTING if the line is none, or isn't there.
+ */
+uint64_t eremothyn_setting_name_offset(const uint8_t *table, uint64_t table_length, uint64_t line);
+uint64_t eremothyn_setting_name_length(const uint8_t *table, uint64_t table_length, uint64_t line);
+uint64_t eremothyn_setting_value_offset(const uint8_t *table, uint64_t table_length, uint64_t line);
+uint64_t eremothyn_setting_value_length(const uint8_t *table, uint64_t table_length, uint64_t line);
+
+/*
+ * The run queue: the line of a table's waiting jobs, kept in a room of bytes that the caller lends. An entry stands in the
+ * line at most once, and whoever has stood longest goes next. EREMOTHYN_ROOM(entries) bytes are always room enough; what
+ * they hold is the library's. Each is refused with EREMOTHYN_NOT_A_QUEUE for room that can't hold all of the table's
+ * entries.
+ */
+#define EREMOTHYN_ROOM(entries) (8 * (entries) + 64)
+
+/* Makes a fresh line, whatever the room held: the @reboot entries in file order. Answers how many wait. */
+uint64_t eremothyn_queue_init(const uint8_t *table, uint64_t table_length, uint8_t *room, uint64_t room_length);
+
+/*
+ * Announces a minute: each time-based entry that matches it and isn't waiting joins at the back, in file order. Answers
+ * how many joined. Refused with EREMOTHYN_NOT_A_QUEUE for bytes that are no line of this table, then
+ * EREMOTHYN_NOT_ON_CALENDAR. Minutes may repeat or go back.
+ */
+uint64_t eremothyn_queue_tick(const uint8_t *table, uint64_t table_length, uint8_t *room, uint64_t room_length,
+                              uint64_t minute);
+
+/*
+ * Requests the next job: removes the front entry and answers its number, or EREMOTHYN_NOTHING_WAITS. Refused with
+ * EREMOTHYN_NOT_A_QUEUE for bytes that are no line of this table.
+ */
+uint64_t eremothyn_queue_pop(const uint8_t *table, uint64_t table_length, uint8_t *room, uint64_t room_length);
 
 #ifdef __cplusplus
 }

@@ -2,12 +2,19 @@
 
 mod calendar;
 mod measure;
+mod queue;
 mod schedule;
+mod table;
 
 use std::env;
 use std::process::ExitCode;
 
-const BENCHMARKS: [(&str, fn()); 2] = [("calendar", calendar::run), ("schedule", schedule::run)];
+const BENCHMARKS: [(&str, fn()); 4] = [
+    ("calendar", calendar::run),
+    ("schedule", schedule::run),
+    ("table", table::run),
+    ("queue", queue::run),
+];
 
 fn main() -> ExitCode {
     let wanted: Vec<String> = env::args().skip(1).collect();

@@ -2,7 +2,7 @@
 ghost use mathlib.Core.Path.{_≡_};
 ghost use Rattle.eremothyn.specs.Answer.{answerOf};
 
-const REFUSED: u64 = 4_294_967_296;
+pub(crate) const REFUSED: u64 = 4_294_967_296;
 
 // A value, or the refusal in its place.
 pub(crate) fn answer(refusal: u8, value: u64) -> u64

@@ -1,3 +1,8 @@
 // The C interface, one thin function for each call. include/eremothyn.h says to C what each answers.
 mod answer;
+pub mod commands;
 pub mod dates;
+pub mod entries;
+pub mod queue;
+pub mod settings;
+pub mod tables;

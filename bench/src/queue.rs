@@ -1,0 +1,101 @@
+//! An announcement and a request with a full table, of 16,384 bytes and 128 entries. Both programs read the table at
+//! every call, and start each call from the same line.
+
+use crate::measure::nanoseconds;
+use second::queue::Queue;
+use second::table::{read, ENTRIES, TABLE_BYTES};
+
+const CALLS: usize = 200;
+
+/// As much room as is always enough.
+const ROOM: usize = 8 * ENTRIES + 64;
+
+/// At the first every entry is due, at the second none.
+const ALL_DUE: u64 = 28_401_120;
+const NONE_DUE: u64 = ALL_DUE + 1;
+
+/// A line, in the library's bytes and in the second program's list.
+#[derive(Clone)]
+struct Line {
+    room: [u8; ROOM],
+    queue: Queue,
+}
+
+pub fn run() {
+    let table = full();
+    let mut empty = Line {
+        room: [0; ROOM],
+        queue: Queue::default(),
+    };
+    assert_eq!(::queue::init(&table, &mut empty.room), Ok(0));
+    let mut waiting = empty.clone();
+    let joined = Ok(ENTRIES as u64);
+    assert_eq!(library_tick(&table, &mut waiting, ALL_DUE), joined);
+    assert_eq!(second_tick(&table, &mut waiting, ALL_DUE), joined);
+
+    println!("queue, {TABLE_BYTES} bytes and {ENTRIES} entries, microseconds a call");
+    println!(
+        "{:<32}{:>10}{:>20}{:>10}",
+        "", "library", "second program", "times"
+    );
+    let rows = [
+        ("tick, nothing is due", &empty, NONE_DUE),
+        ("tick, all join", &empty, ALL_DUE),
+        ("tick, all wait", &waiting, ALL_DUE),
+    ];
+    for (what, line, minute) in rows {
+        row(
+            what,
+            line,
+            |line| library_tick(&table, line, minute),
+            |line| second_tick(&table, line, minute),
+        );
+    }
+    let pop = |line: &mut Line| ::queue::pop(&table, &mut line.room);
+    let second_pop = |line: &mut Line| line.queue.pop(&read(&table).expect(GOOD));
+    row("pop, all wait", &waiting, pop, second_pop);
+    row("pop, nothing waits", &empty, pop, second_pop);
+    println!("times as long as the second program");
+}
+
+fn row<T: PartialEq + std::fmt::Debug>(
+    what: &str,
+    line: &Line,
+    library: impl Fn(&mut Line) -> T,
+    second: impl Fn(&mut Line) -> T,
+) {
+    assert_eq!(library(&mut line.clone()), second(&mut line.clone()));
+    let inputs = vec![line; CALLS];
+    let microseconds =
+        |call: &dyn Fn(&mut Line) -> T| nanoseconds(&inputs, |line| call(&mut line.clone())) / 1e3;
+    let [library, second] = [microseconds(&library), microseconds(&second)];
+    let times = library / second;
+    println!("{what:<32}{library:>10.2}{second:>20.2}{times:>10.3}");
+}
+
+const GOOD: &str = "a good table";
+
+fn library_tick(table: &[u8], line: &mut Line, minute: u64) -> Result<u64, u64> {
+    ::queue::tick(table, &mut line.room, minute)
+}
+
+fn second_tick(table: &[u8], line: &mut Line, minute: u64) -> Result<u64, u64> {
+    line.queue.tick(&read(table).expect(GOOD), minute)
+}
+
+/// Entries that are all due at the same minutes, in 128 bytes each.
+fn full() -> Vec<u8> {
+    let fields = [
+        "*/10 * * * *",
+        "0,30 */2 * * 0-7",
+        "0-59/5 0-23 1-31 1-12 *",
+    ];
+    let width = TABLE_BYTES / ENTRIES - 1;
+    let lines = fields.iter().cycle().take(ENTRIES);
+    let table: Vec<u8> = lines
+        .map(|fields| format!("{fields} /usr/local/bin/camera --expose "))
+        .flat_map(|line| format!("{line:x<width$}\n").into_bytes())
+        .collect();
+    assert_eq!(table.len(), TABLE_BYTES);
+    table
+}

@@ -1,0 +1,97 @@
+//! Reading a full table, of 16,384 bytes and 128 entries, as the library and the second program do it: the same bytes,
+//! the same count of entries.
+
+use crate::measure::nanoseconds;
+use second::table::{self, ENTRIES, TABLE_BYTES};
+
+const READS: usize = 500;
+
+/// The library may take so many times as long as the second program.
+const GOAL: f64 = 1.2;
+
+pub fn run() {
+    println!("table, {TABLE_BYTES} bytes and {ENTRIES} entries read, MB a second each");
+    println!(
+        "{:<32}{:>10}{:>20}{:>10}",
+        "", "library", "second program", "times"
+    );
+    compare("as people write it", &full(&WRITTEN));
+    compare("lists in every field", &full(&LISTS));
+    compare("entries alone, no comments", &entries_alone());
+    println!("times as long as the second program; goal: at most {GOAL}");
+}
+
+fn compare(which: &str, bytes: &[u8]) {
+    assert_eq!(bytes.len(), TABLE_BYTES);
+    assert_eq!(library(bytes), ENTRIES as u64);
+    assert_eq!(second(bytes), ENTRIES as u64);
+    let inputs = vec![bytes; READS];
+    let [library, second] = [nanoseconds(&inputs, library), nanoseconds(&inputs, second)];
+    let speed = |time: f64| TABLE_BYTES as f64 / time * 1e3;
+    println!(
+        "{which:<32}{:>10.1}{:>20.1}{:>10.3}",
+        speed(library),
+        speed(second),
+        library / second
+    );
+}
+
+fn library(bytes: &[u8]) -> u64 {
+    tables::check(bytes).expect("a good table")
+}
+
+fn second(bytes: &[u8]) -> u64 {
+    let table = table::read(bytes).expect("a good table");
+    table.entries.len() as u64
+}
+
+const WRITTEN: [&str; 16] = [
+    "5 0 * * *       $HOME/bin/daily.job >> $HOME/tmp/out 2>&1",
+    "15 14 1 * *     $HOME/bin/monthly",
+    "0 22 * * 1-5    mail -s \"It's 10pm\" joe%Joe,%%Where are your kids?%",
+    "23 0-23/2 * * * echo \"run 23 minutes after midn, 2am, 4am ..., everyday\"",
+    "5 4 * * sun     echo \"run at 5 after 4 every sunday\"",
+    "*/10 * * * *    /usr/lib/sa/sa1 1 1",
+    "@reboot         /usr/local/bin/dome --park --wait 120 >> /var/log/dome.log 2>&1",
+    "@daily          /usr/local/bin/rotate /var/log/observatory",
+    "0,15,30,45 * * * * /usr/local/bin/weather --station roof --append /srv/weather.csv",
+    "30 07,09,13,15 * * * /usr/local/bin/flat-field --lamp 3 --exposures 20",
+    "30 4 1,15 * 5   /usr/local/bin/dewar --level --mail crew@example.org",
+    "0 12 14 2 *     mailx john%Happy Birthday!%Time for lunch.",
+    "@hourly         /usr/local/bin/clock-check --server time.example.org --limit 50ms",
+    "17 2 * * 6      /usr/local/bin/backup --full /srv/archive /mnt/tape0 > /dev/null",
+    "*/2 18-23 * 9-12 * /usr/local/bin/guide --camera 2 --log /srv/guide.log",
+    "0 6 * jan mon   /usr/local/bin/report --last-week | mail -s report office@example.org",
+];
+
+const LISTS: [&str; 2] = [
+    "1,4-9,11-59/2 0-5,7,9-23/3 1-15/2,20,25-31 1-6,8-12/2 0-2,4-7/2 /bin/a",
+    "0,7,14,21,28,35,42,49,56 1,3,5,7,9,11 2,4,6,8,30,31 1,2,3,10,11,12 1,2,3,4,5 /bin/b",
+];
+
+/// All entries in turn, with settings and comments between them, filled up with comments.
+fn full(lines: &[&str]) -> Vec<u8> {
+    let mut table = b"SHELL=/bin/sh\nMAILTO = \"paul\"\n".to_vec();
+    for (number, line) in lines.iter().cycle().take(ENTRIES).enumerate() {
+        if number % 4 == 0 {
+            table.extend(format!("# {number}: what this job is for\n").bytes());
+        }
+        table.extend(line.bytes());
+        table.push(b'\n');
+    }
+    while table.len() < TABLE_BYTES {
+        let rest = TABLE_BYTES - table.len();
+        let comment = rest.min(80) - 1;
+        table.extend(format!("{:<comment$}\n", "#").bytes());
+    }
+    table
+}
+
+/// Each entry in 128 bytes.
+fn entries_alone() -> Vec<u8> {
+    let width = TABLE_BYTES / ENTRIES - 1;
+    let lines = WRITTEN.iter().cycle().take(ENTRIES);
+    lines
+        .flat_map(|line| format!("{line:x<width$}\n").into_bytes())
+        .collect()
+}

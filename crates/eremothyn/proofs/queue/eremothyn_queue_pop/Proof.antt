@@ -1,0 +1,24 @@
+-- `eremothyn::queue::eremothyn_queue_pop` meets its contract, by what the run queue promises.
+-- Assumes nothing.
+use mathlib.Core.Path.{ap, _∙_}
+use borrow.Author.Needs.{needs}
+use Rattle.fifo.specs.Answers.{popNumber}
+use Rattle.eremothyn.proofs.queue.eremothyn_queue_pop.Statement.{statement}
+use Rattle.eremothyn.proofs.queue.eremothyn_queue_pop.Tie as tie
+
+pop-requires : tie.Need-pop-requires
+pop-requires c κs = search needs
+
+popped-number-requires : tie.Need-popped-number-requires
+popped-number-requires c κs = search needs
+
+same-length : tie.Need-same-length
+same-length c = search needs
+
+returns : tie.Need-returns
+returns c =
+    (c .popped-number .ensures ∙ ap popNumber (c .before .before .before .pop .ensures .0), c .before .before .before .pop .ensures .1)
+
+pub eremothyn-queue-pop-spec : {M : Type 1} → statement M
+eremothyn-queue-pop-spec =
+    tie.close (tie.spec pop-requires popped-number-requires same-length returns)

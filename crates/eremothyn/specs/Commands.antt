@@ -1,0 +1,28 @@
+-- Paper 01, "Command", for one entry of a table as a C caller gets it. The order is table, 13, 18; a refused call leaves both
+-- buffers as they were.
+-- Assumes nothing.
+use Prim.Native.Nat.{ℕ, _+_}
+use mathlib.Core.List.{List}
+use Rattle.crontab.specs.declared.EntryAnswer.{EntryAnswer}
+use Rattle.crontab.specs.declared.EntryAnswer.the-variants as entry
+use Rattle.crontab.specs.Bytes.{between}
+use Rattle.crontab.specs.Answers.{entryOf}
+use Rattle.command.specs.declared.SplitAnswer.the-variants as split
+use Rattle.command.specs.Parts.{inputOf, inputLength}
+use Rattle.command.specs.Buffers.{Split, splitStep}
+use Rattle.command.specs.Answers.{inputNumber}
+use Rattle.eremothyn.specs.Answer.{refused}
+
+unfoldable pub splitIn : List ℕ → EntryAnswer → List ℕ → List ℕ → Split
+splitIn table (entry.Found e) shell input = splitStep (between table (e .start) (e .end)) shell input
+splitIn table (entry.Refused number) shell input = record { answer = split.Refused number; shell = shell; input = input }
+
+unfoldable pub splitOf : List ℕ → ℕ → List ℕ → List ℕ → Split
+splitOf table i shell input = splitIn table (entryOf table i) shell input
+
+unfoldable pub stdinIn : List ℕ → EntryAnswer → ℕ
+stdinIn table (entry.Found e) = inputNumber (inputLength (inputOf (between table (e .start) (e .end))))
+stdinIn table (entry.Refused number) = refused + number
+
+unfoldable pub stdinLength : List ℕ → ℕ → ℕ
+stdinLength table i = stdinIn table (entryOf table i)

@@ -1,0 +1,65 @@
+// Commands: splitting one into the buffers that the caller lends, and the length of its standard input.
+ghost use mathlib.Core.Path.{_≡_};
+ghost use Rattle.command.specs.Answers.{splitNumber, inputNumber};
+ghost use Rattle.eremothyn.specs.Commands.{splitOf, stdinLength};
+use crate::answer::REFUSED;
+use command::Input;
+use command::SplitAnswer;
+use crontab::EntryAnswer;
+
+// The length of the shell line, or the refusal.
+fn split_number(split: SplitAnswer) -> u64
+    ensures { λ r. ⌜ r ≡ splitNumber split ⌝ }
+{
+    match split {
+        SplitAnswer::Written(n, _) => n as u64,
+        SplitAnswer::Refused(number) => REFUSED + number as u64,
+    }
+}
+
+// The length of the input, or "no input".
+fn input_number(input: Input) -> u64
+    ensures { λ r. ⌜ r ≡ inputNumber input ⌝ }
+{
+    match input {
+        Input::None => REFUSED,
+        Input::Length(n) => n as u64,
+    }
+}
+
+#[no_mangle]
+pub extern "C" fn eremothyn_split_command(
+    table: &[u8],
+    entry: u64,
+    shell: &mut [u8],
+    input: &mut [u8],
+) -> u64
+    ensures answer { λ r. ⌜ r ≡ splitNumber (splitOf (now (table .entry)) entry (now (shell .entry)) (now (input .entry)) .answer) ⌝ }
+    ensures shell { λ _. ⌜ now (shell .exit) ≡ splitOf (now (table .entry)) entry (now (shell .entry)) (now (input .entry)) .shell ⌝ }
+    ensures input { λ _. ⌜ now (input .exit) ≡ splitOf (now (table .entry)) entry (now (shell .entry)) (now (input .entry)) .input ⌝ }
+{
+    match crontab::find_entry(table, entry) {
+        EntryAnswer::Found(found) => {
+            let start = found.start;
+            let end = found.end;
+            split_number(command::split(&table[start..end], shell, input))
+        }
+        EntryAnswer::Refused(number) => REFUSED + number as u64,
+    }
+}
+
+#[no_mangle]
+pub extern "C" fn eremothyn_stdin_length(table: &[u8], entry: u64) -> u64
+    ensures { λ r. ⌜ r ≡ stdinLength (now (table .entry)) entry ⌝ }
+{
+    match crontab::find_entry(table, entry) {
+        EntryAnswer::Found(found) => {
+            let start = found.start;
+            let end = found.end;
+            let lengths = command::measure(&table[start..end]);
+            let input = lengths.input;
+            input_number(input)
+        }
+        EntryAnswer::Refused(number) => REFUSED + number as u64,
+    }
+}

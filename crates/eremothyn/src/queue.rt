@@ -1,0 +1,53 @@
+// The run queue: the line of waiting jobs of a table, in a room that the caller lends.
+ghost use mathlib.Core.Path.{_≡_};
+ghost use Rattle.fifo.specs.Answers.{tickNumber, popNumber};
+ghost use Rattle.runqueue.specs.Calls.{initOf, tickOf, popOf};
+
+use crate::answer::REFUSED;
+use fifo::Popped;
+use fifo::Ticked;
+
+// How many joined, or the refusal.
+fn ticked_number(ticked: Ticked) -> u64
+    ensures { λ r. ⌜ r ≡ tickNumber ticked ⌝ }
+{
+    match ticked {
+        Ticked::Joined(n) => n as u64,
+        Ticked::Refused(refusal) => REFUSED + refusal as u64,
+    }
+}
+
+// The entry, "nothing waits", or the refusal.
+fn popped_number(popped: Popped) -> u64
+    ensures { λ r. ⌜ r ≡ popNumber popped ⌝ }
+{
+    match popped {
+        Popped::Entry(e) => e as u64,
+        Popped::Nothing => REFUSED,
+        Popped::Refused(refusal) => REFUSED + refusal as u64,
+    }
+}
+
+#[no_mangle]
+pub extern "C" fn eremothyn_queue_init(table: &[u8], room: &mut [u8]) -> u64
+    ensures answer { λ r. ⌜ r ≡ tickNumber (initOf (now (table .entry)) (now (room .entry)) .answer) ⌝ }
+    ensures room { λ _. ⌜ now (room .exit) ≡ initOf (now (table .entry)) (now (room .entry)) .room ⌝ }
+{
+    ticked_number(runqueue::init(table, room))
+}
+
+#[no_mangle]
+pub extern "C" fn eremothyn_queue_tick(table: &[u8], room: &mut [u8], minute: u64) -> u64
+    ensures answer { λ r. ⌜ r ≡ tickNumber (tickOf (now (table .entry)) minute (now (room .entry)) .answer) ⌝ }
+    ensures room { λ _. ⌜ now (room .exit) ≡ tickOf (now (table .entry)) minute (now (room .entry)) .room ⌝ }
+{
+    ticked_number(runqueue::tick(table, room, minute))
+}
+
+#[no_mangle]
+pub extern "C" fn eremothyn_queue_pop(table: &[u8], room: &mut [u8]) -> u64
+    ensures answer { λ r. ⌜ r ≡ popNumber (popOf (now (table .entry)) (now (room .entry)) .answer) ⌝ }
+    ensures room { λ _. ⌜ now (room .exit) ≡ popOf (now (table .entry)) (now (room .entry)) .room ⌝ }
+{
+    popped_number(runqueue::pop(table, room))
+}

@@ -1,0 +1,192 @@
+//! A table, and a line of it in one buffer, beside the second program's list. Each call is lent the buffer's first bytes,
+//! as many as the caller likes.
+
+use crate as library;
+use eremothyn::Answer;
+use second::queue::Queue;
+use second::table::{read, Table, When};
+use std::fmt::Debug;
+
+/// Refusal: not a waiting line of this table, or too little room for one.
+const NO_LINE: u64 = 28;
+
+/// A good table.
+pub struct Case<'a> {
+    bytes: &'a [u8],
+    pub table: Table<'a>,
+    /// The least room that the library takes for a line of the table.
+    pub least: usize,
+}
+
+impl<'a> Case<'a> {
+    pub fn of(bytes: &'a [u8]) -> Case<'a> {
+        let table = read(bytes).expect("a good table");
+        let least = least_room(bytes, table.entries.len());
+        Case {
+            bytes,
+            table,
+            least,
+        }
+    }
+
+    pub fn count(&self) -> usize {
+        self.table.entries.len()
+    }
+
+    /// The next firing of an entry, by the second program.
+    pub fn next(&self, entry: u64, minute: u64) -> Answer {
+        match self.table.entries[entry as usize].when {
+            When::Times(schedule) => schedule.next_after(minute),
+            When::Reboot => Err(15),
+        }
+    }
+
+    /// As much room as is always enough.
+    pub fn enough(&self) -> usize {
+        8 * self.count() + 64
+    }
+}
+
+/// The least room that a fresh line is accepted in. What is refused changes no byte.
+fn least_room(table: &[u8], entries: usize) -> usize {
+    let most = 8 * entries + 64;
+    let accepted = |length: &usize| {
+        let mut room = filled(*length);
+        let answer = library::init(table, &mut room);
+        if answer.is_err() {
+            assert_eq!(answer, Err(NO_LINE), "a room of {length} bytes");
+            assert_eq!(room, filled(*length));
+        }
+        answer.is_ok()
+    };
+    let least = (0..=most).find(accepted);
+    least.unwrap_or_else(|| panic!("{most} bytes aren't enough for {entries} entries"))
+}
+
+pub fn filled(length: usize) -> Vec<u8> {
+    (0..length).map(|at| (at * 29 + 7) as u8).collect()
+}
+
+/// The library's line and the second program's.
+pub struct Compared {
+    pub room: Vec<u8>,
+    pub queue: Queue,
+}
+
+impl Compared {
+    /// A fresh line in a buffer of so many bytes.
+    pub fn fresh(case: &Case, length: usize) -> Compared {
+        let mut compared = Compared {
+            room: filled(length),
+            queue: Queue::default(),
+        };
+        let _ = compared.init(case, length);
+        compared
+    }
+
+    pub fn init(&mut self, case: &Case, lent: usize) -> Answer {
+        let second = |queue: &mut Queue| {
+            *queue = Queue::fresh(&case.table);
+            Ok(queue.waiting.len() as u64)
+        };
+        self.call(case, lent, "init", library::init, second)
+    }
+
+    pub fn tick(&mut self, case: &Case, lent: usize, minute: u64) -> Answer {
+        let call = |table: &[u8], room: &mut [u8]| library::tick(table, room, minute);
+        let second = |queue: &mut Queue| queue.tick(&case.table, minute);
+        self.call(case, lent, ("tick", minute), call, second)
+    }
+
+    pub fn pop(&mut self, case: &Case, lent: usize) -> Result<Option<u64>, u64> {
+        let second = |queue: &mut Queue| queue.pop(&case.table);
+        self.call(case, lent, "pop", library::pop, second)
+    }
+
+    /// A call of both, with what it may change.
+    fn call<T: PartialEq + Debug>(
+        &mut self,
+        case: &Case,
+        lent: usize,
+        what: impl Debug,
+        library: impl FnOnce(&[u8], &mut [u8]) -> Result<T, u64>,
+        second: impl FnOnce(&mut Queue) -> Result<T, u64>,
+    ) -> Result<T, u64> {
+        let before = self.room.clone();
+        let table = case.bytes.to_vec();
+        let waiting = self.queue.waiting.clone();
+        let expected = if lent < case.least {
+            Err(NO_LINE)
+        } else {
+            second(&mut self.queue)
+        };
+        let answer = library(&table, &mut self.room[..lent]);
+        assert_eq!(
+            answer,
+            expected,
+            "{what:?} in {lent} bytes of room, {waiting:?} waiting, of \"{}\": library, second program",
+            case.bytes.escape_ascii()
+        );
+        let stays = if answer.is_ok() { case.least } else { 0 };
+        assert_eq!(
+            self.room[stays..],
+            before[stays..],
+            "{what:?}: bytes that stay"
+        );
+        assert_eq!(table, case.bytes, "{what:?}: the table's bytes");
+        answer
+    }
+
+    /// Requests until nothing waits, on a copy of the line, and compares what is named.
+    pub fn assert_waiting(&self, case: &Case) {
+        let drained = drain(case, &self.room).expect("a line");
+        assert_eq!(drained, self.queue.waiting);
+    }
+}
+
+/// What waits in a room, named by requests on a copy of it.
+pub fn drain(case: &Case, room: &[u8]) -> Result<Vec<u64>, u64> {
+    let mut room = room.to_vec();
+    let mut waiting = Vec::new();
+    while let Some(entry) = library::pop(case.bytes, &mut room)? {
+        waiting.push(entry);
+        assert!(waiting.len() <= case.count(), "{waiting:?} wait");
+    }
+    // Nothing waits, and asking again changes nothing.
+    let before = room.clone();
+    assert_eq!(library::pop(case.bytes, &mut room), Ok(None));
+    assert_eq!(room, before);
+    Ok(waiting)
+}
+
+/// A room with any bytes: no line, or else some line, and then every call says the same of it.
+pub fn judge(case: &Case, room: &[u8], minute: u64) -> bool {
+    const OFF_CALENDAR: u64 = u64::MAX;
+    let tick = |minute: u64| {
+        let mut room = room.to_vec();
+        let answer = library::tick(case.bytes, &mut room, minute);
+        (answer, room)
+    };
+    match drain(case, room) {
+        Err(refusal) => {
+            assert_eq!(refusal, NO_LINE);
+            let mut popped = room.to_vec();
+            assert_eq!(library::pop(case.bytes, &mut popped), Err(NO_LINE));
+            assert_eq!(popped, room);
+            for minute in [minute, OFF_CALENDAR] {
+                assert_eq!(tick(minute), (Err(NO_LINE), room.to_vec()));
+            }
+            false
+        }
+        Ok(waiting) => {
+            let mut queue = Queue { waiting };
+            assert!(queue.is_line_of(&case.table), "{queue:?}");
+            assert_eq!(tick(OFF_CALENDAR), (Err(14), room.to_vec()));
+            let (answer, after) = tick(minute);
+            assert_eq!(answer, queue.tick(&case.table, minute));
+            assert_eq!(drain(case, &after), Ok(queue.waiting));
+            assert_eq!(after[case.least..], room[case.least..]);
+            true
+        }
+    }
+}

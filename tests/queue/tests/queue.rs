@@ -1,0 +1,505 @@
+//! The run queue of the library against the second program's list.
+
+use queue::compare::{drain, filled, judge, Case, Compared};
+use second::calendar::LAST_MINUTE;
+use second::queue::Queue;
+use second::random::Random;
+use second::schedule::samples::start;
+use second::table::{read, samples};
+
+const OFF_CALENDAR: [u64; 6] = [
+    LAST_MINUTE + 1,
+    (1 << 32) - 1,
+    1 << 32,
+    (1 << 32) + 60,
+    1 << 63,
+    u64::MAX,
+];
+
+/// A table of so many entries, some that boot, and some that fire often.
+fn busy_table(random: &mut Random, entries: u64) -> Vec<u8> {
+    let often = [
+        "* * * * *",
+        "*/2 * * * *",
+        "1-59/2 * * * *",
+        "*/5 * * * *",
+        "0 * * * *",
+        "* 0 * * *",
+        "@hourly",
+        "@daily",
+        "@reboot",
+        "* * 1,15 * 5",
+        "0 0 29 2 *",
+        "0 0 30 2 *",
+        "* * * * 7",
+        "59 23 31 12 *",
+    ];
+    let mut table = Vec::new();
+    for _ in 0..entries {
+        match random.below(10) {
+            0 => table.extend(b"# comment\n"),
+            1 => table.extend(b"A=b\n"),
+            _ => {}
+        }
+        let line = match random.below(8) {
+            0 => format!("{} a", samples::fields(random).join(" ")),
+            _ => format!("{} a%b", random.pick(&often)),
+        };
+        table.extend(line.bytes());
+        table.push(b'\n');
+    }
+    table
+}
+
+/// A table of so many entries, each written as given.
+fn alike(entry: &str, entries: usize) -> Vec<u8> {
+    format!("{entry} a\n").repeat(entries).into_bytes()
+}
+
+#[test]
+fn the_whole_run() {
+    let case = Case::of(b"* * * * * a\n@reboot b\n0 * * * * c\n");
+    for length in [case.least, case.enough(), 1_000] {
+        let mut line = Compared::fresh(&case, length);
+        assert_eq!(line.pop(&case, length), Ok(Some(1)));
+        assert_eq!(line.tick(&case, length, 59), Ok(1));
+        assert_eq!(line.tick(&case, length, 60), Ok(1));
+        assert_eq!(line.pop(&case, length), Ok(Some(0)));
+        assert_eq!(line.pop(&case, length), Ok(Some(2)));
+        assert_eq!(line.pop(&case, length), Ok(None));
+    }
+}
+
+#[test]
+fn a_waiting_entry_joins_no_second_time() {
+    let case = Case::of(b"@reboot a\n* * * * * b\n* * * * * c\n");
+    let room = case.enough();
+    let mut line = Compared::fresh(&case, room);
+    assert_eq!(line.tick(&case, room, 7), Ok(2));
+    for minute in [7, 8, 7, 6, 0, LAST_MINUTE] {
+        assert_eq!(line.tick(&case, room, minute), Ok(0));
+    }
+    assert_eq!(line.pop(&case, room), Ok(Some(0)));
+    assert_eq!(line.pop(&case, room), Ok(Some(1)));
+    // Those that were named may join again, behind those that wait, at the same minute too.
+    assert_eq!(line.tick(&case, room, 7), Ok(1));
+    assert_eq!(drain(&case, &line.room), Ok(vec![2, 1]));
+}
+
+#[test]
+fn reboot_entries_wait_at_first_and_never_join() {
+    let case = Case::of(b"@reboot a\n0 0 * * * b\n@reboot c\n@reboot d\n");
+    let room = case.enough();
+    let mut line = Compared::fresh(&case, room);
+    assert_eq!(line.init(&case, room), Ok(3));
+    assert_eq!(drain(&case, &line.room), Ok(vec![0, 2, 3]));
+    for entry in [0, 2, 3] {
+        assert_eq!(line.pop(&case, room), Ok(Some(entry)));
+    }
+    assert_eq!(line.tick(&case, room, 0), Ok(1));
+    assert_eq!(line.tick(&case, room, 1_440), Ok(0));
+    assert_eq!(drain(&case, &line.room), Ok(vec![1]));
+}
+
+#[test]
+fn rooms_of_every_length() {
+    let mut least = Vec::new();
+    for entries in (0..=20).chain([63, 64, 65, 126, 127, 128]) {
+        let tables = [alike("* * * * *", entries), alike("@reboot", entries)];
+        let cases = tables.each_ref().map(|table| Case::of(table));
+        // It is the count of entries that needs room.
+        assert_eq!(cases[0].least, cases[1].least);
+        least.push(cases[0].least);
+        for case in &cases {
+            let most = case.enough() + 70;
+            let lengths = [
+                0,
+                case.least.saturating_sub(1),
+                case.least,
+                case.least + 1,
+                case.enough(),
+                most,
+            ];
+            for length in (0..=most).step_by(7).chain(lengths) {
+                // In a room that is just long enough, and in any other.
+                let mut line = Compared::fresh(case, most);
+                let _ = line.tick(case, length, 0);
+                let _ = line.tick(case, length, OFF_CALENDAR[0]);
+                let _ = line.pop(case, length);
+                let _ = line.init(case, length);
+                line.assert_waiting(case);
+            }
+            // All entries wait in the least room.
+            let mut line = Compared::fresh(case, case.least);
+            let _ = line.tick(case, case.least, 0);
+            assert_eq!(line.queue.waiting.len(), entries);
+            line.assert_waiting(case);
+        }
+    }
+    assert!(least.is_sorted(), "{least:?}");
+}
+
+#[test]
+fn a_fresh_line_is_the_same_whatever_the_room_held() {
+    let mut random = Random::seeded();
+    for entries in 0..40 {
+        let table = busy_table(&mut random, entries);
+        let case = Case::of(&table);
+        let length = case.enough() + 10;
+        let fills = [0, 0xff, 0x55, 0xaa].map(|byte| vec![byte; length]);
+        let drawn = (0..length).map(|_| random.number() as u8).collect();
+        for room in fills.into_iter().chain([drawn]) {
+            let mut line = Compared {
+                room,
+                queue: Queue::default(),
+            };
+            let _ = line.init(&case, length);
+            line.assert_waiting(&case);
+            // The same line in a shorter room.
+            let short = line.room[..case.least].to_vec();
+            assert_eq!(drain(&case, &short), Ok(line.queue.waiting));
+        }
+    }
+}
+
+#[test]
+fn bytes_behind_what_a_fresh_line_writes_stay() {
+    let mut random = Random::seeded();
+    for entries in 0..40 {
+        let table = busy_table(&mut random, entries);
+        let case = Case::of(&table);
+        // A byte that is written is the same in both rooms, and no other is.
+        let before = filled(case.enough());
+        let rooms = [before.clone(), before.iter().map(|byte| !byte).collect()];
+        let after = rooms.clone().map(|mut room: Vec<u8>| {
+            let answer = queue::init(&table, &mut room);
+            assert!(answer.is_ok());
+            room
+        });
+        let mut both = after[0].iter().zip(&after[1]);
+        let part = both
+            .rposition(|(one, other)| one == other)
+            .map_or(0, |at| at + 1);
+        assert!(part <= case.least);
+        for (room, filled) in after.iter().zip(&rooms) {
+            assert_eq!(room[part..], filled[part..]);
+        }
+    }
+}
+
+#[test]
+fn refusals_in_their_order() {
+    let mut room = filled(200);
+    let before = room.clone();
+    // The table first: also where the room is too short, no line, and the minute off the calendar.
+    let tables: [(&[u8], u64); 5] = [
+        (b"60 * * * * a", 6),
+        (b"* * * * *", 9),
+        (b"a", 11),
+        (b"* * * * * a\n\0", 3),
+        (&[b'\n'; 16_385], 1),
+    ];
+    for (table, number) in tables {
+        for length in [0, 1, 200] {
+            let room = &mut room[..length];
+            assert_eq!(queue::init(table, room), Err(number));
+            assert_eq!(queue::pop(table, room), Err(number));
+            for minute in [0, u64::MAX] {
+                assert_eq!(queue::tick(table, room, minute), Err(number));
+            }
+        }
+        assert_eq!(room, before);
+    }
+    // Then 28, then 14.
+    let case = Case::of(b"* * * * * a\n@reboot b\n");
+    let mut line = Compared::fresh(&case, case.enough());
+    for minute in OFF_CALENDAR {
+        assert_eq!(line.tick(&case, case.least - 1, minute), Err(28));
+        assert_eq!(line.tick(&case, case.least, minute), Err(14));
+    }
+    line.assert_waiting(&case);
+}
+
+/// A minute to announce, after the one before.
+fn minute(random: &mut Random, case: &Case, last: u64) -> u64 {
+    match random.below(10) {
+        0..=3 => last.saturating_add(1),
+        4 => last,
+        5 => last.saturating_sub(random.below(100)),
+        6 => random.below(100_000),
+        7 => start(random),
+        8 => random.pick(&OFF_CALENDAR),
+        _ if case.count() > 0 => {
+            let entry = random.below(case.count() as u64);
+            case.next(entry, last).unwrap_or(last)
+        }
+        _ => last,
+    }
+}
+
+/// So many of the buffer's bytes are lent: enough, or now and then too few.
+fn lent(random: &mut Random, case: &Case, length: usize) -> usize {
+    match random.below(16) {
+        0 => random.below(case.least as u64 + 1) as usize,
+        1 => case.least.saturating_sub(1),
+        2..=5 => case.least,
+        6..=8 => case.enough().min(length),
+        _ => case.least + random.below((length - case.least) as u64 + 1) as usize,
+    }
+}
+
+/// Any calls with one of the tables each, on one line.
+fn long_run(random: &mut Random, cases: &[Case], calls: usize) {
+    let length = cases.iter().map(Case::enough).max().expect("a table") + 20;
+    let mut line = Compared::fresh(&cases[0], length);
+    let mut last = start(random).min(LAST_MINUTE);
+    let mut case = &cases[0];
+    for _ in 0..calls {
+        if random.below(20) == 0 {
+            case = &cases[random.below(cases.len() as u64) as usize];
+        }
+        let lent = lent(random, case, length);
+        match random.below(100) {
+            0 => {
+                let _ = line.init(case, lent);
+            }
+            1..=50 => {
+                let minute = minute(random, case, last);
+                if line.tick(case, lent, minute).is_ok() {
+                    last = minute;
+                }
+            }
+            51 => {
+                // Any table may ask for the line; if it isn't its own, nothing changes.
+                if line.queue.is_line_of(&case.table) {
+                    line.assert_waiting(case);
+                } else {
+                    assert_eq!(drain(case, &line.room), Err(28));
+                }
+            }
+            _ => {
+                let _ = line.pop(case, lent);
+            }
+        }
+    }
+}
+
+#[test]
+fn long_runs_with_one_table() {
+    let mut random = Random::seeded();
+    for round in 0..400 {
+        let entries = if round % 20 == 0 {
+            128
+        } else {
+            random.below(12)
+        };
+        let table = busy_table(&mut random, entries);
+        let calls = if entries > 100 { 300 } else { 500 };
+        long_run(&mut random, &[Case::of(&table)], calls);
+    }
+}
+
+#[test]
+fn long_runs_with_tables_that_change() {
+    let mut random = Random::seeded();
+    for _ in 0..300 {
+        let tables = [(); 4].map(|_| {
+            let entries = random.below(9);
+            busy_table(&mut random, entries)
+        });
+        let cases = tables.each_ref().map(|table| Case::of(table));
+        long_run(&mut random, &cases, 500);
+    }
+}
+
+#[test]
+fn a_line_that_another_table_left() {
+    let tables = [
+        alike("* * * * *", 5),
+        alike("@reboot", 3),
+        alike("@reboot", 0),
+    ];
+    let [five, three, none] = tables.each_ref().map(|table| Case::of(table));
+    let room = five.enough();
+    let mut line = Compared::fresh(&five, room);
+    assert_eq!(line.pop(&three, room), Ok(None));
+    assert_eq!(line.pop(&none, room), Ok(None));
+    assert_eq!(line.tick(&five, room, 0), Ok(5));
+    // It names entries 3 and 4.
+    assert_eq!(line.pop(&three, room), Err(28));
+    assert_eq!(line.tick(&three, room, 0), Err(28));
+    assert_eq!(line.tick(&three, room, u64::MAX), Err(28));
+    for entry in 0..5 {
+        assert_eq!(line.pop(&five, room), Ok(Some(entry)));
+        assert_eq!(
+            line.pop(&none, room),
+            if entry < 4 { Err(28) } else { Ok(None) }
+        );
+    }
+    // Entries 0 to 2 are entries of both.
+    assert_eq!(line.init(&three, room), Ok(3));
+    assert_eq!(line.tick(&five, room, 0), Ok(2));
+    assert_eq!(drain(&five, &line.room), Ok(vec![0, 1, 2, 3, 4]));
+    for entry in 0..5 {
+        assert_eq!(line.pop(&three, room), Err(28));
+        assert_eq!(line.pop(&five, room), Ok(Some(entry)));
+    }
+}
+
+#[test]
+fn damaged_rooms() {
+    let mut random = Random::seeded();
+    let (mut lines, mut refused) = (0, 0);
+    for round in 0..3_000 {
+        let entries = if round % 100 == 0 {
+            128
+        } else {
+            1 + random.below(10)
+        };
+        let table = busy_table(&mut random, entries);
+        let case = Case::of(&table);
+        let length = case.least + random.below(30) as usize;
+        let mut line = Compared::fresh(&case, length);
+        for minute in 0..random.below(4) {
+            let _ = line.tick(&case, length, minute);
+            let _ = line.pop(&case, length);
+        }
+        for _ in 0..10 {
+            let mut room = line.room.clone();
+            for _ in 0..1 + random.below(3) {
+                let at = random.below(case.least as u64) as usize;
+                room[at] = match random.below(5) {
+                    0 => random.number() as u8,
+                    1 => random.below(entries + 2) as u8,
+                    2 => room[random.below(case.least as u64) as usize],
+                    3 => room[at] ^ 1 << random.below(8),
+                    _ => room[at].wrapping_add(1),
+                };
+            }
+            let minute = random.below(3_000);
+            match judge(&case, &room, minute) {
+                true => lines += 1,
+                false => refused += 1,
+            }
+        }
+        for room in [vec![0; length], vec![0xff; length], filled(length)] {
+            let _ = judge(&case, &room, 0);
+        }
+    }
+    // Both were seen.
+    assert!(lines > 0 && refused > 0, "{lines} lines, {refused} refused");
+}
+
+/// Rooms in which every two bytes are changed, in small tables.
+#[test]
+fn rooms_with_any_two_bytes() {
+    for table in [
+        &b"* * * * * a\n@reboot b\n"[..],
+        b"* * * * * a\n0 * * * * b\n@reboot c\n",
+    ] {
+        let case = Case::of(table);
+        let mut line = Compared::fresh(&case, case.least);
+        for minute in [None, Some(1), Some(0)] {
+            if let Some(minute) = minute {
+                let _ = line.tick(&case, case.least, minute);
+            }
+            for first in 0..case.least {
+                for second in first..case.least {
+                    for [one, other] in [
+                        [0, 0],
+                        [0, 1],
+                        [1, 0],
+                        [1, 1],
+                        [2, 1],
+                        [3, 2],
+                        [4, 255],
+                        [255, 255],
+                    ] {
+                        let mut room = line.room.clone();
+                        room[first] = one;
+                        room[second] = other;
+                        let _ = judge(&case, &room, 60);
+                    }
+                }
+            }
+        }
+    }
+}
+
+/// Demand 3 in practice: one that fires rarely among 127 that fire every minute, with one request a minute.
+#[test]
+fn a_rare_entry_is_named_within_the_bound() {
+    const ENTRIES: u64 = 128;
+    // A rare entry, and one of its firings.
+    let rare = [
+        ("30 4 * * *", 270 + 1_440),
+        ("0 0 29 2 *", 70_561_440),
+        ("59 23 31 12 *", LAST_MINUTE - ENTRIES + 1 - 525_600),
+        ("0 12 14 2 *", 64_080),
+    ];
+    let mut random = Random::seeded();
+    for (fields, about) in rare {
+        for place in [0, 1, 63, 126, 127] {
+            let mut lines = vec!["* * * * * often"; ENTRIES as usize];
+            let line = format!("{fields} rare");
+            lines[place as usize] = &line;
+            let table = lines.join("\n");
+            let case = Case::of(table.as_bytes());
+            let firing = case.next(place, about - 1).expect("a firing");
+
+            // Any calls first.
+            let room = case.enough();
+            let mut line = Compared::fresh(&case, room);
+            for _ in 0..random.below(300) {
+                let _ = match random.below(2) {
+                    0 => line.tick(&case, room, start(&mut random)).map(Some),
+                    _ => line.pop(&case, room),
+                };
+            }
+            // Then each minute once, a request after each, and refused calls anywhere.
+            let begin = firing - 1 - random.below(100);
+            let last = firing + ENTRIES - 1;
+            let mut named = None;
+            for minute in begin..=last {
+                let _ = line.tick(&case, room, minute);
+                let _ = line.tick(&case, room, LAST_MINUTE + 1);
+                let _ = line.pop(&case, case.least - 1);
+                let answer = line.pop(&case, room);
+                if answer == Ok(Some(place)) && minute >= firing {
+                    named = Some(minute);
+                    break;
+                }
+            }
+            assert!(named.is_some(), "{fields} at {place} from {begin}");
+        }
+    }
+}
+
+/// The longest wait there is, minute by minute: from 29 February 2096 to the next one, and one minute more.
+#[test]
+fn the_longest_gap_and_the_bound_are_reached() {
+    const GAP: u64 = 4_206_240;
+    let table = b"* * * * * often\n0 0 29 2 * rare\n";
+    let after = 66_355_200;
+    let mut room = vec![0; 8 * 2 + 64];
+    assert_eq!(queue::init(table, &mut room), Ok(0));
+    let mut named = Vec::new();
+    for minute in after + 1..=after + GAP + 1 {
+        assert!(queue::tick(table, &mut room, minute).is_ok());
+        if queue::pop(table, &mut room) == Ok(Some(1)) {
+            named.push(minute);
+        }
+    }
+    assert_eq!(named, [after + GAP + 1]);
+}
+
+#[test]
+fn sample_tables_have_their_lines() {
+    let mut random = Random::seeded();
+    for _ in 0..300 {
+        let count = random.below(8);
+        let table = samples::table(&mut random, count);
+        assert!(read(&table).is_ok());
+        long_run(&mut random, &[Case::of(&table)], 100);
+    }
+}

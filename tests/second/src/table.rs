@@ -1,0 +1,475 @@
+//! The paper's "A table, line by line": a table is cut into lines, a line into words, a field into elements, and an
+//! element into numbers. The sets are gathered value by value.
+
+pub mod calls;
+pub mod documents;
+pub mod samples;
+
+use crate::schedule::Schedule;
+
+/// Limits of a table, of a line without its newline, and of a table's entries.
+pub const TABLE_BYTES: usize = 16_384;
+pub const LINE_BYTES: usize = 1_000;
+pub const ENTRIES: usize = 128;
+
+const TABLE_TOO_LONG: u64 = 1;
+const LINE_TOO_LONG: u64 = 2;
+const ZERO_BYTE: u64 = 3;
+const TOO_FEW_FIELDS: u64 = 4;
+const BAD_FORM: u64 = 5;
+const OUT_OF_LIMITS: u64 = 6;
+const HIGH_TO_LOW: u64 = 7;
+const STEP_ZERO: u64 = 8;
+const NO_COMMAND: u64 = 9;
+const UNKNOWN_WORD: u64 = 10;
+const BAD_SETTING: u64 = 11;
+const TOO_MANY_ENTRIES: u64 = 12;
+
+/// Why a table is refused, and where: line and column count from 1, and are 0 for the whole table.
+#[derive(Clone, Copy, Debug, PartialEq, Eq)]
+pub struct Fault {
+    pub number: u64,
+    pub line: u64,
+    pub column: u64,
+}
+
+#[derive(Clone, Debug, Default)]
+pub struct Table<'a> {
+    pub entries: Vec<Entry<'a>>,
+    /// Each with the number of its line, rising.
+    pub settings: Vec<(u64, Setting)>,
+}
+
+#[derive(Clone, Debug, PartialEq, Eq)]
+pub struct Entry<'a> {
+    pub when: When,
+    pub command: &'a [u8],
+}
+
+#[derive(Clone, Copy, Debug, PartialEq, Eq)]
+pub enum When {
+    /// `@reboot`, which no minute matches.
+    Reboot,
+    Times(Schedule),
+}
+
+#[derive(Clone, Copy, Debug, PartialEq, Eq)]
+pub struct Setting {
+    pub name: Part,
+    pub value: Part,
+}
+
+/// Some bytes of the table, by their offset in it.
+#[derive(Clone, Copy, Debug, PartialEq, Eq)]
+pub struct Part {
+    pub offset: usize,
+    pub length: usize,
+}
+
+impl Table<'_> {
+    /// The setting in a line.
+    pub fn setting(&self, line: u64) -> Option<Setting> {
+        let found = self.settings.iter().find(|(of, _)| *of == line);
+        found.map(|(_, setting)| *setting)
+    }
+}
+
+impl When {
+    pub fn matches(&self, minute: u64) -> bool {
+        match self {
+            When::Reboot => false,
+            When::Times(schedule) => schedule.matches(minute),
+        }
+    }
+}
+
+/// Reads a table, up to its first fault.
+pub fn read(bytes: &[u8]) -> Result<Table<'_>, Fault> {
+    if bytes.len() > TABLE_BYTES {
+        return Err(Fault {
+            number: TABLE_TOO_LONG,
+            line: 0,
+            column: 0,
+        });
+    }
+    let mut table = Table::default();
+    let mut offset = 0;
+    for (before, line) in lines(bytes).enumerate() {
+        let number = before as u64 + 1;
+        let fault = |Bad(number_of_fault, at)| Fault {
+            number: number_of_fault,
+            line: number,
+            column: at as u64 + 1,
+        };
+        match meaning(line).map_err(fault)? {
+            Line::Ignored => {}
+            Line::Setting(setting) => table.settings.push((number, setting.later(offset))),
+            Line::Entry(_) if table.entries.len() == ENTRIES => {
+                return Err(fault(Bad(TOO_MANY_ENTRIES, 0)));
+            }
+            Line::Entry(entry) => table.entries.push(entry),
+        }
+        offset += line.len() + 1;
+    }
+    Ok(table)
+}
+
+/// A refusal's number, and how many bytes of the line stand before its place.
+struct Bad(u64, usize);
+
+enum Line<'a> {
+    Ignored,
+    /// With offsets in the line.
+    Setting(Setting),
+    Entry(Entry<'a>),
+}
+
+fn lines(bytes: &[u8]) -> impl Iterator<Item = &[u8]> {
+    bytes
+        .split_inclusive(|&byte| byte == b'\n')
+        .map(|line| line.strip_suffix(b"\n").unwrap_or(line))
+}
+
+fn meaning(line: &[u8]) -> Result<Line<'_>, Bad> {
+    if line.len() > LINE_BYTES {
+        return Err(Bad(LINE_TOO_LONG, LINE_BYTES));
+    }
+    if let Some(at) = line.iter().position(|&byte| byte == 0) {
+        return Err(Bad(ZERO_BYTE, at));
+    }
+    let mut words = Words { line, at: 0 };
+    let Some(first) = words.next() else {
+        return Ok(Line::Ignored);
+    };
+    match first.text[0] {
+        b'#' => Ok(Line::Ignored),
+        b'@' => at_entry(line, first, words).map(Line::Entry),
+        b'*' | b'0'..=b'9' => timed_entry(line, first, words).map(Line::Entry),
+        _ => match setting(line, first.at) {
+            Some(setting) => Ok(Line::Setting(setting)),
+            None => Err(Bad(BAD_SETTING, first.at)),
+        },
+    }
+}
+
+/// A run of bytes that aren't blank, and how many bytes of the line stand before it.
+#[derive(Clone, Copy)]
+struct Word<'a> {
+    at: usize,
+    text: &'a [u8],
+}
+
+/// The words of a line from a place on.
+struct Words<'a> {
+    line: &'a [u8],
+    at: usize,
+}
+
+impl<'a> Iterator for Words<'a> {
+    type Item = Word<'a>;
+
+    fn next(&mut self) -> Option<Word<'a>> {
+        let rest = &self.line[self.at..];
+        let skipped = rest.iter().position(|&byte| !is_blank(byte))?;
+        let text = &rest[skipped..];
+        let length = text.iter().position(|&byte| is_blank(byte));
+        let text = &text[..length.unwrap_or(text.len())];
+        let at = self.at + skipped;
+        self.at = at + text.len();
+        Some(Word { at, text })
+    }
+}
+
+fn is_blank(byte: u8) -> bool {
+    byte == b' ' || byte == b'\t'
+}
+
+/// What follows the words that are taken: it starts with the next one.
+fn command<'a>(line: &'a [u8], mut words: Words<'a>) -> Result<&'a [u8], Bad> {
+    match words.next() {
+        Some(word) => Ok(&line[word.at..]),
+        None => Err(Bad(NO_COMMAND, line.len())),
+    }
+}
+
+fn at_entry<'a>(line: &'a [u8], word: Word, words: Words<'a>) -> Result<Entry<'a>, Bad> {
+    let fields = match word.text {
+        b"@reboot" => None,
+        b"@yearly" | b"@annually" => Some("0 0 1 1 *"),
+        b"@monthly" => Some("0 0 1 * *"),
+        b"@weekly" => Some("0 0 * * 0"),
+        b"@daily" | b"@midnight" => Some("0 0 * * *"),
+        b"@hourly" => Some("0 * * * *"),
+        _ => return Err(Bad(UNKNOWN_WORD, word.at)),
+    };
+    let when = match fields {
+        None => When::Reboot,
+        Some(text) => {
+            let line = text.as_bytes();
+            When::Times(schedule(line.len(), Words { line, at: 0 })?)
+        }
+    };
+    let command = command(line, words)?;
+    Ok(Entry { when, command })
+}
+
+fn timed_entry<'a>(
+    line: &'a [u8],
+    first: Word<'a>,
+    mut words: Words<'a>,
+) -> Result<Entry<'a>, Bad> {
+    let fields = [first].into_iter().chain(words.by_ref());
+    let when = When::Times(schedule(line.len(), fields)?);
+    let command = command(line, words)?;
+    Ok(Entry { when, command })
+}
+
+/// A field's first and last value, and the names of its values from the first on.
+struct Limits {
+    first: u64,
+    last: u64,
+    names: &'static [&'static str],
+}
+
+const FIELDS: [Limits; 5] = [
+    Limits {
+        first: 0,
+        last: 59,
+        names: &[],
+    },
+    Limits {
+        first: 0,
+        last: 23,
+        names: &[],
+    },
+    Limits {
+        first: 1,
+        last: 31,
+        names: &[],
+    },
+    Limits {
+        first: 1,
+        last: 12,
+        names: &[
+            "jan", "feb", "mar", "apr", "may", "jun", "jul", "aug", "sep", "oct", "nov", "dec",
+        ],
+    },
+    Limits {
+        first: 0,
+        last: 7,
+        names: &["sun", "mon", "tue", "wed", "thu", "fri", "sat"],
+    },
+];
+
+/// The first five words as fields. A word too few is at the end of the line, whose length is given.
+fn schedule<'a>(
+    length: usize,
+    mut fields: impl Iterator<Item = Word<'a>>,
+) -> Result<Schedule, Bad> {
+    let mut sets = [0; 5];
+    let mut restricted = [false; 5];
+    for (field, limits) in FIELDS.iter().enumerate() {
+        let word = fields.next().ok_or(Bad(TOO_FEW_FIELDS, length))?;
+        sets[field] =
+            set(limits, word.text).map_err(|Bad(number, at)| Bad(number, word.at + at))?;
+        restricted[field] = word.text != b"*";
+    }
+    let [minutes, hours, days, months, weekdays] = sets;
+    // Sunday is 0, also where it is written 7.
+    let weekdays = weekdays & 0x7f | weekdays >> 7 & 1;
+    Ok(Schedule {
+        minutes,
+        hours: hours as u32,
+        days: days as u32,
+        months: months as u16,
+        weekdays: weekdays as u8,
+        days_restricted: restricted[2],
+        weekdays_restricted: restricted[4],
+    })
+}
+
+/// The values of a field as bits. A bad form anywhere comes before the first bad element.
+fn set(limits: &Limits, text: &[u8]) -> Result<u64, Bad> {
+    if let Some(value) = named(limits, text) {
+        return Ok(1 << value);
+    }
+    if let Some(after_star) = text.strip_prefix(b"*") {
+        let whole = Element {
+            low: limits.first,
+            high: limits.last,
+            step: match after_star {
+                [] => 1,
+                [b'/', step @ ..] => number(step).ok_or(Bad(BAD_FORM, 0))?,
+                _ => return Err(Bad(BAD_FORM, 0)),
+            },
+        };
+        return whole.values(limits).map_err(|number| Bad(number, 0));
+    }
+    let mut answer = Ok(0);
+    let mut at = 0;
+    for part in text.split(|&byte| byte == b',') {
+        let values = element(part).ok_or(Bad(BAD_FORM, 0))?.values(limits);
+        answer = match (answer, values) {
+            (Ok(set), Ok(more)) => Ok(set | more),
+            (Ok(_), Err(number)) => Err(Bad(number, at)),
+            (Err(bad), _) => Err(bad),
+        };
+        at += part.len() + 1;
+    }
+    answer
+}
+
+fn named(limits: &Limits, text: &[u8]) -> Option<u64> {
+    let is_it = |name: &&str| name.as_bytes().eq_ignore_ascii_case(text);
+    let place = limits.names.iter().position(is_it)?;
+    Some(limits.first + place as u64)
+}
+
+/// `low-high/step`.
+struct Element {
+    low: u64,
+    high: u64,
+    step: u64,
+}
+
+/// An element of a list: `n`, `n-m` or `n-m/step`.
+fn element(text: &[u8]) -> Option<Element> {
+    match cut(text, b'-') {
+        (low, None) => {
+            let low = number(low)?;
+            Some(Element {
+                low,
+                high: low,
+                step: 1,
+            })
+        }
+        (low, Some(rest)) => {
+            let (high, step) = cut(rest, b'/');
+            Some(Element {
+                low: number(low)?,
+                high: number(high)?,
+                step: step.map_or(Some(1), number)?,
+            })
+        }
+    }
+}
+
+impl Element {
+    fn values(&self, limits: &Limits) -> Result<u64, u64> {
+        let within = limits.first..=limits.last;
+        if !within.contains(&self.low) || !within.contains(&self.high) {
+            return Err(OUT_OF_LIMITS);
+        }
+        if self.low > self.high {
+            return Err(HIGH_TO_LOW);
+        }
+        if self.step == 0 {
+            return Err(STEP_ZERO);
+        }
+        let values = (self.low..=self.high).step_by(self.step as usize);
+        Ok(values.fold(0, |set, value| set | 1 << value))
+    }
+}
+
+/// One to four digits.
+fn number(text: &[u8]) -> Option<u64> {
+    let good = (1..=4).contains(&text.len()) && text.iter().all(u8::is_ascii_digit);
+    good.then(|| {
+        text.iter()
+            .fold(0, |value, digit| 10 * value + u64::from(digit - b'0'))
+    })
+}
+
+/// What stands before the first such byte, and what after it, if there is one.
+fn cut(text: &[u8], byte: u8) -> (&[u8], Option<&[u8]>) {
+    match text.iter().position(|&other| other == byte) {
+        Some(at) => (&text[..at], Some(&text[at + 1..])),
+        None => (text, None),
+    }
+}
+
+impl Part {
+    fn later(self, by: usize) -> Part {
+        Part {
+            offset: self.offset + by,
+            ..self
+        }
+    }
+}
+
+impl Setting {
+    fn later(self, by: usize) -> Setting {
+        Setting {
+            name: self.name.later(by),
+            value: self.value.later(by),
+        }
+    }
+}
+
+/// The setting in a line whose first byte that isn't blank is at a place. Offsets are in the line.
+fn setting(line: &[u8], at: usize) -> Option<Setting> {
+    let name = match quoted(line, at)? {
+        Some(name) => name,
+        None => {
+            let is_bare = |&byte: &u8| !is_blank(byte) && !matches!(byte, b'=' | b'"' | b'\'');
+            let length = line[at..].iter().take_while(|byte| is_bare(byte)).count();
+            Part { offset: at, length }
+        }
+    };
+    if name.length == 0 {
+        return None;
+    }
+    // A quoted name has a quote behind it.
+    let after_name = name.offset + name.length + name.offset - at;
+    let equals = past_blanks(line, after_name);
+    if line.get(equals) != Some(&b'=') {
+        return None;
+    }
+    let start = past_blanks(line, equals + 1);
+    let value = match quoted(line, start)? {
+        Some(value) => {
+            let after_quote = value.offset + value.length + 1;
+            if past_blanks(line, after_quote) < line.len() {
+                return None;
+            }
+            value
+        }
+        None => {
+            let trailing = line[start..]
+                .iter()
+                .rev()
+                .take_while(|&&byte| is_blank(byte));
+            Part {
+                offset: start,
+                length: line.len() - start - trailing.count(),
+            }
+        }
+    };
+    Some(Setting { name, value })
+}
+
+/// The first place from here on that isn't a blank; perhaps the line's end.
+fn past_blanks(line: &[u8], at: usize) -> usize {
+    at + line[at..]
+        .iter()
+        .take_while(|&&byte| is_blank(byte))
+        .count()
+}
+
+/// What stands in quotes at a place: none where no quote starts there, and no answer at all where one doesn't end.
+fn quoted(line: &[u8], at: usize) -> Option<Option<Part>> {
+    match line.get(at) {
+        Some(quote @ (b'"' | b'\'')) => {
+            let inside = &line[at + 1..];
+            let length = inside.iter().position(|byte| byte == quote)?;
+            Some(Some(Part {
+                offset: at + 1,
+                length,
+            }))
+        }
+        _ => Some(None),
+    }
+}
+
+#[cfg(test)]
+mod tests;

@@ -1,0 +1,93 @@
+//! The paper's "What comes back": the calls with a table, each with its refusals in their order.
+
+use super::{read, Fault, Setting, Table, When};
+use crate::calendar::LAST_MINUTE;
+use crate::command::{split, Command};
+use crate::schedule::Answer;
+
+const NO_ENTRY: u64 = 13;
+const NOT_ON_CALENDAR: u64 = 14;
+const NEXT_OF_REBOOT: u64 = 15;
+const BUFFER_TOO_SHORT: u64 = 18;
+const NO_SETTING: u64 = 19;
+
+/// A table that was read, or why it is refused.
+pub struct Calls<'a> {
+    pub table: Result<Table<'a>, Fault>,
+}
+
+impl<'a> Calls<'a> {
+    pub fn of(bytes: &'a [u8]) -> Calls<'a> {
+        Calls { table: read(bytes) }
+    }
+
+    /// How many entries there are.
+    pub fn check(&self) -> Answer {
+        self.good().map(|table| table.entries.len() as u64)
+    }
+
+    pub fn fault_line(&self) -> u64 {
+        self.table.as_ref().err().map_or(0, |fault| fault.line)
+    }
+
+    pub fn fault_column(&self) -> u64 {
+        self.table.as_ref().err().map_or(0, |fault| fault.column)
+    }
+
+    pub fn due(&self, entry: u64, minute: u64) -> Answer {
+        let (when, _) = self.entry(entry)?;
+        if minute > LAST_MINUTE {
+            return Err(NOT_ON_CALENDAR);
+        }
+        Ok(when.matches(minute).into())
+    }
+
+    pub fn next(&self, entry: u64, minute: u64) -> Answer {
+        let (when, _) = self.entry(entry)?;
+        match when {
+            _ if minute > LAST_MINUTE => Err(NOT_ON_CALENDAR),
+            When::Reboot => Err(NEXT_OF_REBOOT),
+            When::Times(schedule) => schedule.next_after(minute),
+        }
+    }
+
+    /// An entry's command, split.
+    pub fn command(&self, entry: u64) -> Result<Command, u64> {
+        self.entry(entry).map(|(_, command)| split(command))
+    }
+
+    /// Writes an entry's shell line and input to the front of two buffers, and answers the shell line's length.
+    pub fn split_command(&self, entry: u64, shell: &mut [u8], input: &mut [u8]) -> Answer {
+        let command = self.command(entry)?;
+        let written = command.input.unwrap_or_default();
+        if command.shell.len() > shell.len() || written.len() > input.len() {
+            return Err(BUFFER_TOO_SHORT);
+        }
+        shell[..command.shell.len()].copy_from_slice(&command.shell);
+        input[..written.len()].copy_from_slice(&written);
+        Ok(command.shell.len() as u64)
+    }
+
+    /// The length of an entry's input; none is "no input".
+    pub fn stdin_length(&self, entry: u64) -> Result<Option<u64>, u64> {
+        let command = self.command(entry)?;
+        Ok(command.input.map(|input| input.len() as u64))
+    }
+
+    pub fn setting(&self, line: u64) -> Result<Setting, u64> {
+        self.good()?.setting(line).ok_or(NO_SETTING)
+    }
+
+    fn good(&self) -> Result<&Table<'a>, u64> {
+        self.table.as_ref().map_err(|fault| fault.number)
+    }
+
+    fn entry(&self, entry: u64) -> Result<(When, &'a [u8]), u64> {
+        let entries = &self.good()?.entries;
+        if entry >= entries.len() as u64 {
+            return Err(NO_ENTRY);
+        }
+        let found = &entries[entry as usize];
+        Ok((found.when, found.command))
+    }
+}

@@ -1,0 +1,104 @@
+//! The entries and settings that stand as examples in the documents 000 to 004.
+
+/// An entry, and its first firings after minute 0, or else its refusal with the column.
+pub type Example = (&'static str, Result<&'static [u64], (u64, u64)>);
+
+pub const ENTRIES: [Example; 37] = [
+    // 000
+    (
+        " 5 0 * * *       $HOME/bin/daily.job >> $HOME/tmp/out 2>&1",
+        Ok(&[5, 1_445]),
+    ),
+    (
+        " 59 12 * * * simon /usr/bin/test.sh > /dev/null 2>&1",
+        Ok(&[779, 2_219]),
+    ),
+    (" 0 21 * * * demo.sh 1>/dev/null 2>&1", Ok(&[1_260, 2_700])),
+    // Its remark says Saturday; its own table has Sunday as 7.
+    (
+        " 0 1 * * 2-7 demo.sh 1>/dev/null 2>&1",
+        Ok(&[60, 1_500, 2_940, 4_380, 7_260]),
+    ),
+    (
+        " 30 07,09,13,15 * * * demo.sh",
+        Ok(&[450, 570, 810, 930, 1_890]),
+    ),
+    ("* * * * *  [UserName] Command_to_execute", Ok(&[1, 2])),
+    ("@reboot Run once, at startup.", Err((15, 0))),
+    ("@yearly Run once a year", Ok(&[525_600, 1_051_200])),
+    ("@annually (sames as @yearly)", Ok(&[525_600, 1_051_200])),
+    ("@monthly Run once a month", Ok(&[44_640, 84_960])),
+    ("@weekly Run once a week", Ok(&[4_320, 14_400])),
+    ("@daily Run once a day", Ok(&[1_440, 2_880])),
+    ("@midnight (same as @daily)", Ok(&[1_440, 2_880])),
+    ("@hourly Run once an hour", Ok(&[60, 120])),
+    (
+        "0 */3 * * * a",
+        Ok(&[180, 360, 540, 720, 900, 1_080, 1_260, 1_440]),
+    ),
+    // 001
+    (
+        "15 3 * * 1-5 find $HOME -namecore 2>/dev/null | xargs rm -f",
+        Ok(&[195, 1_635, 5_955]),
+    ),
+    ("0 0 1,15 * 1", Err((9, 13))),
+    ("0 0 1,15 * 1 a", Ok(&[5_760, 15_840, 20_160, 25_920])),
+    ("0 0 * * 1", Err((9, 10))),
+    ("0 0 * * 1 a", Ok(&[5_760, 15_840])),
+    ("0 8-18/3,19-7 * * *", Err((7, 10))),
+    ("*/2 * * * *", Err((9, 12))),
+    ("*/2 * * * * a", Ok(&[2, 4])),
+    ("2-59/3 * * * * a", Ok(&[2, 5, 8])),
+    ("0 0 * * * echo $(date) > midnight.GMT", Ok(&[1_440, 2_880])),
+    // 002
+    ("0,10,20,30,40,50 * * * * /path/to/command", Ok(&[10, 20])),
+    ("*/6 * * * * /path/to/command", Ok(&[6, 12])),
+    ("0 8 * * 1 /path/to/command", Ok(&[6_240, 16_320])),
+    // Not "the first Tuesday": the first seven days, and every Tuesday.
+    (
+        "30 17 1-7 * 2 /path/to/command",
+        Ok(&[1_050, 2_490, 3_930, 5_370, 6_810, 8_250, 9_690, 18_330]),
+    ),
+    (
+        "0 * * * * echo \"Hourly message.\" >> message.log",
+        Ok(&[60, 120]),
+    ),
+    // 003
+    (
+        "5 0 * * *       $HOME/bin/daily.job >> $HOME/tmp/out 2>&1",
+        Ok(&[5, 1_445]),
+    ),
+    ("15 14 1 * *     $HOME/bin/monthly", Ok(&[855, 45_495])),
+    (
+        "0 22 * *\t1-5   mail -s \"It's 10pm\" joe%Joe,%%Where are your kids?%",
+        Ok(&[1_320, 2_760, 7_080]),
+    ),
+    (
+        "23 0-23/2 * * * echo \"run 23 minutes after midn,\t2am, 4am ..., everyday\"",
+        Ok(&[23, 143]),
+    ),
+    (
+        "5 4 * * sun     echo \"run at 5 after 4 every sunday\"",
+        Ok(&[4_565, 14_645]),
+    ),
+    ("30 4 1,15 * 5 a", Ok(&[270, 1_710, 11_790, 20_430, 21_870])),
+    // 004
+    (
+        "0 12 14 2 * mailx john%Happy Birthday!%Time for lunch.",
+        Ok(&[64_080, 589_680]),
+    ),
+];
+
+/// A setting, its name and its value.
+pub const SETTINGS: [(&str, &str, &str); 6] = [
+    ("CRON_TZ=Japan ", "CRON_TZ", "Japan"),
+    (
+        "MAILTO=ashley.gray@example.com",
+        "MAILTO",
+        "ashley.gray@example.com",
+    ),
+    ("MAILTO=\"\"", "MAILTO", ""),
+    ("name = value", "name", "value"),
+    ("SHELL=/bin/sh", "SHELL", "/bin/sh"),
+    ("TZ=Iceland", "TZ", "Iceland"),
+];

@@ -1,0 +1,387 @@
+//! Tables for the comparisons: good ones, bad lines with their place, and tables with some bytes changed.
+
+use crate::random::Random;
+
+/// First and last value of each field.
+pub const LIMITS: [(u64, u64); 5] = [(0, 59), (0, 23), (1, 31), (1, 12), (0, 7)];
+
+const NAMES: [&[&str]; 5] = [
+    &[],
+    &[],
+    &[],
+    &[
+        "jan", "FEB", "Mar", "aPR", "may", "JUN", "jul", "Aug", "sEp", "oct", "NOV", "dec",
+    ],
+    &["sun", "MON", "Tue", "wED", "thu", "Fri", "sAt"],
+];
+
+const WORDS: [&str; 8] = [
+    "@reboot",
+    "@yearly",
+    "@annually",
+    "@monthly",
+    "@weekly",
+    "@daily",
+    "@midnight",
+    "@hourly",
+];
+
+const BLANKS: [&str; 6] = [" ", " ", "\t", "  ", " \t", "\t \t "];
+
+const IGNORED: [&[u8]; 8] = [
+    b"",
+    b" ",
+    b"\t \t",
+    b"#",
+    b"# run five minutes after midnight, every day",
+    b"  \t# 60 60 60 60 60",
+    b"#@unknown\r",
+    b"#\xff\x80\x01",
+];
+
+const SETTINGS: [&[u8]; 19] = [
+    b"MAILTO=paul",
+    b"MAILTO=\"\"",
+    b"MAILTO=''",
+    b"MAILTO=",
+    b"MAILTO= \t ",
+    b"SHELL = /bin/sh",
+    b"PATH=/bin:/usr/bin  \t",
+    b"\"a name\" = ' a value ' \t",
+    b"'a \"name\"'=\"it's\"",
+    b"\"=\"==",
+    b"a=b=c",
+    b"a=b\"",
+    b"a=b'c'd",
+    b"#=1",
+    b"-=-",
+    b"a\r=\r",
+    b"\xe9t\xe9\t=\tno\xebl",
+    b"\x0b=\x0c",
+    b"%=\\%",
+];
+
+const COMMANDS: [&[u8]; 18] = [
+    b"a",
+    b"/path/to/command",
+    b"$HOME/bin/daily.job >> $HOME/tmp/out 2>&1",
+    b"mailx john%Happy Birthday!%Time for lunch.",
+    b"mail -s \"It's 10pm\" joe%Joe,%%Where are your kids?%",
+    b"a\\%b%c%%d%",
+    b"%",
+    b"%%",
+    b"a%",
+    b"\\",
+    b"\\%",
+    b"\\\\%",
+    b"a \t ",
+    b"a\r",
+    b"\xff\x80\x01%\x7f",
+    b"= '\"",
+    b"# no comment",
+    b"* * * * * * @daily",
+];
+
+const UNKNOWN_WORDS: [&str; 9] = [
+    "@",
+    "@Daily",
+    "@reboo",
+    "@reboots",
+    "@every_minute",
+    "@reboot%x",
+    "@@daily",
+    "@\x01",
+    "@daily\r",
+];
+
+const BAD_SETTINGS: [&[u8]; 16] = [
+    b"a",
+    b"a b=c",
+    b"=a",
+    b"= ",
+    b"\"\"=a",
+    b"''=a",
+    b"\"a=b",
+    b"'a\"=b",
+    b"\"a\"b=c",
+    b"a\"b=c",
+    b"a\"=c",
+    b"a='",
+    b"a=\"b'",
+    b"a=\"b\"c",
+    b"a='b' #",
+    b"\r",
+];
+
+const BAD_FORMS: [&str; 33] = [
+    "*,5",
+    "5,*",
+    "5/2",
+    "*/",
+    "*/00000",
+    "*/1/2",
+    "**",
+    "5,",
+    ",5",
+    "5,,6",
+    "5-",
+    "-5",
+    "5-6-7",
+    "5-6/",
+    "5--6",
+    "00005",
+    "5-00006",
+    "5-6/00001",
+    "5x",
+    "x",
+    "5.",
+    "mon-fri",
+    "jan,feb",
+    "sund",
+    "su",
+    "5,mon",
+    "*/mon",
+    "5-6/x",
+    "5\r",
+    "+5",
+    "*-5",
+    "*/-1",
+    "0x5",
+];
+
+/// The bytes that mean something somewhere, and some that never do.
+const BYTES: &[u8] =
+    b"   \t\t\n\n\n\r\0%%\\\\\"'=#**@,,--//0123456789+.abcJANsunFri_\x01\x0b\x0c\x7f\x80\xff";
+
+/// A good table of so many lines, with a newline at its end or without.
+pub fn table(random: &mut Random, lines: u64) -> Vec<u8> {
+    let lines: Vec<Vec<u8>> = (0..lines).map(|_| line(random)).collect();
+    let mut bytes = lines.join(&b'\n');
+    if random.below(4) > 0 {
+        bytes.push(b'\n');
+    }
+    bytes
+}
+
+/// A good line: an entry more often than not.
+pub fn line(random: &mut Random) -> Vec<u8> {
+    let mut line = match random.below(3) {
+        0 => random.pick(&BLANKS).into(),
+        _ => Vec::new(),
+    };
+    match random.below(8) {
+        0 => line.extend(random.pick(&IGNORED)),
+        1 => line.extend(random.pick(&SETTINGS)),
+        2 => {
+            line.extend(random.pick(&WORDS).bytes());
+            line.extend(random.pick(&BLANKS).bytes());
+            line.extend(command(random));
+        }
+        _ => {
+            for field in fields(random) {
+                line.extend(field.bytes());
+                line.extend(random.pick(&BLANKS).bytes());
+            }
+            line.extend(command(random));
+        }
+    }
+    line
+}
+
+pub fn fields(random: &mut Random) -> [String; 5] {
+    [0, 1, 2, 3, 4].map(|which| field(random, which))
+}
+
+/// A good field.
+pub fn field(random: &mut Random, which: usize) -> String {
+    let (first, last) = LIMITS[which];
+    match random.below(8) {
+        0..=2 => "*".into(),
+        3 => {
+            let step = step(random);
+            format!("*/{step}")
+        }
+        4 if !NAMES[which].is_empty() => random.pick(NAMES[which]).into(),
+        _ => {
+            let count = 1 + random.below(3);
+            let elements: Vec<String> = (0..count).map(|_| element(random, first, last)).collect();
+            elements.join(",")
+        }
+    }
+}
+
+fn element(random: &mut Random, first: u64, last: u64) -> String {
+    let mut ends = [(); 2].map(|_| first + random.below(last - first + 1));
+    ends.sort();
+    let [low, high] = ends.map(|end| digits(random, end));
+    match random.below(4) {
+        0 | 1 => low,
+        2 => format!("{low}-{high}"),
+        _ => {
+            let step = step(random);
+            format!("{low}-{high}/{step}")
+        }
+    }
+}
+
+fn step(random: &mut Random) -> String {
+    let step = match random.below(4) {
+        0 => 1 + random.below(9_999),
+        _ => 1 + random.below(12),
+    };
+    digits(random, step)
+}
+
+/// A number, perhaps with zeros before it, in one to four digits.
+fn digits(random: &mut Random, number: u64) -> String {
+    match random.below(6) {
+        0 => format!("{number:04}"),
+        1 => format!("{number:02}"),
+        _ => number.to_string(),
+    }
+}
+
+fn command(random: &mut Random) -> Vec<u8> {
+    match random.below(3) {
+        0 => {
+            // Its first byte isn't blank.
+            let length = random.below(12);
+            let rest = (0..length).map(|_| random.pick(b"%%\\\\ab \t\"'"));
+            [b'c'].into_iter().chain(rest).collect()
+        }
+        _ => random.pick(&COMMANDS).into(),
+    }
+}
+
+/// A bad line, the number of its refusal, and its column.
+pub type BadLine = (Vec<u8>, u64, u64);
+
+pub fn bad_line(random: &mut Random) -> BadLine {
+    match random.below(8) {
+        0 => long_line(random),
+        1 => line_with_zero(random),
+        2 => cut_line(random, 4),
+        3 => cut_line(random, 9),
+        4 => {
+            let rest = random.pick(&["", " ", " a", "\tb"]);
+            let text = random.pick(&UNKNOWN_WORDS).to_string() + rest;
+            indented(random, text.as_bytes(), 10, 0)
+        }
+        5 => {
+            let setting = random.pick(&BAD_SETTINGS);
+            indented(random, setting, 11, 0)
+        }
+        _ => line_with_bad_field(random),
+    }
+}
+
+/// A bad line perhaps with blanks before it, and so many of its own bytes before the place.
+fn indented(random: &mut Random, text: &[u8], number: u64, before: usize) -> BadLine {
+    let indent = random.pick(&["", "", "", " ", "\t", " \t "]);
+    let column = (indent.len() + before + 1) as u64;
+    ([indent.as_bytes(), text].concat(), number, column)
+}
+
+fn long_line(random: &mut Random) -> BadLine {
+    let mut line = line(random);
+    let length = 1_001 + random.below(3) as usize;
+    line.resize(length, random.pick(b"a\0 #5"));
+    (line, 2, 1_001)
+}
+
+fn line_with_zero(random: &mut Random) -> BadLine {
+    let mut line = line(random);
+    let before = random.below(line.len() as u64 + 1);
+    line.insert(before as usize, 0);
+    (line, 3, before + 1)
+}
+
+/// An entry that ends too early: with fewer than five fields (4), or without a command (9).
+fn cut_line(random: &mut Random, number: u64) -> BadLine {
+    let count = match number {
+        4 => 1 + random.below(4) as usize,
+        _ => 5,
+    };
+    let mut text = match random.below(2) {
+        0 if number == 9 => random.pick(&WORDS).into(),
+        _ => fields(random)[..count].join(random.pick(&BLANKS)),
+    };
+    text += random.pick(&["", " ", "\t "]);
+    indented(random, text.as_bytes(), number, text.len())
+}
+
+fn line_with_bad_field(random: &mut Random) -> BadLine {
+    let mut fields = fields(random);
+    let which = random.below(5) as usize;
+    let (text, number, offset) = bad_field(random, which);
+    fields[which] = text;
+    // Only a digit or a star starts an entry.
+    if !fields[0].starts_with(|first: char| first == '*' || first.is_ascii_digit()) {
+        fields[0].insert(0, '*');
+    }
+    let before: usize = fields[..which].iter().map(|field| field.len() + 1).sum();
+    // What comes after the bad field doesn't count.
+    let kept = random.pick(&[which + 1, 5, 5]);
+    let rest = random.pick(&["", " ", " a", "\ta%b"]);
+    let text = fields[..kept].join(" ") + rest;
+    indented(random, text.as_bytes(), number, before + offset)
+}
+
+/// A bad field, the number of its refusal, and how many of its bytes stand before the place.
+pub fn bad_field(random: &mut Random, which: usize) -> (String, u64, usize) {
+    let (first, last) = LIMITS[which];
+    let mut text = String::new();
+    for _ in 0..random.below(3) {
+        text += &element(random, first, last);
+        text.push(',');
+    }
+    let offset = text.len();
+    let low = first + random.below(last - first);
+    let above = last + 1 + random.below(9_999 - last);
+    let (element, number) = match random.below(7) {
+        0 | 1 => return (random.pick(&BAD_FORMS).into(), 5, 0),
+        2 if first > 0 && random.below(2) == 0 => ("0".into(), 6),
+        2 => (above.to_string(), 6),
+        3 => (format!("{low}-{above}/0"), 6),
+        4 => (format!("{}-{low}/0", low + 1), 7),
+        5 => return ("*/0000".into(), 8, 0),
+        _ => (format!("{low}-{}/00", low + 1), 8),
+    };
+    text += &element;
+    // A later bad element doesn't count.
+    text += random.pick(&["", ",9999", ",3-2", ",1-2/0"]);
+    (text, number, offset)
+}
+
+/// A table with some of its bytes changed, taken out, put in or put in twice.
+pub fn mutated(random: &mut Random, table: &[u8]) -> Vec<u8> {
+    let mut bytes = table.to_vec();
+    for _ in 0..1 + random.below(3) {
+        let at = random.below(bytes.len() as u64 + 1) as usize;
+        let byte = match random.below(8) {
+            0 => random.number() as u8,
+            _ => random.pick(BYTES),
+        };
+        let until = bytes.len().min(at + random.below(6) as usize);
+        match random.below(6) {
+            0 | 1 => bytes.insert(at, byte),
+            2 if at < bytes.len() => bytes[at] = byte,
+            3 => drop(bytes.drain(at..until)),
+            4 => {
+                let again = bytes[at..until].to_vec();
+                bytes.splice(at..at, again);
+            }
+            _ => {
+                if at < bytes.len() {
+                    bytes.remove(at);
+                }
+            }
+        }
+    }
+    bytes
+}
+
+/// Any bytes of those that mean something.
+pub fn noise(random: &mut Random, length: u64) -> Vec<u8> {
+    (0..length).map(|_| random.pick(BYTES)).collect()
+}

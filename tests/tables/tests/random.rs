@@ -1,0 +1,95 @@
+//! Random tables: good ones, ones with a bad line, ones with some bytes changed, and noise.
+
+use second::random::Random;
+use second::table::samples;
+use tables::compare::Compared;
+
+const SAMPLES: usize = 20_000;
+
+#[test]
+fn good_tables() {
+    let mut random = Random::seeded();
+    for _ in 0..SAMPLES {
+        let lines = random.below(6);
+        let table = samples::table(&mut random, lines);
+        let compared = Compared::of(&table);
+        assert_eq!(compared.fault(), None);
+        compared.everything(&mut random);
+    }
+}
+
+#[test]
+fn tables_with_one_bad_line() {
+    let mut random = Random::seeded();
+    for _ in 0..SAMPLES {
+        let mut table = Vec::new();
+        let at = random.below(4);
+        for _ in 0..at {
+            table.extend(samples::line(&mut random));
+            table.push(b'\n');
+        }
+        let (line, number, column) = samples::bad_line(&mut random);
+        table.extend(line);
+        for _ in 0..random.below(3) {
+            table.push(b'\n');
+            table.extend(samples::line(&mut random));
+        }
+        let compared = Compared::of(&table);
+        assert_eq!(compared.fault(), Some([number, at + 1, column]));
+        compared.everything(&mut random);
+    }
+}
+
+#[test]
+fn good_tables_with_some_bytes_changed() {
+    let mut random = Random::seeded();
+    for _ in 0..2 * SAMPLES {
+        let lines = 1 + random.below(3);
+        let table = samples::table(&mut random, lines);
+        let changed = samples::mutated(&mut random, &table);
+        Compared::of(&changed).everything(&mut random);
+    }
+}
+
+#[test]
+fn noise() {
+    let mut random = Random::seeded();
+    for _ in 0..2 * SAMPLES {
+        let length = random.below(40);
+        let noise = samples::noise(&mut random, length);
+        Compared::of(&noise).everything(&mut random);
+        // And as the rest of a line that starts well.
+        let starts = ["", "* ", "1 1 1 1 1 ", "a=", "\"", "@", "5,", "* * * * "];
+        let start = random.pick(&starts);
+        let table = [start.as_bytes(), &noise].concat();
+        Compared::of(&table).everything(&mut random);
+    }
+}
+
+/// Tables about as large as may be.
+#[test]
+fn large_tables() {
+    let mut random = Random::seeded();
+    for _ in 0..300 {
+        let mut table = Vec::new();
+        let mut entries = 0;
+        let most = 126 + random.below(4);
+        let length = match random.below(3) {
+            0 => 16_384,
+            _ => 16_000 + random.below(500) as usize,
+        };
+        while table.len() < length {
+            let line = samples::line(&mut random);
+            let is_entry = Compared::of(&line).check() == Ok(1);
+            if is_entry && entries == most {
+                table.extend(b"# no entry\n");
+                continue;
+            }
+            entries += u64::from(is_entry);
+            table.extend(line);
+            table.push(b'\n');
+        }
+        table.truncate(length);
+        Compared::of(&table).everything(&mut random);
+    }
+}
