@@ -4,10 +4,10 @@
  * Minutes count from 0, which is 1970-01-01 00:00, a Thursday, to EREMOTHYN_LAST_MINUTE, which is 9999-12-31 23:59.
  * The calendar is the proleptic Gregorian one, without time zones or daylight saving.
  *
- * A run of bytes is a pointer and its length; every other parameter and every answer is a uint64_t. Any values may be
- * passed: what has no answer is refused. A refusal is EREMOTHYN_REFUSED plus its number; no other answer is above
- * EREMOTHYN_REFUSED. A refused call changes no byte. A table's bytes are never changed. Runs of bytes that are lent to one
- * call must not overlap. No call keeps a pointer, and calls on other bytes may run at the same time.
+ * A run of bytes is a pointer to them and their number; every other parameter and every answer is a uint64_t. Any values
+ * and any bytes may be passed: what has no answer is refused. A refusal is EREMOTHYN_REFUSED plus its number; no other
+ * answer is above EREMOTHYN_REFUSED. A refused call changes no byte. A table's bytes are never changed. Runs of bytes that
+ * are lent to one call must not overlap. No call keeps a pointer, and calls on other bytes may run at the same time.
  *
  *     uint64_t minute = eremothyn_minute_of_date(2000, 2, 29, 0, 0);
  *     if (EREMOTHYN_IS_REFUSED(minute))
@@ -38,8 +38,8 @@ extern "C" {
 #define EREMOTHYN_NO_INPUT EREMOTHYN_REFUSED
 
 /*
- * Refusals of a table; the first bad line decides, and on it the first of these that holds, from left to right. Lines and
- * columns count from 1.
+ * Refusals of a table. 1 comes first, then the first bad line decides: on it 2, then 3, in comments too, then the line is
+ * read from left to right, and 12 comes last. Lines and columns count from 1.
  */
 #define EREMOTHYN_TABLE_TOO_LONG UINT64_C(1)    /* over 16,384 bytes; line 0, column 0 */
 #define EREMOTHYN_LINE_TOO_LONG UINT64_C(2)     /* over 1,000 bytes without its newline; column 1,001 */
@@ -120,7 +120,8 @@ uint64_t eremothyn_next(const uint8_t *table, uint64_t table_length, uint64_t en
 /*
  * Splits an entry's command: the shell line goes to the front of one buffer and the standard input to the front of the
  * other; the bytes behind stay. Answers the length of the shell line. Refused with EREMOTHYN_NO_SUCH_ENTRY, or with
- * EREMOTHYN_TOO_SHORT if either buffer is too short. A command's length is always room enough for both.
+ * EREMOTHYN_TOO_SHORT if either buffer is too short. A command's length is always room enough for both; where there is no
+ * input, none is needed. eremothyn_stdin_length answers how long the input is.
  */
 uint64_t eremothyn_split_command(const uint8_t *table, uint64_t table_length, uint64_t entry, uint8_t *shell,
                                  uint64_t shell_length, uint8_t *input, uint64_t input_length);

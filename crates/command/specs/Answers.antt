@@ -23,8 +23,3 @@ splitNumber (Refused why) = refusals + why
 unfoldable pub inputNumber : Input → ℕ
 inputNumber None = refusals
 inputNumber (Length n) = n
-
--- the number of a refusal, and 0 where there is none
-unfoldable pub splitRefusal : SplitAnswer → ℕ
-splitRefusal (Written n input) = 0
-splitRefusal (Refused why) = why

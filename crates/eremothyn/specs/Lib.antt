@@ -5,3 +5,4 @@ pub mod Entries
 pub mod Commands
 pub mod Settings
 pub mod Examples
+pub mod KnownDays

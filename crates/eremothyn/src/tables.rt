@@ -1,4 +1,4 @@
-// Tables: checking one, its entries, commands and settings.
+// Tables: how many entries one has, or where its fault is.
 ghost use mathlib.Core.Path.{_≡_};
 ghost use Rattle.eremothyn.specs.Tables.{checkNumber, faultLine, faultColumn};
 

@@ -5,6 +5,7 @@ use mathlib.Core.Path.{_≡_, refl, sym, ap, subst, _∙_}
 use mathlib.Core.Bool.{Bool, true, false, true≢false}
 use mathlib.Core.List.{List}
 use Prim.Native.Nat.{ℕ, _+_, _≤_, _<_}
+use native.Mathlib.Decide.{decLe}
 use native.Mathlib.Omega.{arith}
 use borrow.Author.Tests.{lt-ltb}
 use Rattle.calendar.specs.Dates.{lastMinute, cycleMinutes}
@@ -26,7 +27,9 @@ use Rattle.fifo.proofs.Fair.{fair}
 use Rattle.fifo.proofs.Refusals.{refused-only}
 use Rattle.fifo.proofs.Buffer.{fair-in-buffer}
 use Rattle.runqueue.specs.Jobs.{isBoot, whenOf, jobsOf}
-use Rattle.runqueue.specs.Demand.{jobsIn, CanFire, TableFair, TableRefusedOnly, TableFairInBuffer}
+use Rattle.runqueue.specs.Demand.{jobsIn, CanFire, TableSteps, TableFair, TableRefusedOnly, TableFairInBuffer}
+use Rattle.runqueue.specs.Calls.{initOf, tickOf, popOf}
+use Rattle.runqueue.proofs.Exits.{init-good, tick-good, pop-good}
 
 fires : (s : Schedule) (m : ℕ) → m < cycleMinutes → matches s m ≡ true → canFire s ≡ true
 unfolding canFire
@@ -50,6 +53,18 @@ recurs table e f = go (whenOf (tableOf table) e) refl (f .timed) (f .matched)
 few : (table : List ℕ) → jobsIn table .count < limit
 unfolding jobsOf
 few table = omega (arith, table-sound table .few)
+
+-- a table that has an entry isn't refused
+good : (table : List ℕ) (e : ℕ) → e < jobsIn table .count → tableOf table .refusal ≡ 0
+unfolding jobsOf
+good table e h =
+    elim (decLe (tableOf table .refusal) 0) [ yes p ↦ omega arith | no n ↦ absurd (let z = table-sound table .empty (λ k. n (omega arith)) in omega arith) ]
+
+pub table-steps : TableSteps
+unfolding initOf tickOf popOf jobsOf
+table-steps table e h room minute =
+    let g = good table e h in
+    (init-good (tableOf table) room g, tick-good (tableOf table) room g minute, pop-good (tableOf table) room g)
 
 -- the third demand
 pub table-fair : TableFair

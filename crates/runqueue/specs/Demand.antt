@@ -1,5 +1,5 @@
 -- The third demand for tables: one claim about whole lists of calls, made of the steps that `init`, `tick` and `pop` promise
--- (`initOf`, `tickOf`, `popOf` of Calls are those steps with the table's own refusal before them). The words of the claim are
+-- (`initOf`, `tickOf`, `popOf` of Calls; for a table that has an entry they are the steps of `fifo`, which is `TableSteps`). The words of the claim are
 -- those of fifo's Fairness, whose header lays the demand beside them sentence by sentence; here the jobs are a table's, the
 -- calendar ends with its last minute, and the gap is the schedule's. That the claims hold is proved in proofs/Demand.
 --   "a table of N entries and a time-based entry in it that some minute of the cycle matches"
@@ -16,11 +16,12 @@ use Rattle.calendar.specs.Dates.{lastMinute, cycleMinutes}
 use Rattle.schedule.specs.Gap.{gap}
 use Rattle.crontab.specs.Tables.{tableOf}
 use Rattle.fifo.specs.Layout.{roomy}
-use Rattle.fifo.specs.Steps.{Jobs, fresh}
+use Rattle.fifo.specs.Steps.{Jobs, fresh, initStep, tickStep, popStep}
 use Rattle.fifo.specs.Fairness.{Call, Follows, unrefused, Paced, upTo, Names, span}
 use Rattle.fifo.specs.Refusals.{Expected}
 use Rattle.fifo.specs.Buffer.{Use, callsOn, endOf, started}
 use Rattle.runqueue.specs.Jobs.{jobsOf}
+use Rattle.runqueue.specs.Calls.{initOf, tickOf, popOf}
 
 -- the jobs that a table's bytes say
 abbrev pub jobsIn : List ℕ → Jobs
@@ -42,6 +43,16 @@ TableFair = (table : List ℕ) (e t : ℕ) (first second : List Call)
     → t + span jobs gap ≤ lastMinute
     → Paced (t + 1) (span jobs gap) true (unrefused jobs second)
     → Names jobs e (upTo (span jobs gap) (unrefused jobs second))
+
+-- what the three functions promise, for a table that has an entry: the steps of which the claims speak
+abbrev pub TableSteps : Type 0
+TableSteps = (table : List ℕ) (e : ℕ)
+    → let jobs = jobsIn table in
+    e < jobs .count
+    → (room : List ℕ) (minute : ℕ)
+    → (initOf table room ≡ initStep jobs room)
+    × (tickOf table minute room ≡ tickStep jobs minute room)
+    × (popOf table room ≡ popStep (jobs .count) room)
 
 -- in a list from the fresh line a call is refused only with 28 for too small a room or 14 for a minute off the calendar
 abbrev pub TableRefusedOnly : Type 0

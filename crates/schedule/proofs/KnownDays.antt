@@ -19,7 +19,7 @@ use Rattle.schedule.specs.Sets.{hasBit}
 use Rattle.schedule.specs.Match.{eitherMay, byDayRule, matchesDay, matchesTime, matches, matchesOn, matchesAt}
 use Rattle.schedule.specs.Search.{leastOf, from}
 use Rattle.schedule.specs.Days.{matchesIn, hasDate, someDay}
-use Rattle.schedule.specs.Next.{canFire, firingAfter, nextAfter, refusalOf}
+use Rattle.schedule.specs.Next.{canFire, firingAfter, nextAfter}
 use Rattle.schedule.specs.Gap.{gap}
 use Rattle.schedule.specs.Examples.{leapDay, fridays, february30, mondays30, lastDay}
 use Rattle.schedule.proofs.Search.{from-past}
@@ -66,17 +66,17 @@ pub known-days :
     (nextAfter leapDay 66355200 ≡ At 70561440)
     × (nextAfter fridays 0 ≡ At 270)
     × (nextAfter fridays 270 ≡ At 1710)
-    × (refusalOf (nextAfter february30 0) ≡ 16)
+    × (nextAfter february30 0 ≡ Never)
     × (nextAfter mondays30 0 ≡ At 46080)
-    × (refusalOf (nextAfter lastDay 4223371679) ≡ 17)
+    × (nextAfter lastDay 4223371679 ≡ PastEnd)
 unfolding firesAt ever leapDay fridays february30 mondays30 lastDay quick dayFrom monthsFrom from leastOf someDay hasDate matchesOn matchesAt matchesIn matchesDay matchesTime byDayRule eitherMay hasBit dateAt yearOf monthOf weekdayOf walk yearDays leap monthDays monthLength monthTable lengthOf
 known-days = (
   fires leapDay 66355200 70561440 tt,
   fires fridays 0 270 tt,
   fires fridays 270 1710 tt,
-  ap refusalOf (never february30 0 (lit≤ tt) refl),
+  never february30 0 (lit≤ tt) refl,
   fires mondays30 0 46080 tt,
-  ap refusalOf (past lastDay refl),
+  past lastDay refl,
 )
 
 -- the gap, and that it is reached

@@ -1,0 +1,85 @@
+-- Paper 01's known days hold.
+-- Assumes nothing.
+use mathlib.Core.Path.{_≡_, refl, ap, _∙_}
+use mathlib.Core.List.{List, [], _∷_}
+use Prim.Native.Nat.{ℕ}
+use Rattle.calendar.specs.Gregorian.{leap, yearDays, monthTable, monthLength, monthDays}
+use Rattle.calendar.specs.Walk.{span, walk}
+use Rattle.calendar.specs.Dates.{weekdayOf, yearOf, monthOf, dateAt, noDate, dateOf, exists, daysBefore, minuteAt, minuteOf}
+use Rattle.schedule.specs.declared.Schedule.{Schedule}
+use Rattle.schedule.specs.Sets.{withBit, put}
+use Rattle.schedule.specs.Next.{nextAfter}
+use Rattle.schedule.specs.Examples.{leapDay, fridays, february30, mondays30, lastDay}
+use Rattle.schedule.proofs.KnownDays as firings
+use Rattle.field.specs.Parts.{until, has, before, after, afterEach, split}
+use Rattle.field.specs.Numbers.{isDigit, areDigits, valueFrom, numberOf}
+use Rattle.field.specs.Elements.{isElement, ranging, afterDash, elementOf}
+use Rattle.field.specs.Names.{lower, alike, named, monthNames, weekdayNames, nameOf}
+use Rattle.field.specs.Values.{everyStep, valuesOf, bitOf, including}
+use Rattle.field.specs.Judgement.{outside, judged}
+use Rattle.field.specs.Fields.{areElements, judgedAll, nameElement, listField, starElement, isEmpty, starField, readField}
+use Rattle.crontab.specs.declared.When.the-variants.{Timed}
+use Rattle.crontab.specs.declared.EntryAnswer.the-variants.{Found}
+use Rattle.crontab.specs.Bytes.{isBlank, isQuote, isIn, run, skipped, trimmed, between}
+use Rattle.crontab.specs.Entries.{withCommand}
+use Rattle.crontab.specs.Times.{answered, fieldAt, afterWeekday, afterMonth, afterDay, afterHour, afterMinute, timedEntry}
+use Rattle.crontab.specs.Lines.{onto, linesOf, startsFields, contentFrom, contentOf, lineOf}
+use Rattle.crontab.specs.Tables.{noEntries, refusedTable, emptyTable, withEntry, afterLine, withLines, tableOf}
+use Rattle.crontab.specs.Answers.{entryIn, entryOf, nextFound, nextAt, nextIn, nextOf}
+use Rattle.command.specs.Pieces.{alone, paired, pieces, byteOf, bytesOf}
+use Rattle.command.specs.Parts.{lineOf as shellOf, restOf, shellLine, inputOf}
+use Rattle.eremothyn.specs.KnownDays.{KnownDays}
+
+-- the next firing of a table's first entry, by its schedule's
+firing : (s : List ℕ) (times : Schedule) (start end m : ℕ) → entryOf s 0 ≡ Found (record { when = Timed times; start = start; end = end })
+    → nextOf s 0 m ≡ nextFound (nextAfter times m)
+unfolding nextOf nextIn nextAt
+firing s times start end m e = rw e
+
+-- `0 0 29 2 * a`
+leap-day : entryOf (48 ∷ 32 ∷ 48 ∷ 32 ∷ 50 ∷ 57 ∷ 32 ∷ 50 ∷ 32 ∷ 42 ∷ 32 ∷ 97 ∷ []) 0 ≡ Found (record { when = Timed leapDay; start = 11; end = 12 })
+unfolding leapDay isBlank isQuote isIn run skipped trimmed between withCommand answered fieldAt afterWeekday afterMonth afterDay afterHour afterMinute timedEntry startsFields contentFrom contentOf lineOf onto linesOf noEntries refusedTable emptyTable withEntry afterLine withLines tableOf entryIn entryOf until has before after afterEach split isDigit areDigits valueFrom numberOf isElement ranging afterDash elementOf lower alike named monthNames weekdayNames nameOf everyStep valuesOf bitOf put including outside judged areElements judgedAll nameElement listField starElement isEmpty starField readField withBit
+leap-day = refl
+
+-- `30 4 1,15 * 5 a`
+friday-line : entryOf (51 ∷ 48 ∷ 32 ∷ 52 ∷ 32 ∷ 49 ∷ 44 ∷ 49 ∷ 53 ∷ 32 ∷ 42 ∷ 32 ∷ 53 ∷ 32 ∷ 97 ∷ []) 0 ≡ Found (record { when = Timed fridays; start = 14; end = 15 })
+unfolding fridays isBlank isQuote isIn run skipped trimmed between withCommand answered fieldAt afterWeekday afterMonth afterDay afterHour afterMinute timedEntry startsFields contentFrom contentOf lineOf onto linesOf noEntries refusedTable emptyTable withEntry afterLine withLines tableOf entryIn entryOf until has before after afterEach split isDigit areDigits valueFrom numberOf isElement ranging afterDash elementOf lower alike named monthNames weekdayNames nameOf everyStep valuesOf bitOf put including outside judged areElements judgedAll nameElement listField starElement isEmpty starField readField withBit
+friday-line = refl
+
+-- `0 0 30 2 * a`
+february-30 : entryOf (48 ∷ 32 ∷ 48 ∷ 32 ∷ 51 ∷ 48 ∷ 32 ∷ 50 ∷ 32 ∷ 42 ∷ 32 ∷ 97 ∷ []) 0 ≡ Found (record { when = Timed february30; start = 11; end = 12 })
+unfolding february30 isBlank isQuote isIn run skipped trimmed between withCommand answered fieldAt afterWeekday afterMonth afterDay afterHour afterMinute timedEntry startsFields contentFrom contentOf lineOf onto linesOf noEntries refusedTable emptyTable withEntry afterLine withLines tableOf entryIn entryOf until has before after afterEach split isDigit areDigits valueFrom numberOf isElement ranging afterDash elementOf lower alike named monthNames weekdayNames nameOf everyStep valuesOf bitOf put including outside judged areElements judgedAll nameElement listField starElement isEmpty starField readField withBit
+february-30 = refl
+
+-- `0 0 30 2 1 a`
+monday-line : entryOf (48 ∷ 32 ∷ 48 ∷ 32 ∷ 51 ∷ 48 ∷ 32 ∷ 50 ∷ 32 ∷ 49 ∷ 32 ∷ 97 ∷ []) 0 ≡ Found (record { when = Timed mondays30; start = 11; end = 12 })
+unfolding mondays30 isBlank isQuote isIn run skipped trimmed between withCommand answered fieldAt afterWeekday afterMonth afterDay afterHour afterMinute timedEntry startsFields contentFrom contentOf lineOf onto linesOf noEntries refusedTable emptyTable withEntry afterLine withLines tableOf entryIn entryOf until has before after afterEach split isDigit areDigits valueFrom numberOf isElement ranging afterDash elementOf lower alike named monthNames weekdayNames nameOf everyStep valuesOf bitOf put including outside judged areElements judgedAll nameElement listField starElement isEmpty starField readField withBit
+monday-line = refl
+
+-- `0 0 31 12 * a`
+last-day : entryOf (48 ∷ 32 ∷ 48 ∷ 32 ∷ 51 ∷ 49 ∷ 32 ∷ 49 ∷ 50 ∷ 32 ∷ 42 ∷ 32 ∷ 97 ∷ []) 0 ≡ Found (record { when = Timed lastDay; start = 12; end = 13 })
+unfolding lastDay isBlank isQuote isIn run skipped trimmed between withCommand answered fieldAt afterWeekday afterMonth afterDay afterHour afterMinute timedEntry startsFields contentFrom contentOf lineOf onto linesOf noEntries refusedTable emptyTable withEntry afterLine withLines tableOf entryIn entryOf until has before after afterEach split isDigit areDigits valueFrom numberOf isElement ranging afterDash elementOf lower alike named monthNames weekdayNames nameOf everyStep valuesOf bitOf put including outside judged areElements judgedAll nameElement listField starElement isEmpty starField readField withBit
+last-day = refl
+
+pub known-days : KnownDays
+unfolding nextFound dateOf dateAt yearOf monthOf weekdayOf walk yearDays leap monthDays monthLength monthTable noDate minuteOf minuteAt daysBefore exists span until has before after afterEach split isDigit areDigits valueFrom numberOf isElement ranging afterDash elementOf lower alike named monthNames weekdayNames nameOf everyStep valuesOf bitOf put including outside judged areElements judgedAll nameElement listField starElement isEmpty starField readField withBit alone paired pieces byteOf bytesOf shellOf restOf shellLine inputOf
+known-days = (
+  refl,
+  refl,
+  refl,
+  refl,
+  firing _ leapDay 11 12 _ leap-day ∙ ap nextFound (firings.known-days .0),
+  firing _ fridays 14 15 _ friday-line ∙ ap nextFound (firings.known-days .1),
+  firing _ fridays 14 15 _ friday-line ∙ ap nextFound (firings.known-days .2),
+  firing _ february30 11 12 _ february-30 ∙ ap nextFound (firings.known-days .3),
+  firing _ mondays30 11 12 _ monday-line ∙ ap nextFound (firings.known-days .4),
+  firing _ lastDay 12 13 _ last-day ∙ ap nextFound (firings.known-days .5),
+  refl,
+  refl,
+  refl,
+  refl,
+  refl,
+  refl,
+  refl,
+  refl,
+)
