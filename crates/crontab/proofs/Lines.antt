@@ -1,25 +1,16 @@
 -- Laws of the lines of a table: the first line of what is left, and where the next one starts.
 -- Assumes nothing.
-use mathlib.Core.Path.{_≡_, refl, sym, ap, _∙_}
-use mathlib.Core.Bool.{Bool, true, false, cond, not}
+use mathlib.Core.Path.{_≡_, refl, _∙_}
+use mathlib.Core.Bool.{Bool, true, false, cond, not, _||_}
 use mathlib.Core.List.{List, [], _∷_}
 use Prim.Native.Nat.{ℕ, suc, _+_, _-_, _≤_, _<_}
-use native.Mathlib.Numerals.{add-one}
 use native.Mathlib.Omega.{arith}
-use lib.ListN.{length, take, drop, length-drop, drop-of-length-le}
+use lib.ListN.{length, take, drop, length-drop}
 use lib.Seq.{length-take-le, drop-drop}
 use lib.Dec.{eqb}
-use borrow.Author.Tests.{lt-ltb, le-ltb}
-use Rattle.crontab.specs.declared.class.Class.the-variants.{Not}
-use Rattle.crontab.specs.declared.Entry.{Entry}
-use Rattle.crontab.specs.declared.Table.{Table}
-use Rattle.crontab.specs.declared.Part.{Part}
-use Rattle.crontab.specs.declared.line.Fault.{Fault}
-use Rattle.crontab.specs.declared.line.Line.the-variants.{Ignored, Setting, Refused}
-use Rattle.crontab.specs.declared.line.Line.the-variants as line
+use Rattle.crontab.specs.declared.class.Class.the-variants.{Not, InLine}
 use Rattle.crontab.specs.Bytes.{isIn, run, skipped}
-use Rattle.crontab.specs.Lines.{onto, linesOf, lineOf}
-use Rattle.crontab.specs.Tables.{refusedTable, emptyTable, placed, withEntry, afterLine, withLines, tableOf}
+use Rattle.crontab.specs.Lines.{onto, linesOf}
 use Rattle.crontab.proofs.Runs.{skipped-from, skipped-within}
 
 -- ---- the first line of what is left
@@ -43,6 +34,34 @@ line-first b (x ∷ s) = go (eqb b 10) (line-first x s)
     go true e = refl
     go false e = rw e
 
+-- ---- one search for the newline and for the first byte 0
+
+in-line : (s : List ℕ) → run (Not 10) s ≡ run InLine s + run (Not 10) (drop (run InLine s) s)
+unfolding run isIn
+in-line [] = refl
+in-line (b ∷ s) = go (eqb b 10) (eqb b 0) refl (in-line s)
+  where
+    k : ℕ
+    k = run InLine s
+
+    go : (t u : Bool) → eqb b 10 ≡ t → run (Not 10) s ≡ k + run (Not 10) (drop k s)
+        → cond (not t) (suc (run (Not 10) s)) 0
+        ≡ cond (not (t || u)) (suc k) 0 + run (Not 10) (drop (cond (not (t || u)) (suc k) 0) (b ∷ s))
+    go true u p e = rw p
+    go false true p e = rw p (omega arith)
+    go false false p e = omega arith
+
+nul-in-line : (s : List ℕ) → run InLine s ≡ run (Not 0) (take (run (Not 10) s) s)
+unfolding run isIn
+nul-in-line [] = refl
+nul-in-line (b ∷ s) = go (eqb b 10) (eqb b 0) refl (nul-in-line s)
+  where
+    go : (t u : Bool) → eqb b 0 ≡ u → run InLine s ≡ run (Not 0) (take (run (Not 10) s) s)
+        → cond (not (t || u)) (suc (run InLine s)) 0 ≡ run (Not 0) (take (cond (not t) (suc (run (Not 10) s)) 0) (b ∷ s))
+    go true u p e = refl
+    go false true p e = rw p
+    go false false p e = rw (p, e)
+
 -- where the line that starts at a place ends
 abbrev pub lineEnd : List ℕ → ℕ → ℕ
 lineEnd s at = skipped (Not 10) s at
@@ -58,6 +77,24 @@ lines-from s at h =
     first : (l : List ℕ) → 0 < length l → linesOf l ≡ take (run (Not 10) l) l ∷ linesOf (drop (suc (run (Not 10) l)) l)
     first [] k = absurd (omega arith)
     first (b ∷ l) k = line-first b l
+
+end-of-line : (s : List ℕ) (at : ℕ) → skipped (Not 10) s (skipped InLine s at) ≡ lineEnd s at
+unfolding skipped
+end-of-line s at = rw (← drop-drop (run InLine (drop at s)) at s) (omega (arith, in-line (drop at s)))
+
+nul-of-line : (s : List ℕ) (at : ℕ) → skipped InLine s at - at ≡ skipped (Not 0) (take (lineEnd s at - at) (drop at s)) 0
+unfolding skipped
+nul-of-line s at =
+    let e : at + run (Not 10) (drop at s) - at ≡ run (Not 10) (drop at s) = omega arith in
+    rw e (omega (arith, nul-in-line (drop at s)))
+
+-- the two searches one after the other
+pub end-found : (s : List ℕ) (at stop end : ℕ) → stop ≡ skipped InLine s at → end ≡ skipped (Not 10) s stop → end ≡ lineEnd s at
+end-found s at stop end p q = q ∙ rw p (end-of-line s at)
+
+pub nul-found : (s : List ℕ) (at stop end : ℕ) → stop ≡ skipped InLine s at → end ≡ lineEnd s at
+    → stop - at ≡ skipped (Not 0) (take (end - at) (drop at s)) 0
+nul-found s at stop end p q = rw (p, q) (nul-of-line s at)
 
 -- the line that starts at a place, by where it ends
 module _ (s : List ℕ) (at end : ℕ) (inside : at < length s) (found : end ≡ lineEnd s at) where

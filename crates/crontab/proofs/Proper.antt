@@ -34,6 +34,7 @@ use Rattle.crontab.specs.declared.assignment.Text.the-variants.{Found, M
 use Rattle.crontab.specs.declared.line.Fault.{Fault}
 use Rattle.crontab.specs.declared.line.Line.{Line}
 use Rattle.crontab.specs.declared.line.Line.the-variants as line
+use Rattle.crontab.specs.Limits.{maxLine}
 use Rattle.crontab.specs.Bytes.{isQuote, skipped, trimmed, between}
 use Rattle.crontab.specs.Words.{same, Meaning, meanings, meaningIn, wordOf}
 use Rattle.crontab.specs.Entries.{withCommand, afterWord, wordEntry}
@@ -67,8 +68,8 @@ pub record Numbered (n : ℕ) : Type 0 where
 -- a line of n bytes
 abbrev pub Proper : ℕ → Line → Type 0
 Proper n line.Ignored = Unit {0}
-Proper n (line.Setting name value) = (n ≤ 1000) × (Inside n name) × (Inside n value)
-Proper n (line.Entry e) = (n ≤ 1000) × (Sound n e)
+Proper n (line.Setting name value) = (n ≤ maxLine) × (Inside n name) × (Inside n value)
+Proper n (line.Entry e) = (n ≤ maxLine) × (Sound n e)
 Proper n (line.Refused fault) = Numbered (fault .number)
 
 -- ---- an `@` word
@@ -165,7 +166,7 @@ refused-number {f = Refused g} {fault} h e = let p : fault ≡ g = cc in rw p h
 
 -- ---- a line that is short enough
 
-module _ (s : List ℕ) (short : length s ≤ 1000) where
+module _ (s : List ℕ) (short : length s ≤ maxLine) where
   command-proper : (when : When) (start : ℕ) → WholeTimes when → Proper (length s) (withCommand s when start)
   unfolding withCommand
   command-proper when start w = go (ltb start (length s)) refl
@@ -311,19 +312,19 @@ module _ (s : List ℕ) (short : length s ≤ 1000) where
 
 pub line-proper : (s : List ℕ) → Proper (length s) (lineOf s)
 unfolding lineOf
-line-proper s = go (ltb 1000 (length s)) (ltb (skipped (Not 0) s 0) (length s)) refl
+line-proper s = go (ltb maxLine (length s)) (ltb (skipped (Not 0) s 0) (length s)) refl
   where
-    go : (a b : Bool) → ltb 1000 (length s) ≡ a
+    go : (a b : Bool) → ltb maxLine (length s) ≡ a
         → Proper (length s) (cond a (line.Refused (record { number = 2; column = 1001 })) (cond b (line.Refused (record { number = 3; column = skipped (Not 0) s 0 + 1 })) (contentOf s)))
     go true b p = record { from = omega arith; to = omega arith }
     go false true p = record { from = omega arith; to = omega arith }
     go false false p = content-proper s (ltb-false _ _ p)
 
-pub entry-proper : (s : List ℕ) {e : Entry} → lineOf s ≡ line.Entry e → (length s ≤ 1000) × (Sound (length s) e)
+pub entry-proper : (s : List ℕ) {e : Entry} → lineOf s ≡ line.Entry e → (length s ≤ maxLine) × (Sound (length s) e)
 entry-proper s p = rw p at (line-proper s)
 
 pub setting-proper : (s : List ℕ) {name value : Part} → lineOf s ≡ line.Setting name value
-    → (length s ≤ 1000) × (Inside (length s) name) × (Inside (length s) value)
+    → (length s ≤ maxLine) × (Inside (length s) name) × (Inside (length s) value)
 setting-proper s p = rw p at (line-proper s)
 
 pub refused-proper : (s : List ℕ) {fault : Fault} → lineOf s ≡ line.Refused fault → Numbered (fault .number)

@@ -1,10 +1,10 @@
 -- Laws of settings by line number: what is left of the lines always gives the same answer.
 -- Assumes nothing.
-use mathlib.Core.Path.{_≡_, refl, _∙_}
+use mathlib.Core.Path.{_≡_, refl}
 use mathlib.Core.List.{List, [], _∷_}
 use Prim.Native.Nat.{ℕ, zero, suc, _+_, _-_, _≤_, _<_}
 use native.Mathlib.Omega.{arith}
-use lib.ListN.{length, take, drop, drop-of-length-le}
+use lib.ListN.{length, drop, drop-of-length-le}
 use borrow.Author.Tests.{ne-eqb}
 use Rattle.crontab.specs.Bytes.{between}
 use Rattle.crontab.specs.Lines.{linesOf, lineOf}

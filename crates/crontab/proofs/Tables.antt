@@ -1,24 +1,18 @@
 -- Laws of a table, line by line: what is left to read always gives the same answer.
 -- Assumes nothing.
-use mathlib.Core.Path.{_≡_, refl, sym, ap, _∙_}
-use mathlib.Core.Bool.{Bool, true, false, cond, not}
-use mathlib.Core.List.{List, [], _∷_}
-use Prim.Native.Nat.{ℕ, suc, _+_, _-_, _≤_, _<_}
-use native.Mathlib.Numerals.{add-one}
-use native.Mathlib.Omega.{arith}
-use lib.ListN.{length, take, drop, length-drop, drop-of-length-le}
-use lib.Seq.{length-take-le, drop-drop}
-use lib.Dec.{eqb}
+use mathlib.Core.Path.{_≡_, _∙_}
+use mathlib.Core.List.{List}
+use Prim.Native.Nat.{ℕ, _+_, _-_, _≤_, _<_}
+use lib.ListN.{length, take, drop, drop-of-length-le}
 use borrow.Author.Tests.{lt-ltb, le-ltb}
-use Rattle.crontab.specs.declared.class.Class.the-variants.{Not}
+use Rattle.crontab.specs.declared.Part.{Part}
 use Rattle.crontab.specs.declared.Entry.{Entry}
 use Rattle.crontab.specs.declared.Table.{Table}
-use Rattle.crontab.specs.declared.Part.{Part}
 use Rattle.crontab.specs.declared.line.Fault.{Fault}
 use Rattle.crontab.specs.declared.line.Line.the-variants.{Ignored, Setting, Refused}
 use Rattle.crontab.specs.declared.line.Line.the-variants as line
-use Rattle.crontab.specs.Bytes.{isIn, run, skipped}
-use Rattle.crontab.specs.Lines.{onto, linesOf, lineOf}
+use Rattle.crontab.specs.Limits.{maxTable, maxEntries}
+use Rattle.crontab.specs.Lines.{linesOf, lineOf}
 use Rattle.crontab.specs.Tables.{refusedTable, emptyTable, placed, withEntry, afterLine, withLines, tableOf}
 use Rattle.crontab.proofs.Lines.{lineEnd, lines-first, next-start}
 
@@ -56,14 +50,14 @@ module _ (s : List ℕ) (t : Table) (at n end : ℕ) (inside : at < length s) (f
   reading-refused e = here ∙ rw e
 
   module _ {e : Entry} (is : lineOf bytes ≡ line.Entry e) where
-    pub reading-entry : t .count < 128 → reading s t at n ≡ reading s (withEntry t (placed at e)) (end + 1) (n + 1)
+    pub reading-entry : t .count < maxEntries → reading s t at n ≡ reading s (withEntry t (placed at e)) (end + 1) (n + 1)
     unfolding afterLine
-    reading-entry h = here ∙ rw (is, lt-ltb (t .count) 128 h)
+    reading-entry h = here ∙ rw (is, lt-ltb (t .count) maxEntries h)
 
-    pub reading-full : 128 ≤ t .count → reading s t at n ≡ refusedTable 12 n 1
+    pub reading-full : maxEntries ≤ t .count → reading s t at n ≡ refusedTable 12 n 1
     unfolding afterLine
-    reading-full h = here ∙ rw (is, le-ltb (t .count) 128 h)
+    reading-full h = here ∙ rw (is, le-ltb (t .count) maxEntries h)
 
-pub reading-starts : (s : List ℕ) → length s ≤ 16384 → reading s emptyTable 0 1 ≡ tableOf s
+pub reading-starts : (s : List ℕ) → length s ≤ maxTable → reading s emptyTable 0 1 ≡ tableOf s
 unfolding reading tableOf
-reading-starts s h = rw (le-ltb 16384 (length s) h)
+reading-starts s h = rw (le-ltb maxTable (length s) h)

@@ -1,6 +1,6 @@
 -- What a caller may rely on: of a table that is read, of the entries it has, and of where settings stand.
 -- Assumes nothing.
-use mathlib.Core.Path.{_≡_, refl, sym, ap, _∙_}
+use mathlib.Core.Path.{_≡_, refl}
 use mathlib.Core.Bool.{Bool, true, false, cond}
 use mathlib.Core.List.{List, [], _∷_}
 use Prim.Native.Nat.{ℕ, zero, suc, _+_, _≤_, _<_}
@@ -18,6 +18,7 @@ use Rattle.crontab.specs.declared.EntryAnswer.the-variants as entry
 use Rattle.crontab.specs.declared.SettingAnswer.{SettingAnswer}
 use Rattle.crontab.specs.declared.line.Line.{Line}
 use Rattle.crontab.specs.declared.line.Line.the-variants as line
+use Rattle.crontab.specs.Limits.{maxTable, maxEntries}
 use Rattle.crontab.specs.Lines.{onto, linesOf, lineOf}
 use Rattle.crontab.specs.Tables.{blankEntry, noEntries, refusedTable, emptyTable, placed, withEntry, afterLine, withLines, tableOf}
 use Rattle.crontab.specs.Answers.{entryIn, entryOf}
@@ -53,8 +54,8 @@ lines-placed (b ∷ s) n at h = go (eqb b 10) (lines-placed s n (at + 1) (omega 
 -- A table of n bytes. Its entries are sound, and a refused one has none; a good one has no place of fault.
 pub record SoundTable (n : ℕ) (t : Table) : Type 0 where
   pub number : t .refusal ≤ 12
-  pub few : t .count ≤ 128
-  pub full : length (t .entries) ≡ 128
+  pub few : t .count ≤ maxEntries
+  pub full : length (t .entries) ≡ maxEntries
   pub each : (i : ℕ) → i < t .count → Sound n (getD (t .entries) i blankEntry)
   pub empty : (t .refusal ≡ 0 → ⊥) → t .count ≡ 0
   pub clean : t .refusal ≡ 0 → (t .line ≡ 0) × (t .column ≡ 0)
@@ -78,7 +79,7 @@ module _ (n : ℕ) where
       let b = p .within in
       record { some = omega arith; within = omega arith; times = p .times }
 
-  entry-added : (t : Table) (e : Entry) → t .refusal ≡ 0 → t .count < 128 → SoundTable n t → Sound n e → SoundTable n (withEntry t e)
+  entry-added : (t : Table) (e : Entry) → t .refusal ≡ 0 → t .count < maxEntries → SoundTable n t → Sound n e → SoundTable n (withEntry t e)
   unfolding withEntry
   entry-added t e good h p q =
       record {
@@ -113,9 +114,9 @@ module _ (n : ℕ) where
       go line.Ignored x later = later t good p
       go (line.Setting name value) x later = later t good p
       go (line.Refused fault) x later = refused-sound _ _ _ (x .from) (let k = x .to in omega arith)
-      go (line.Entry e) x later = pick (ltb (t .count) 128) refl
+      go (line.Entry e) x later = pick (ltb (t .count) maxEntries) refl
         where
-          pick : (b : Bool) → ltb (t .count) 128 ≡ b
+          pick : (b : Bool) → ltb (t .count) maxEntries ≡ b
               → SoundTable n (cond b (withLines (withEntry t (placed at e)) (at + length l + 1) (m + 1) ls) (refusedTable 12 m 1))
           pick true k =
               later (withEntry t (placed at e)) good
@@ -136,18 +137,18 @@ module _ (n : ℕ) where
 
 pub table-sound : (s : List ℕ) → SoundTable (length s) (tableOf s)
 unfolding tableOf emptyTable refusedTable
-table-sound s = go (ltb 16384 (length s))
+table-sound s = go (ltb maxTable (length s))
   where
     go : (t : Bool) → SoundTable (length s) (cond t (refusedTable 1 0 0) (withLines emptyTable 0 1 (linesOf s)))
     go true = refused-sound (length s) 1 0 0 (omega arith) (omega arith)
     go false = lines-sound (length s) emptyTable 0 1 (linesOf s) refl (empty-sound (length s)) (lines-placed s (length s) 0 (omega arith))
 
 -- a good table isn't too long
-pub good-short : (s : List ℕ) → tableOf s .refusal ≡ 0 → length s ≤ 16384
+pub good-short : (s : List ℕ) → tableOf s .refusal ≡ 0 → length s ≤ maxTable
 unfolding tableOf refusedTable
-good-short s e = go (ltb 16384 (length s)) refl e
+good-short s e = go (ltb maxTable (length s)) refl e
   where
-    go : (t : Bool) → ltb 16384 (length s) ≡ t → cond t (refusedTable 1 0 0) (withLines emptyTable 0 1 (linesOf s)) .refusal ≡ 0 → length s ≤ 16384
+    go : (t : Bool) → ltb maxTable (length s) ≡ t → cond t (refusedTable 1 0 0) (withLines emptyTable 0 1 (linesOf s)) .refusal ≡ 0 → length s ≤ maxTable
     go true p e = absurd (omega arith)
     go false p e = ltb-false _ _ p
 

@@ -1,6 +1,6 @@
 -- Laws of a field that stands at a place of a line.
 -- Assumes nothing.
-use mathlib.Core.Path.{_≡_, refl, sym, ap, _∙_}
+use mathlib.Core.Path.{_≡_}
 use mathlib.Core.Bool.{Bool, true, false, cond}
 use mathlib.Core.List.{List}
 use Prim.Native.Nat.{ℕ, _+_, _^_, _<_}
@@ -15,7 +15,6 @@ use Rattle.field.specs.Fields.{readField}
 use Rattle.field.proofs.Theorems.{hour-fits, day-fits, month-fits, weekday-fits}
 use Rattle.crontab.specs.declared.class.Class.the-variants.{Blank, Solid}
 use Rattle.crontab.specs.declared.time.Values.{Values}
-use Rattle.crontab.specs.declared.time.Field.{Field}
 use Rattle.crontab.specs.declared.time.Field.the-variants.{Read, Refused}
 use Rattle.crontab.specs.Bytes.{skipped, between}
 use Rattle.crontab.specs.Times.{answered, fieldAt}

@@ -1,12 +1,12 @@
 -- Paper 01, "A table, line by line": blanks, quotes, and runs of bytes of one kind. A place in a line counts from 0.
 -- Assumes nothing.
-use Prim.Native.Nat.{ℕ, zero, suc, _+_, _-_}
+use Prim.Native.Nat.{ℕ, suc, _+_, _-_}
 use mathlib.Core.Bool.{Bool, cond, not, _&&_, _||_}
 use mathlib.Core.List.{List, [], _∷_}
 use lib.ListN.{take, drop}
 use lib.Dec.{eqb}
 use Rattle.crontab.specs.declared.class.Class.{Class}
-use Rattle.crontab.specs.declared.class.Class.the-variants.{Blank, Solid, Name, Not}
+use Rattle.crontab.specs.declared.class.Class.the-variants.{Blank, Solid, Name, Not, InLine}
 
 -- space and tab
 unfoldable pub isBlank : ℕ → Bool
@@ -16,6 +16,9 @@ isBlank b = eqb b 32 || eqb b 9
 unfoldable pub isQuote : ℕ → Bool
 isQuote b = eqb b 34 || eqb b 39
 
+abbrev pub newline : ℕ
+newline = 10
+
 abbrev pub equalsSign : ℕ
 equalsSign = 61
 
@@ -24,6 +27,7 @@ isIn Blank b = isBlank b
 isIn Solid b = not (isBlank b)
 isIn Name b = not (isBlank b || (eqb b equalsSign || isQuote b))
 isIn (Not other) b = not (eqb b other)
+isIn InLine b = not (eqb b newline || eqb b 0)
 
 -- how many bytes of a kind stand at the front
 unfoldable pub run : Class → List ℕ → ℕ

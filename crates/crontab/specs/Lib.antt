@@ -8,3 +8,4 @@ pub mod Lines
 pub mod Tables
 pub mod Answers
 pub mod Settings
+pub mod Examples

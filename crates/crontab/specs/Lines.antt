@@ -11,15 +11,12 @@ use Rattle.crontab.specs.declared.class.Class.the-variants.{Blank, Not}
 use Rattle.crontab.specs.declared.line.Line.{Line}
 use Rattle.crontab.specs.declared.line.Line.the-variants.{Ignored, Refused}
 use Rattle.crontab.specs.Limits.{maxLine, lineTooLong, nulByte}
-use Rattle.crontab.specs.Bytes.{skipped}
+use Rattle.crontab.specs.Bytes.{newline, skipped}
 use Rattle.crontab.specs.Assignments.{settingLine}
 use Rattle.crontab.specs.Entries.{wordEntry}
 use Rattle.crontab.specs.Times.{timedEntry}
 
 -- ---- the lines of a table
-
-abbrev pub newline : ℕ
-newline = 10
 
 unfoldable pub onto : ℕ → List (List ℕ) → List (List ℕ)
 onto b [] = (b ∷ []) ∷ []

@@ -13,6 +13,8 @@ pub(crate) enum Class {
     Name,
     // Any byte but this one.
     Not(u8),
+    // What a line is made of: no newline and no byte 0.
+    InLine,
 }
 
 fn is_blank(b: u8) -> bool
@@ -35,6 +37,7 @@ fn is_in(class: Class, b: u8) -> bool
         Class::Solid => !is_blank(b),
         Class::Name => !(is_blank(b) | ((b == b'=') | is_quote(b))),
         Class::Not(other) => b != other,
+        Class::InLine => !((b == b'\n') | (b == 0)),
     }
 }
 

@@ -72,7 +72,7 @@ pub struct Table {
     pub line: usize,
     pub column: usize,
     pub count: usize,
-    pub entries: [Entry; 128],
+    pub entries: [Entry; MAX_ENTRIES],
 }
 
 // An entry by its number.
@@ -121,7 +121,7 @@ fn refused(number: u8, line: usize, column: usize) -> Table
         line,
         column,
         count: 0,
-        entries: [BLANK; 128],
+        entries: [BLANK; MAX_ENTRIES],
     }
 }
 
@@ -145,13 +145,14 @@ pub fn read(s: &[u8]) -> Table
     if MAX_TABLE < s.len() {
         return refused(TABLE_TOO_LONG, 0, 0);
     }
-    let mut entries = [BLANK; 128];
+    let mut entries = [BLANK; MAX_ENTRIES];
     let mut count = 0;
     let mut at = 0;
     let mut line = 1;
     while at < s.len() {
-        let end = skip(s, at, Class::Not(b'\n'));
-        match line::read(&s[at..end]) {
+        let stop = skip(s, at, Class::InLine);
+        let end = skip(s, stop, Class::Not(b'\n'));
+        match line::judge(&s[at..end], stop - at) {
             Line::Refused(fault) => return refused(fault.number, line, fault.column),
             Line::Entry(entry) => {
                 if count == MAX_ENTRIES {

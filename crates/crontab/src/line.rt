@@ -2,7 +2,9 @@
 ghost use mathlib.Core.Path.{_≡_};
 ghost use Prim.Native.Nat.{_≤_, _<_};
 ghost use lib.ListN.{length};
+ghost use Rattle.crontab.specs.declared.class.Class.the-variants.{Not};
 ghost use Rattle.crontab.specs.Limits.{maxLine};
+ghost use Rattle.crontab.specs.Bytes.{skipped};
 ghost use Rattle.crontab.specs.Entries.{withCommand, wordEntry};
 ghost use Rattle.crontab.specs.Lines.{startsFields, contentOf, lineOf};
 use crate::Entry;
@@ -93,7 +95,9 @@ fn content(s: &[u8]) -> Line
     assignment::read(s, at)
 }
 
-pub(crate) fn read(s: &[u8]) -> Line
+// A line whose first byte 0 stands at a place, or one that has none and ends there.
+pub(crate) fn judge(s: &[u8], nul: usize) -> Line
+    requires { ⌜ nul ≡ skipped (Not 0) (now s) 0 ⌝ }
     ensures { λ r. ⌜ r ≡ lineOf (now (s .entry)) ⌝ }
 {
     if MAX_LINE < s.len() {
@@ -102,7 +106,6 @@ pub(crate) fn read(s: &[u8]) -> Line
             column: MAX_LINE + 1,
         });
     }
-    let nul = skip(s, 0, Class::Not(0));
     if nul < s.len() {
         return Line::Refused(Fault {
             number: NUL_BYTE,
@@ -110,4 +113,10 @@ pub(crate) fn read(s: &[u8]) -> Line
         });
     }
     content(s)
+}
+
+pub(crate) fn read(s: &[u8]) -> Line
+    ensures { λ r. ⌜ r ≡ lineOf (now (s .entry)) ⌝ }
+{
+    judge(s, skip(s, 0, Class::Not(0)))
 }

@@ -2,7 +2,6 @@
 ghost use mathlib.Core.Path.{_≡_};
 ghost use Rattle.fifo.specs.Answers.{tickNumber, popNumber};
 ghost use Rattle.runqueue.specs.Calls.{initOf, tickOf, popOf};
-
 use crate::answer::REFUSED;
 use fifo::Popped;
 use fifo::Ticked;

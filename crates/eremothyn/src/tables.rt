@@ -1,7 +1,6 @@
 // Tables: how many entries one has, or where its fault is.
 ghost use mathlib.Core.Path.{_≡_};
 ghost use Rattle.eremothyn.specs.Tables.{checkNumber, faultLine, faultColumn};
-
 use crate::answer::answer;
 
 #[no_mangle]

@@ -12,11 +12,10 @@ ghost use Rattle.fifo.specs.Steps.{joins, ticked, fresh, canPush, pushed, canJo
 ghost use Rattle.crontab.specs.Answers.{firesAt};
 ghost use Rattle.runqueue.specs.Jobs.{isBoot, jobsOf};
 ghost use Rattle.runqueue.specs.Calls.{initOf, tickOf, popOf};
-
 use calendar::Date;
-use crontab::firing;
 use crontab::Table;
 use crontab::When;
+use crontab::firing;
 use fifo::Popped;
 use fifo::Ticked;
 

@@ -2,6 +2,7 @@
 -- Assumes nothing.
 use Prim.Native.Nat.{_≤_}
 use borrow.Author.Tests.{eq-eqb, ne-eqb, lt-ltb, le-ltb}
+use Rattle.crontab.specs.Limits.{maxEntries}
 use Rattle.crontab.specs.Answers.{entryIn, entryOf}
 use Rattle.crontab.proofs.Theorems.{table-sound}
 use borrow.Author.Needs.{needs}
@@ -21,11 +22,11 @@ unfolding entryOf entryIn
 returns-2 c = rw (← (c .before .before .read .ensures), eq-eqb _ _ (c .before .if1 .left), le-ltb _ _ (c .if2 .taken))
 
 mul-t9 : tie.Need-mul-t9
-mul-t9 c = let few : c .before .before .read .result .count ≤ 128 = rw (c .before .before .read .ensures) (table-sound _ .few) in
+mul-t9 c = let few : c .before .before .read .result .count ≤ maxEntries = rw (c .before .before .read .ensures) (table-sound _ .few) in
     omega arith
 
 element-copy-out-t13 : tie.Need-element-copy-out-t13
-element-copy-out-t13 c = let few : c .before .before .read .result .count ≤ 128 = rw (c .before .before .read .ensures) (table-sound _ .few) in
+element-copy-out-t13 c = let few : c .before .before .read .result .count ≤ maxEntries = rw (c .before .before .read .ensures) (table-sound _ .few) in
     omega arith
 
 returns-3 : tie.Need-returns-3

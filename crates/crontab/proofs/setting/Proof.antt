@@ -1,6 +1,5 @@
 -- `crontab::setting` meets its contract.
 -- Assumes nothing.
-use mathlib.Core.Path.{sym, ap, _∙_}
 use borrow.Author.Tests.{eq-eqb, ne-eqb}
 use Rattle.crontab.specs.Settings.{settingOf}
 use Rattle.crontab.proofs.Theorems.{good-short}

@@ -33,8 +33,8 @@ enlist-all-requires c κs =
     let b = c .before .before .before .before .before .before in
     let t = b .before .before .before .read in
     let e = emptied (t .result) _ (c .before .before .before .clear .last .0)
-        (sym (b .has-room .ensures) ∙ c .before .before .before .before .before .if2 .taken)
-        (c .before .before .before .clear .ensures .1) (c .before .before .before .clear .kept .0)
+    (sym (b .has-room .ensures) ∙ c .before .before .before .before .before .if2 .taken)
+    (c .before .before .before .clear .ensures .1) (c .before .before .before .clear .kept .0)
     in
     (rw (t .ensures) (table-sound _ .few), e .0, e .1)
 
@@ -48,9 +48,13 @@ returns-2 c =
     let b = d .before .before .before in
     let t = b .before .before .before .read .result in
     let r = sym (b .has-room .ensures) ∙ d .before .before .if2 .taken in
-    rw (← (b .before .before .before .read .ensures), init-good t _ (b .before .before .if1 .left),
-    c .before .before .enlist-all .ensures .0, c .before .before .enlist-all .ensures .1,
-    laid-emptied t _ (d .clear .last .0) r (d .clear .ensures .1))
+    rw (
+      ← (b .before .before .before .read .ensures),
+      init-good t _ (b .before .before .if1 .left),
+      c .before .before .enlist-all .ensures .0,
+      c .before .before .enlist-all .ensures .1,
+      laid-emptied t _ (d .clear .last .0) r (d .clear .ensures .1),
+    )
     (init-done (jobsOf t) _ r)
 
 same-length-2 : tie.Need-same-length-2

@@ -19,8 +19,14 @@ same-length c = search needs
 returns : tie.Need-returns
 returns c =
     let b = c .before .before .before .before .before .before in
-    rw (c .before .before .before .join .ensures .1, ← (c .before .before .before .join .ensures .0), c .if2 .taken,
-    ← (fires-timed (b .before .before .args .when) _ _ (b .before .before .pre)), ← (b .fires-on .ensures), c .before .before .before .before .before .if1 .taken)
+    rw (
+      c .before .before .before .join .ensures .1,
+      ← (c .before .before .before .join .ensures .0),
+      c .if2 .taken,
+      ← (fires-timed (b .before .before .args .when) _ _ (b .before .before .pre)),
+      ← (b .fires-on .ensures),
+      c .before .before .before .before .before .if1 .taken,
+    )
     (refl, (refl, omega arith))
 
 same-length-2 : tie.Need-same-length-2
@@ -29,8 +35,14 @@ same-length-2 c = search needs
 returns-2 : tie.Need-returns-2
 returns-2 c =
     let b = c .before .before .before .before .before .before in
-    rw (c .before .before .before .join .ensures .1, ← (c .before .before .before .join .ensures .0), c .if2 .left,
-    ← (fires-timed (b .before .before .args .when) _ _ (b .before .before .pre)), ← (b .fires-on .ensures), c .before .before .before .before .before .if1 .taken)
+    rw (
+      c .before .before .before .join .ensures .1,
+      ← (c .before .before .before .join .ensures .0),
+      c .if2 .left,
+      ← (fires-timed (b .before .before .args .when) _ _ (b .before .before .pre)),
+      ← (b .fires-on .ensures),
+      c .before .before .before .before .before .if1 .taken,
+    )
     (refl, (refl, omega arith))
 
 returns-3 : tie.Need-returns-3

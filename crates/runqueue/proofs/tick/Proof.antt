@@ -40,10 +40,11 @@ date-of-requires c κs = search needs
 
 offer-all-requires : tie.Need-offer-all-requires
 offer-all-requires c κs =
-    let b = c .before .before .before .before .before in
-    (rw (b .before .before .before .read .ensures) (table-sound _ .few),
-    sym (b .is-line .ensures) ∙ c .before .before .before .before .if2 .taken,
-    ap (λ (a : DateAnswer). a .date) (c .before .before .date-of .ensures ∙ dateOf-on _ (c .before .before .before .if3 .left)))
+    let b = c .before .before .before .before .before in (
+      rw (b .before .before .before .read .ensures) (table-sound _ .few),
+      sym (b .is-line .ensures) ∙ c .before .before .before .before .if2 .taken,
+      ap (λ (a : DateAnswer). a .date) (c .before .before .date-of .ensures ∙ dateOf-on _ (c .before .before .before .if3 .left)),
+    )
 
 same-length-2 : tie.Need-same-length-2
 same-length-2 c = search needs
@@ -53,8 +54,12 @@ unfolding tickOf jobsOf ticked joiners
 returns-3 c =
     let b = c .before .before .before .before .before .before .before .before in
     let t = b .before .before .before .read .result in
-    rw (← (b .before .before .before .read .ensures), tick-good t _ (b .before .before .if1 .left),
-    c .before .before .offer-all .ensures .0, c .before .before .offer-all .ensures .1)
+    rw (
+      ← (b .before .before .before .read .ensures),
+      tick-good t _ (b .before .before .if1 .left),
+      c .before .before .offer-all .ensures .0,
+      c .before .before .offer-all .ensures .1,
+    )
     (tick-done (jobsOf t) _ _ (sym (b .is-line .ensures) ∙ c .before .before .before .before .before .before .before .if2 .taken)
     (c .before .before .before .before .before .before .if3 .left))
 

@@ -1,7 +1,7 @@
 -- `crontab::by_line::read` meets its contract: what is left of the lines always gives the same setting.
 -- Assumes nothing.
 use mathlib.Core.Path.{_≡_, refl, sym, _∙_}
-use Prim.Native.Nat.{_+_, _-_, _≤_}
+use Prim.Native.Nat.{_+_, _-_}
 use native.Mathlib.Omega.{arith}
 use lib.ListN.{length, drop}
 use Rattle.crontab.specs.declared.class.Class.the-variants.{Not}

@@ -9,25 +9,28 @@ enum-told : tie.Need-enum-told
 enum-told c = search needs
 
 is-blank-requires : tie.Need-is-blank-requires
-is-blank-requires c κs = tt
+is-blank-requires c κs = search needs
 
 enum-told-2 : tie.Need-enum-told-2
 enum-told-2 c = search needs
 
 is-blank-requires-2 : tie.Need-is-blank-requires-2
-is-blank-requires-2 c κs = tt
+is-blank-requires-2 c κs = search needs
 
 enum-told-3 : tie.Need-enum-told-3
 enum-told-3 c = search needs
 
 is-blank-requires-3 : tie.Need-is-blank-requires-3
-is-blank-requires-3 c κs = tt
+is-blank-requires-3 c κs = search needs
 
 is-quote-requires : tie.Need-is-quote-requires
-is-quote-requires c κs = tt
+is-quote-requires c κs = search needs
 
 enum-known-class : tie.Need-enum-known-class
 enum-known-class c = search needs
+
+enum-told-4 : tie.Need-enum-told-4
+enum-told-4 c = search needs
 
 returns : tie.Need-returns
 unfolding isIn
@@ -45,6 +48,10 @@ returns-4 : tie.Need-returns-4
 unfolding isIn
 returns-4 c = rw (c .before .class .given .1)
 
+returns-5 : tie.Need-returns-5
+unfolding isIn
+returns-5 c = rw (c .enum-told4 .given .1)
+
 pub is-in-spec : {M : Type 1} → statement M
 is-in-spec =
     tie.close
@@ -57,7 +64,9 @@ is-in-spec =
     is-blank-requires-3
     is-quote-requires
     enum-known-class
+    enum-told-4
     returns
     returns-2
     returns-3
-    returns-4)
+    returns-4
+    returns-5)

@@ -1,12 +1,61 @@
 -- `crontab::time::read` meets its contract: each field goes on from where the one before it ended.
 -- Assumes nothing.
-use mathlib.Core.Path.{sym, _∙_}
+use mathlib.Core.Path.{_≡_, sym, ap, _∙_}
+use mathlib.Core.List.{List}
+use Prim.Native.Nat.{ℕ}
 use native.Mathlib.Omega.{arith}
-use Rattle.crontab.specs.Times.{timedEntry, afterMinute, afterHour, afterDay, afterMonth, afterWeekday}
+use Rattle.field.specs.Limits.{hourLimits, dayLimits, monthLimits, weekdayLimits}
+use Rattle.crontab.specs.Times.{fieldAt, timedEntry, afterMinute, afterHour, afterDay, afterMonth, afterWeekday}
 use Rattle.crontab.proofs.Times.{hours-fit, days-fit, months-fit, weekdays-fit}
 use borrow.Author.Needs.{needs}
 use Rattle.crontab.proofs.time.read.Statement.{statement}
 use Rattle.crontab.proofs.time.read.Tie as tie
+
+-- what is left once a field is read
+abbrev line : tie.After-values → List ℕ
+line c = c .before .before .before .before .args .s .now
+
+to-hour : (c : tie.After-values) → (
+    let minute = c .values .given .0 .0 in
+    timedEntry (line c) (c .before .before .before .before .args .at) ≡ afterHour (line c) minute (fieldAt hourLimits (line c) (minute .next))
+    )
+unfolding timedEntry afterMinute
+to-hour c = ap (afterMinute (line c)) (sym (c .before .before .field-at .ensures) ∙ c .values .given .1)
+
+to-day : (c : tie.After-values2) → (
+    let h = c .before .before .before .before in
+    let hour = c .values2 .given .0 .0 in
+    timedEntry (line h) (h .before .before .before .before .args .at) ≡ afterDay (line h) (h .values .given .0 .0) hour (fieldAt dayLimits (line h) (hour .next))
+    )
+unfolding afterHour
+to-day c = let h = c .before .before .before .before in
+    to-hour h ∙ ap (afterHour (line h) (h .values .given .0 .0)) (sym (c .before .before .field-at2 .ensures) ∙ c .values2 .given .1)
+
+to-month : (c : tie.After-values3) → (
+    let d = c .before .before .before .before in
+    let h = d .before .before .before .before in
+    let day = c .values3 .given .0 .0 in
+    timedEntry (line h) (h .before .before .before .before .args .at)
+    ≡ afterMonth (line h) (h .values .given .0 .0) (d .values2 .given .0 .0) day (fieldAt monthLimits (line h) (day .next))
+    )
+unfolding afterDay
+to-month c = let d = c .before .before .before .before in
+    let h = d .before .before .before .before in
+    to-day d ∙ ap (afterDay (line h) (h .values .given .0 .0) (d .values2 .given .0 .0)) (sym (c .before .before .field-at3 .ensures) ∙ c .values3 .given .1)
+
+to-weekday : (c : tie.After-values4) → (
+    let m = c .before .before .before .before in
+    let d = m .before .before .before .before in
+    let h = d .before .before .before .before in
+    let month = c .values4 .given .0 .0 in
+    timedEntry (line h) (h .before .before .before .before .args .at)
+    ≡ afterWeekday (line h) (h .values .given .0 .0) (d .values2 .given .0 .0) (m .values3 .given .0 .0) month (fieldAt weekdayLimits (line h) (month .next))
+    )
+unfolding afterMonth
+to-weekday c = let m = c .before .before .before .before in
+    let d = m .before .before .before .before in
+    let h = d .before .before .before .before in
+    to-month m ∙ ap (afterMonth (line h) (h .values .given .0 .0) (d .values2 .given .0 .0) (m .values3 .given .0 .0)) (sym (c .before .before .field-at4 .ensures) ∙ c .values4 .given .1)
 
 field-at-requires : tie.Need-field-at-requires
 field-at-requires c κs = search needs
@@ -31,10 +80,8 @@ enum-known-fault-2 : tie.Need-enum-known-fault-2
 enum-known-fault-2 c = search needs
 
 returns-2 : tie.Need-returns-2
-unfolding timedEntry afterMinute afterHour
-returns-2 c = let h = c .before .before .before in
-    let m = h .before .before .before .before in
-    rw (← (m .field-at .ensures), h .before .before .values .given .1, ← (h .field-at2 .ensures), c .before .fault2 .given .1)
+unfolding afterHour
+returns-2 c = sym (to-hour (c .before .before .before .before .before) ∙ rw (← (c .before .before .before .field-at2 .ensures), c .before .fault2 .given .1))
 
 field-at-requires-3 : tie.Need-field-at-requires-3
 field-at-requires-3 c κs = search needs
@@ -46,11 +93,8 @@ enum-known-fault-3 : tie.Need-enum-known-fault-3
 enum-known-fault-3 c = search needs
 
 returns-3 : tie.Need-returns-3
-unfolding timedEntry afterMinute afterHour afterDay
-returns-3 c = let d = c .before .before .before in
-    let h = d .before .before .before .before in
-    let m = h .before .before .before .before in
-    rw (← (m .field-at .ensures), h .before .before .values .given .1, ← (h .field-at2 .ensures), d .before .before .values2 .given .1, ← (d .field-at3 .ensures), c .before .fault3 .given .1)
+unfolding afterDay
+returns-3 c = sym (to-day (c .before .before .before .before .before) ∙ rw (← (c .before .before .before .field-at3 .ensures), c .before .fault3 .given .1))
 
 field-at-requires-4 : tie.Need-field-at-requires-4
 field-at-requires-4 c κs = search needs
@@ -62,12 +106,8 @@ enum-known-fault-4 : tie.Need-enum-known-fault-4
 enum-known-fault-4 c = search needs
 
 returns-4 : tie.Need-returns-4
-unfolding timedEntry afterMinute afterHour afterDay afterMonth
-returns-4 c = let n = c .before .before .before in
-    let d = n .before .before .before .before in
-    let h = d .before .before .before .before in
-    let m = h .before .before .before .before in
-    rw (← (m .field-at .ensures), h .before .before .values .given .1, ← (h .field-at2 .ensures), d .before .before .values2 .given .1, ← (d .field-at3 .ensures), n .before .before .values3 .given .1, ← (n .field-at4 .ensures), c .before .fault4 .given .1)
+unfolding afterMonth
+returns-4 c = sym (to-month (c .before .before .before .before .before) ∙ rw (← (c .before .before .before .field-at4 .ensures), c .before .fault4 .given .1))
 
 field-at-requires-5 : tie.Need-field-at-requires-5
 field-at-requires-5 c κs = search needs
@@ -79,13 +119,8 @@ enum-known-fault-5 : tie.Need-enum-known-fault-5
 enum-known-fault-5 c = search needs
 
 returns-5 : tie.Need-returns-5
-unfolding timedEntry afterMinute afterHour afterDay afterMonth afterWeekday
-returns-5 c = let w = c .before .before .before in
-    let n = w .before .before .before .before in
-    let d = n .before .before .before .before in
-    let h = d .before .before .before .before in
-    let m = h .before .before .before .before in
-    rw (← (m .field-at .ensures), h .before .before .values .given .1, ← (h .field-at2 .ensures), d .before .before .values2 .given .1, ← (d .field-at3 .ensures), n .before .before .values3 .given .1, ← (n .field-at4 .ensures), w .before .before .values4 .given .1, ← (w .field-at5 .ensures), c .before .fault5 .given .1)
+unfolding afterWeekday
+returns-5 c = sym (to-weekday (c .before .before .before .before .before) ∙ rw (← (c .before .before .before .field-at5 .ensures), c .before .fault5 .given .1))
 
 cast-t31 : tie.Need-cast-t31
 cast-t31 c = omega (arith, hours-fit _ _ (sym (c .before .before .before .before .before .before .before .before .before .before .before .before .before .before .before .before .field-at2 .ensures) ∙ c .before .before .before .before .before .before .before .before .before .before .before .before .before .before .values2 .given .1))
@@ -103,14 +138,10 @@ with-command-requires : tie.Need-with-command-requires
 with-command-requires c κs = search needs
 
 returns-6 : tie.Need-returns-6
-unfolding timedEntry afterMinute afterHour afterDay afterMonth afterWeekday
-returns-6 c = let w = c .before .before .before .before .before .before .before .before .before .before in
-    let n = w .before .before .before .before in
-    let d = n .before .before .before .before in
-    let h = d .before .before .before .before in
-    let m = h .before .before .before .before in
+unfolding afterWeekday
+returns-6 c =
     c .with-command .ensures
-    ∙ rw (← (m .field-at .ensures), h .before .before .values .given .1, ← (h .field-at2 .ensures), d .before .before .values2 .given .1, ← (d .field-at3 .ensures), n .before .before .values3 .given .1, ← (n .field-at4 .ensures), w .before .before .values4 .given .1, ← (w .field-at5 .ensures), c .before .before .before .before .before .before .before .before .values5 .given .1)
+    ∙ sym (to-weekday (c .before .before .before .before .before .before .before .before .before .before .before .before) ∙ rw (← (c .before .before .before .before .before .before .before .before .before .before .field-at5 .ensures), c .before .before .before .before .before .before .before .before .values5 .given .1))
 
 pub read-spec : {M : Type 1} → statement M
 read-spec =
