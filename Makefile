@@ -11,7 +11,7 @@ SOURCES = crates.txt $(shell find crates -name '*.rt' -o -name '*.antt')
 
 .PHONY: all example test bench clean
 
-all: $(LIBRARY) target/examples/date
+all: $(LIBRARY) target/examples/date target/examples/agenda
 
 target/staticlib/lib%.a: $(SOURCES)
 	rt staticlib $*
@@ -20,8 +20,8 @@ target/examples/%: examples/%.c include/eremothyn.h $(LIBRARY)
 	mkdir -p $(@D)
 	$(CC) -std=c99 $(CFLAGS) -Iinclude -o $@ $< $(LIBRARY)
 
-example: target/examples/date
-	target/examples/date
+example: all
+	target/examples/agenda examples/site.crontab 66355200
 
 test:
 	.ci/run

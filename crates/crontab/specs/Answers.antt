@@ -66,17 +66,6 @@ dueIn (entry.Refused number) m = due.Refused number
 unfoldable pub dueOf : List ℕ → ℕ → ℕ → DueAnswer
 dueOf s i m = dueIn (entryOf s i) m
 
--- 01's number of each case, 0 where nothing is refused, and its value
-abbrev pub dueRefusal : DueAnswer → ℕ
-dueRefusal due.Yes = 0
-dueRefusal due.No = 0
-dueRefusal (due.Refused number) = number
-
-abbrev pub dueValue : DueAnswer → ℕ
-dueValue due.Yes = 1
-dueValue due.No = 0
-dueValue (due.Refused number) = 0
-
 -- ---- its next firing
 
 unfoldable pub nextFound : Next → NextAnswer
@@ -95,16 +84,3 @@ nextIn (entry.Refused number) m = firing.Refused number
 
 unfoldable pub nextOf : List ℕ → ℕ → ℕ → NextAnswer
 nextOf s i m = nextIn (entryOf s i) m
-
--- 01's number of each case, 0 where nothing is refused, and its value
-abbrev pub nextRefusal : NextAnswer → ℕ
-nextRefusal (firing.At m) = 0
-nextRefusal firing.Never = 16
-nextRefusal firing.PastEnd = 17
-nextRefusal (firing.Refused number) = number
-
-abbrev pub nextValue : NextAnswer → ℕ
-nextValue (firing.At m) = m
-nextValue firing.Never = 0
-nextValue firing.PastEnd = 0
-nextValue (firing.Refused number) = 0

@@ -1,5 +1,6 @@
 //! The header and the examples as C and C++ compilers take them, with every warning an error.
 
+use std::fs;
 use std::path::{Path, PathBuf};
 use std::process::{Command, Output};
 
@@ -29,9 +30,23 @@ fn the_header_compiles_as_c_and_as_cpp() {
     compile("c++", "-std=c++17", &["-fsyntax-only", "-x", "c++", header]);
 }
 
-/// Runs examples/date.c.
-fn date(program: &Path, arguments: &[&str]) -> Output {
+/// Builds an example, and says where it is.
+fn example(name: &str) -> PathBuf {
+    let program = Path::new(env!("CARGO_TARGET_TMPDIR")).join(name);
+    let built = program.to_str().expect("a path in UTF-8");
+    let source = format!("examples/{name}.c");
+    let library = "target/staticlib/liberemothyn.a";
+    compile(
+        "cc",
+        "-std=c99",
+        &["-Iinclude", "-o", built, &source, library],
+    );
+    program
+}
+
+fn run(program: &Path, arguments: &[&str]) -> Output {
     Command::new(program)
+        .current_dir(root())
         .args(arguments)
         .output()
         .expect("the example runs")
@@ -39,14 +54,7 @@ fn date(program: &Path, arguments: &[&str]) -> Output {
 
 #[test]
 fn the_example_prints_dates_and_minutes_and_refuses_the_rest() {
-    let program = Path::new(env!("CARGO_TARGET_TMPDIR")).join("date");
-    let built = program.to_str().expect("a path in UTF-8");
-    let library = "target/staticlib/liberemothyn.a";
-    compile(
-        "cc",
-        "-std=c99",
-        &["-Iinclude", "-o", built, "examples/date.c", library],
-    );
+    let program = example("date");
     let printed: [(&[&str], i32, &str); 8] = [
         (&["0"], 0, "1970-01-01 00:00 Thursday\n"),
         (&["15863040"], 0, "2000-02-29 00:00 Tuesday\n"),
@@ -58,9 +66,34 @@ fn the_example_prints_dates_and_minutes_and_refuses_the_rest() {
         (&["-1"], 2, ""),
     ];
     for (arguments, status, text) in printed {
-        let output = date(&program, arguments);
+        let output = run(&program, arguments);
         assert_eq!(output.status.code(), Some(status), "{arguments:?}");
         assert_eq!(String::from_utf8_lossy(&output.stdout), text);
         assert_eq!(output.stderr.is_empty(), status == 0, "{arguments:?}");
     }
+}
+
+#[test]
+fn the_example_prints_an_agenda_and_names_the_place_of_a_fault() {
+    let program = example("agenda");
+    let good = run(&program, &["examples/site.crontab", "66355200"]);
+    assert_eq!(good.status.code(), Some(0), "{good:?}");
+    // 2096-02-29 is a Wednesday; 01 has the last two among its known days
+    assert_eq!(
+        String::from_utf8_lossy(&good.stdout),
+        "at boot           heaters on\n\
+         2096-02-29 00:15  dome check\n\
+         2096-02-29 01:00  ask the receiver for the time\n\
+         2096-03-01 04:30  fetch certificates for the gate\n\
+         2104-02-29 00:00  calibrate\n\
+         never             open the dome on 30 February\n"
+    );
+    let table = Path::new(env!("CARGO_TARGET_TMPDIR")).join("bad.crontab");
+    fs::write(&table, "# one\n* * * * * a\n0 0 * * mon-fri b\n").expect("the table is written");
+    let table = table.to_str().expect("a path in UTF-8");
+    let bad = run(&program, &[table, "0"]);
+    assert_eq!(bad.status.code(), Some(1), "{bad:?}");
+    assert!(bad.stdout.is_empty());
+    let told = format!("{table}:3:9: no time field (refusal 5)\n");
+    assert_eq!(String::from_utf8_lossy(&bad.stderr), told);
 }
