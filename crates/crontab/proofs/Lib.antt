@@ -7,3 +7,4 @@ pub mod Tables
 pub mod Settings
 pub mod Minutes
 pub mod Theorems
+pub mod Firings

@@ -3,7 +3,7 @@
 -- `0` 48, a backslash 92, `a` 97. It is proved in proofs/KnownDays.
 -- Assumes nothing.
 use mathlib.Core.Path.{_≡_}
-use mathlib.Core.Bool.{true, false}
+use mathlib.Core.Bool.{false}
 use mathlib.Core.List.{[], _∷_}
 use Rattle.calendar.specs.Dates.{dateOf, minuteOf}
 use Rattle.field.specs.declared.Answer.the-variants.{Values, Refused}

@@ -1,8 +1,8 @@
 -- The third demand holds: fifo's theorem of fairness, with the reader's promise that free day fields have every value and the
 -- schedule's gap.
 -- Assumes nothing.
-use mathlib.Core.Path.{_≡_, refl, sym, ap, subst, _∙_}
-use mathlib.Core.Bool.{Bool, true, false, true≢false}
+use mathlib.Core.Path.{_≡_, refl, subst}
+use mathlib.Core.Bool.{true, false, true≢false}
 use mathlib.Core.List.{List}
 use Prim.Native.Nat.{ℕ, _+_, _≤_, _<_}
 use native.Mathlib.Decide.{decLe}
@@ -17,7 +17,7 @@ use Rattle.schedule.proofs.Search.{from-some}
 use Rattle.schedule.proofs.Gap.{fires-within}
 use Rattle.crontab.specs.declared.When.{When}
 use Rattle.crontab.specs.declared.When.the-variants.{Reboot, Timed}
-use Rattle.crontab.specs.Tables.{blankEntry, tableOf}
+use Rattle.crontab.specs.Tables.{tableOf}
 use Rattle.crontab.specs.Answers.{firesAt}
 use Rattle.crontab.proofs.Proper.{WholeTimes}
 use Rattle.crontab.proofs.Theorems.{table-sound}

@@ -1,7 +1,7 @@
 -- Laws of the three calls: what they come to where the table is refused, and where it isn't.
 -- Assumes nothing.
-use mathlib.Core.Path.{_≡_, refl, sym, ap, _∙_}
-use mathlib.Core.Bool.{true, false}
+use mathlib.Core.Path.{_≡_, sym, ap, _∙_}
+use mathlib.Core.Bool.{true}
 use mathlib.Core.List.{List, []}
 use Prim.Native.Nat.{ℕ}
 use native.Mathlib.Omega.{arith}
@@ -11,7 +11,7 @@ use Rattle.crontab.specs.declared.Table.{Table}
 use Rattle.fifo.specs.declared.Ticked.the-variants.{Refused as NotTicked}
 use Rattle.fifo.specs.declared.Popped.the-variants.{Refused as NotPopped}
 use Rattle.fifo.specs.Layout.{laid, roomy}
-use Rattle.fifo.specs.Steps.{Step, initStep, tickStep, popStep, cleared}
+use Rattle.fifo.specs.Steps.{initStep, tickStep, popStep, cleared}
 use Rattle.fifo.proofs.Laid.{laid-laid}
 use Rattle.fifo.proofs.Filling.{init-start}
 use Rattle.runqueue.specs.Jobs.{jobsOf}

@@ -5,21 +5,20 @@ use mathlib.Core.Path.{_≡_, refl, sym, ap, _∙_}
 use mathlib.Core.Bool.{Bool, true, false, _&&_}
 use Prim.Native.Nat.{ℕ, _+_, _/_, _≤_, _<_}
 use native.Mathlib.Omega.{arith}
-use lib.Dec.{T, leb, ltb, eqb, eqb→eq, ltb→lt, lit≤}
+use lib.Dec.{T, ltb, eqb, eqb→eq, ltb→lt, lit≤}
 use mir.Facts.{and-yes}
-use borrow.Author.Tests.{le-leb, lt-ltb}
+use borrow.Author.Tests.{le-leb}
 use Rattle.calendar.specs.Gregorian.{leap, yearDays, monthTable, monthLength, monthDays}
 use Rattle.calendar.specs.Walk.{walk}
 use Rattle.calendar.specs.Dates.{calendarDays, lastMinute, weekdayOf, yearOf, monthOf, dateAt}
 use Rattle.calendar.proofs.Months.{lengthOf}
 use Rattle.schedule.specs.declared.Schedule.{Schedule}
-use Rattle.schedule.specs.declared.Next.{Next}
 use Rattle.schedule.specs.declared.Next.the-variants.{At, Never, PastEnd}
 use Rattle.schedule.specs.Sets.{hasBit}
 use Rattle.schedule.specs.Match.{eitherMay, byDayRule, matchesDay, matchesTime, matches, matchesOn, matchesAt}
 use Rattle.schedule.specs.Search.{leastOf, from}
 use Rattle.schedule.specs.Days.{matchesIn, hasDate, someDay}
-use Rattle.schedule.specs.Next.{canFire, firingAfter, nextAfter}
+use Rattle.schedule.specs.Next.{firingAfter, nextAfter}
 use Rattle.schedule.specs.Gap.{gap}
 use Rattle.schedule.specs.Examples.{leapDay, fridays, february30, mondays30, lastDay}
 use Rattle.schedule.proofs.Search.{from-past}

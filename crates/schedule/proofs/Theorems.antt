@@ -1,17 +1,15 @@
 -- What the next firing is, with no search in it. The four cases leave nothing out, so each is also the only one.
 -- Assumes nothing.
-use mathlib.Core.Path.{_≡_, refl, sym, _∙_}
-use mathlib.Core.Bool.{true, false, _&&_}
+use mathlib.Core.Path.{_≡_, sym, _∙_}
+use mathlib.Core.Bool.{true, false}
 use Prim.Native.Nat.{ℕ, _+_, _/_, _%_, _≤_, _<_}
 use native.Mathlib.Omega.{arith}
-use borrow.Author.Tests.{le-leb, lt-leb, le-ltb, lt-ltb}
+use borrow.Author.Tests.{le-leb, lt-leb, lt-ltb}
 use Rattle.calendar.specs.Dates.{lastMinute, cycleMinutes}
 use Rattle.calendar.proofs.Tests.{and-true}
 use Rattle.schedule.specs.declared.Schedule.{Schedule}
-use Rattle.schedule.specs.declared.Next.{Next}
 use Rattle.schedule.specs.declared.Next.the-variants.{At, Never, PastEnd, NotOnCalendar}
 use Rattle.schedule.specs.Match.{matches, matchesOn, matchesAt}
-use Rattle.schedule.specs.Search.{from}
 use Rattle.schedule.specs.Next.{canFire, firingAfter, nextAfter}
 use Rattle.schedule.proofs.Search.{Least, least-from, from-none, from-some}
 use Rattle.schedule.proofs.Possible.{matching-some}

@@ -1,9 +1,8 @@
 -- A schedule by plain numbers, and its answers as plain numbers.
 -- Assumes nothing.
 use Prim.Native.Nat.{ℕ, _+_, _/_, _%_}
-use mathlib.Core.Bool.{cond, _&&_}
-use lib.Dec.{leb, eqb}
-use Rattle.calendar.specs.Dates.{lastMinute}
+use mathlib.Core.Bool.{cond}
+use lib.Dec.{eqb}
 use Rattle.schedule.specs.declared.Schedule.{Schedule}
 use Rattle.schedule.specs.Match.{isDue}
 use Rattle.schedule.specs.Next.{nextAfter, refusalOf, minuteIn}

@@ -1,14 +1,10 @@
 -- `runqueue::init` meets its contract: each return is a law of the calls.
 -- Assumes nothing.
-use mathlib.Core.Path.{_≡_, sym, ap, _∙_}
+use mathlib.Core.Path.{sym, _∙_}
 use borrow.Author.Needs.{needs}
-use mathlib.Core.List.{[]}
-use native.Mathlib.Omega.{arith}
 use Rattle.crontab.proofs.Theorems.{table-sound}
-use Rattle.fifo.specs.Layout.{roomy}
 use Rattle.fifo.specs.Steps.{fresh}
-use Rattle.fifo.proofs.Laid.{laid-laid}
-use Rattle.fifo.proofs.Filling.{init-start, init-done, init-refused}
+use Rattle.fifo.proofs.Filling.{init-done, init-refused}
 use Rattle.runqueue.specs.Jobs.{jobsOf}
 use Rattle.runqueue.specs.Calls.{initOf}
 use Rattle.runqueue.proofs.Exits.{init-bad, init-good, emptied, laid-emptied}

@@ -1,6 +1,5 @@
 -- `runqueue::pop` meets its contract: each return is a law of the calls.
 -- Assumes nothing.
-use mathlib.Core.Path.{_≡_, sym, ap, _∙_}
 use borrow.Author.Needs.{needs}
 use Rattle.runqueue.specs.Calls.{popOf}
 use Rattle.runqueue.proofs.Exits.{pop-bad, pop-good}

@@ -1,8 +1,7 @@
 -- `runqueue::tick` meets its contract: each return is a law of the calls.
 -- Assumes nothing.
-use mathlib.Core.Path.{_≡_, sym, ap, _∙_}
+use mathlib.Core.Path.{sym, ap, _∙_}
 use borrow.Author.Needs.{needs}
-use native.Mathlib.Omega.{arith}
 use Rattle.calendar.specs.declared.DateAnswer.{DateAnswer}
 use Rattle.calendar.proofs.Minutes.{dateOf-on}
 use Rattle.crontab.proofs.Theorems.{table-sound}
