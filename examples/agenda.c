@@ -1,7 +1,10 @@
 /*
- * What a crontab does next: for each entry when it fires, and the shell line that it runs.
+ * What a crontab does.
  *
- *     agenda FILE MINUTE        after a minute, which counts from 1970-01-01 00:00
+ *     agenda FILE MINUTE        for each entry when it fires next after a minute, and the shell line that it runs
+ *     agenda FILE FIRST LAST    from one minute to another, what a controller starts that takes one job each minute
+ *
+ * Minutes count from 1970-01-01 00:00.
  *
  * Built from the repository's root:
  *
@@ -52,35 +55,65 @@ static void print_when(uint64_t minute)
                eremothyn_month(minute), eremothyn_day(minute), eremothyn_hour(minute), eremothyn_minute_of_hour(minute));
 }
 
-static void print_entry(const uint8_t *table, uint64_t length, uint64_t entry, uint64_t after)
+/* A line of the agenda: a minute, or why there is none, and the shell line of an entry. */
+static void print_line(uint64_t minute, const uint8_t *table, uint64_t length, uint64_t entry)
 {
     uint8_t shell[LINE], input[LINE];
     uint64_t written = eremothyn_split_command(table, length, entry, shell, sizeof shell, input, sizeof input);
-    print_when(eremothyn_next(table, length, entry, after));
+    print_when(minute);
     printf("  %.*s\n", (int)written, (const char *)shell);
+}
+
+/* Each minute is announced, and whoever has waited longest is started. */
+static int print_starts(const uint8_t *table, uint64_t length, uint64_t first, uint64_t last)
+{
+    static uint8_t room[EREMOTHYN_ROOM(128)];
+    eremothyn_queue_init(table, length, room, sizeof room);
+    for (uint64_t minute = first; minute <= last; minute++) {
+        uint64_t joined = eremothyn_queue_tick(table, length, room, sizeof room, minute);
+        if (EREMOTHYN_IS_REFUSED(joined)) {
+            fprintf(stderr, "agenda: minute %" PRIu64 ": %s\n", minute, reason(EREMOTHYN_REFUSAL(joined)));
+            return REFUSED;
+        }
+        uint64_t entry = eremothyn_queue_pop(table, length, room, sizeof room);
+        if (entry != EREMOTHYN_NOTHING_WAITS)
+            print_line(minute, table, length, entry);
+    }
+    return DONE;
+}
+
+static uint64_t read_minute(const char *text)
+{
+    char *rest;
+    uint64_t minute = strtoull(text, &rest, 10);
+    if (*text < '0' || *text > '9' || *rest != '\0') {
+        fprintf(stderr, "agenda: %s is no minute\n", text);
+        exit(MISUSED);
+    }
+    return minute;
+}
+
+static uint64_t read_file(const char *name, uint8_t *bytes, uint64_t room)
+{
+    FILE *file = fopen(name, "rb");
+    if (file == NULL) {
+        perror(name);
+        exit(MISUSED);
+    }
+    uint64_t length = fread(bytes, 1, room, file);
+    fclose(file);
+    return length;
 }
 
 int main(int count, char **arguments)
 {
-    if (count != 3) {
-        fputs("usage: agenda FILE MINUTE\n", stderr);
-        return MISUSED;
-    }
-    FILE *file = fopen(arguments[1], "rb");
-    if (file == NULL) {
-        perror(arguments[1]);
+    if (count != 3 && count != 4) {
+        fputs("usage: agenda FILE MINUTE, or agenda FILE FIRST LAST\n", stderr);
         return MISUSED;
     }
     static uint8_t table[ROOM];
-    uint64_t length = fread(table, 1, sizeof table, file);
-    fclose(file);
-
-    char *rest;
-    uint64_t after = strtoull(arguments[2], &rest, 10);
-    if (*arguments[2] < '0' || *arguments[2] > '9' || *rest != '\0') {
-        fprintf(stderr, "agenda: %s is no minute\n", arguments[2]);
-        return MISUSED;
-    }
+    uint64_t length = read_file(arguments[1], table, sizeof table);
+    uint64_t minute = read_minute(arguments[2]);
     uint64_t entries = eremothyn_check(table, length);
     if (EREMOTHYN_IS_REFUSED(entries)) {
         fprintf(stderr, "%s:%" PRIu64 ":%" PRIu64 ": %s (refusal %" PRIu64 ")\n", arguments[1],
@@ -88,7 +121,9 @@ int main(int count, char **arguments)
                 reason(EREMOTHYN_REFUSAL(entries)), EREMOTHYN_REFUSAL(entries));
         return REFUSED;
     }
+    if (count == 4)
+        return print_starts(table, length, minute, read_minute(arguments[3]));
     for (uint64_t entry = 0; entry < entries; entry++)
-        print_entry(table, length, entry, after);
+        print_line(eremothyn_next(table, length, entry, minute), table, length, entry);
     return DONE;
 }

@@ -73,6 +73,13 @@ fn the_example_prints_dates_and_minutes_and_refuses_the_rest() {
     }
 }
 
+/// Writes a table, and says where it is.
+fn written(name: &str, table: &str) -> String {
+    let path = Path::new(env!("CARGO_TARGET_TMPDIR")).join(name);
+    fs::write(&path, table).expect("the table is written");
+    path.to_str().expect("a path in UTF-8").to_string()
+}
+
 #[test]
 fn the_example_prints_an_agenda_and_names_the_place_of_a_fault() {
     let program = example("agenda");
@@ -88,12 +95,29 @@ fn the_example_prints_an_agenda_and_names_the_place_of_a_fault() {
          2104-02-29 00:00  calibrate\n\
          never             open the dome on 30 February\n"
     );
-    let table = Path::new(env!("CARGO_TARGET_TMPDIR")).join("bad.crontab");
-    fs::write(&table, "# one\n* * * * * a\n0 0 * * mon-fri b\n").expect("the table is written");
-    let table = table.to_str().expect("a path in UTF-8");
-    let bad = run(&program, &[table, "0"]);
+    let table = written("bad.crontab", "# one\n* * * * * a\n0 0 * * mon-fri b\n");
+    let bad = run(&program, &[&table, "0"]);
     assert_eq!(bad.status.code(), Some(1), "{bad:?}");
     assert!(bad.stdout.is_empty());
     let told = format!("{table}:3:9: no time field (refusal 5)\n");
     assert_eq!(String::from_utf8_lossy(&bad.stderr), told);
+}
+
+#[test]
+fn the_example_starts_whoever_has_waited_longest() {
+    let program = example("agenda");
+    // the table of 01's whole run: b waits from the start, a joins at 59 and again at 61, c at 60
+    let table = written("run.crontab", "* * * * * a\n@reboot b\n0 * * * * c\n");
+    let output = run(&program, &[&table, "59", "61"]);
+    assert_eq!(output.status.code(), Some(0), "{output:?}");
+    assert_eq!(
+        String::from_utf8_lossy(&output.stdout),
+        "1970-01-01 00:59  b\n1970-01-01 01:00  a\n1970-01-01 01:01  c\n"
+    );
+    let late = run(&program, &[&table, "4223371679", "4223371680"]);
+    assert_eq!(late.status.code(), Some(1), "{late:?}");
+    assert_eq!(
+        String::from_utf8_lossy(&late.stdout),
+        "9999-12-31 23:59  b\n"
+    );
 }
