@@ -1,7 +1,9 @@
--- Paper 01, "What comes back", for one entry as a C caller gets it: yes is 1 and no 0; a minute is itself; 16 is "never" and 17
--- "past the end".
+-- Paper 01, "What comes back", for one entry as a C caller gets it: yes is 1 and no 0; a minute is itself; "never" and "past the
+-- end" have the schedule's numbers.
 -- Assumes nothing.
 use Prim.Native.Nat.{ℕ, _+_}
+use Rattle.schedule.specs.declared.Next.the-variants.{Never, PastEnd}
+use Rattle.schedule.specs.Next.{refusalOf}
 use Rattle.crontab.specs.declared.DueAnswer.{DueAnswer}
 use Rattle.crontab.specs.declared.DueAnswer.the-variants as due
 use Rattle.crontab.specs.declared.NextAnswer.{NextAnswer}
@@ -15,6 +17,6 @@ dueNumber (due.Refused number) = refused + number
 
 unfoldable pub nextNumber : NextAnswer → ℕ
 nextNumber (next.At minute) = minute
-nextNumber next.Never = refused + 16
-nextNumber next.PastEnd = refused + 17
+nextNumber next.Never = refused + refusalOf Never
+nextNumber next.PastEnd = refused + refusalOf PastEnd
 nextNumber (next.Refused number) = refused + number

@@ -19,8 +19,6 @@ use crontab::firing;
 use fifo::Popped;
 use fifo::Ticked;
 
-const LAST_MINUTE: u64 = 4_223_371_679;
-
 fn is_boot(when: When) -> bool
     ensures { λ r. ⌜ r ≡ isBoot when ⌝ }
 {
@@ -125,7 +123,7 @@ pub fn tick(table: &[u8], room: &mut [u8], minute: u64) -> Ticked
         return Ticked::Refused(refusal);
     }
     if fifo::is_line(room, t.count) {
-        if LAST_MINUTE < minute {
+        if calendar::LAST_MINUTE < minute {
             return Ticked::Refused(calendar::NOT_ON_CALENDAR);
         }
         let date = calendar::date_of(minute).date;

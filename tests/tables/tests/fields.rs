@@ -184,17 +184,7 @@ fn names_with_one_byte_changed() {
 
 #[test]
 fn words_with_one_byte_changed() {
-    let words = [
-        "@reboot",
-        "@yearly",
-        "@annually",
-        "@monthly",
-        "@weekly",
-        "@daily",
-        "@midnight",
-        "@hourly",
-    ];
-    for word in words {
+    for word in samples::WORDS {
         let word = word.as_bytes();
         let judge = |changed: &[u8]| {
             let line = [changed, b" a"].concat();

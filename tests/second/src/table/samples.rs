@@ -15,7 +15,8 @@ const NAMES: [&[&str]; 5] = [
     &["sun", "MON", "Tue", "wED", "thu", "Fri", "sAt"],
 ];
 
-const WORDS: [&str; 8] = [
+/// The eight words.
+pub const WORDS: [&str; 8] = [
     "@reboot",
     "@yearly",
     "@annually",
