@@ -11,7 +11,7 @@
  *
  *     uint64_t minute = eremothyn_minute_of_date(2000, 2, 29, 0, 0);
  *     if (EREMOTHYN_IS_REFUSED(minute))
- *         report(EREMOTHYN_REFUSAL(minute));
+ *         puts(eremothyn_words(EREMOTHYN_REFUSAL(minute)));
  */
 
 #ifndef EREMOTHYN_H
@@ -25,6 +25,11 @@ extern "C" {
 
 /* The last minute of the calendar, 9999-12-31 23:59. */
 #define EREMOTHYN_LAST_MINUTE UINT64_C(4223371679)
+
+/* What a table may have: bytes, bytes in a line without its newline, entries. */
+#define EREMOTHYN_MAX_TABLE 16384
+#define EREMOTHYN_MAX_LINE 1000
+#define EREMOTHYN_MAX_ENTRIES 128
 
 /* A refusal is this plus its number. */
 #define EREMOTHYN_REFUSED UINT64_C(4294967296)
@@ -63,6 +68,37 @@ extern "C" {
 #define EREMOTHYN_TOO_SHORT UINT64_C(18)       /* a lent buffer is too short for the text */
 #define EREMOTHYN_NO_SETTING UINT64_C(19)      /* the line asked for is no setting, or isn't there */
 #define EREMOTHYN_NOT_A_QUEUE UINT64_C(28)     /* not a waiting line of this table, or not room for all its entries */
+
+/* A refusal in plain words, for a message; the one place that has them. */
+static inline const char *eremothyn_words(uint64_t refusal)
+{
+    switch (refusal) {
+    case EREMOTHYN_TABLE_TOO_LONG: return "the table has more than 16384 bytes";
+    case EREMOTHYN_LINE_TOO_LONG: return "the line has more than 1000 bytes";
+    case EREMOTHYN_NUL_BYTE: return "the line has a byte 0";
+    case EREMOTHYN_TOO_FEW_FIELDS: return "fewer than five time fields";
+    case EREMOTHYN_FIELD_MALFORMED:
+        return "not a time field: *, */step, or a list of n, n-m and n-m/step; the name of a month or weekday stands alone";
+    case EREMOTHYN_OUT_OF_LIMITS:
+        return "a number outside its limits: minute 0-59, hour 0-23, day 1-31, month 1-12, weekday 0-7";
+    case EREMOTHYN_RANGE_REVERSED: return "a range from high to low";
+    case EREMOTHYN_STEP_ZERO: return "a step of 0";
+    case EREMOTHYN_NO_COMMAND: return "no command after the time";
+    case EREMOTHYN_UNKNOWN_WORD:
+        return "not one of @reboot, @yearly, @annually, @monthly, @weekly, @daily, @midnight and @hourly";
+    case EREMOTHYN_BAD_SETTING: return "neither an entry nor a setting, which is name=value";
+    case EREMOTHYN_TOO_MANY_ENTRIES: return "more than 128 entries";
+    case EREMOTHYN_NO_SUCH_ENTRY: return "the table has no entry of this number";
+    case EREMOTHYN_NOT_ON_CALENDAR: return "not on the calendar, 1970-01-01 00:00 to 9999-12-31 23:59";
+    case EREMOTHYN_AT_BOOT_ONLY: return "fires at boot only";
+    case EREMOTHYN_NEVER: return "never fires";
+    case EREMOTHYN_PAST_THE_END: return "fires no more before the year 10000";
+    case EREMOTHYN_TOO_SHORT: return "a buffer is too short for the text";
+    case EREMOTHYN_NO_SETTING: return "no setting on this line";
+    case EREMOTHYN_NOT_A_QUEUE: return "not a waiting line of this table, or room for too few entries";
+    default: return "no refusal has this number";
+    }
+}
 
 /*
  * The minute of a date: year 1970 to 9999, month 1 to 12, day 1 to the month's last, hour 0 to 23, minute 0 to 59.

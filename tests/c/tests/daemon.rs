@@ -1,0 +1,190 @@
+//! `examples/daemon.c` beside the second program, which keeps the same site's line.
+
+use c::{build, root, run, scratch, told, word};
+use second::calendar::{date_of, minute_of};
+use second::command::split;
+use second::queue::Queue;
+use second::table::{calls::Calls, read};
+use std::fmt::Write;
+use std::fs;
+
+const WEEKDAYS: [&str; 7] = ["Sun", "Mon", "Tue", "Wed", "Thu", "Fri", "Sat"];
+
+fn date(minute: u64) -> String {
+    let [year, month, day, hour, minute, weekday] =
+        date_of(minute).expect("on the calendar").parts();
+    let weekday = WEEKDAYS[weekday as usize];
+    format!("{year:04}-{month:02}-{day:02} {weekday} {hour:02}:{minute:02}")
+}
+
+/// What the daemon's log says of a table, a pace and spans of minutes.
+fn log(bytes: &[u8], pace: u64, spans: &[(u64, u64)]) -> String {
+    let table = read(bytes).expect("a good table");
+    let calls = Calls::of(bytes);
+    let mut queue = Queue::fresh(&table);
+    let mut log = String::new();
+    let first = spans[0].0;
+    for entry in 0..table.entries.len() as u64 {
+        let next = match calls.next(entry, first) {
+            Ok(minute) => format!("next {}", date(minute)),
+            Err(15) => "fires at boot only".to_string(),
+            Err(16) => "never fires".to_string(),
+            Err(_) => "fires no more before the year 10000".to_string(),
+        };
+        writeln!(log, "entry {entry:2}  {next}").expect("a string");
+    }
+    writeln!(log, "{}  boot, {} wait", date(first), queue.waiting.len()).expect("a string");
+    for minute in spans.iter().flat_map(|&(first, last)| first..=last) {
+        let joined = queue
+            .tick(&table, minute)
+            .expect("a minute of the calendar");
+        if joined > 0 {
+            writeln!(
+                log,
+                "{}  {joined} joined, {} wait",
+                date(minute),
+                queue.waiting.len()
+            )
+            .expect("a string");
+        }
+        for _ in 0..pace {
+            let Some(entry) = queue.pop(&table).expect("its line") else {
+                break;
+            };
+            let command = split(table.entries[entry as usize].command);
+            writeln!(
+                log,
+                "{}  start entry {entry:2}  |{}|",
+                date(minute),
+                shown(&command.shell)
+            )
+            .expect("a string");
+            if let Some(input) = command.input {
+                writeln!(log, "{:>38}  |{}|", "standard input", shown(&input)).expect("a string");
+            }
+        }
+    }
+    log
+}
+
+fn shown(text: &[u8]) -> String {
+    let byte = |&byte: &u8| match byte {
+        b'\n' => "\\n".to_string(),
+        b' '..=b'~' => (byte as char).to_string(),
+        _ => format!("\\x{byte:02x}"),
+    };
+    text.iter().map(byte).collect()
+}
+
+/// A minute as the daemon takes it.
+fn argument(minute: u64) -> String {
+    let [year, month, day, hour, minute, _] = date_of(minute).expect("on the calendar").parts();
+    format!("{year:04}-{month:02}-{day:02}T{hour:02}:{minute:02}")
+}
+
+#[test]
+fn the_log_is_the_second_programs() {
+    let folder = scratch("daemon-log");
+    let program = build("examples/daemon.c", &folder);
+    let evening = minute_of(2026, 11, 15, 21, 0).expect("a date");
+    let observatory = fs::read(root().join("examples/observatory.crontab")).expect("the crontab");
+    let tables: [&[u8]; 4] = [
+        &observatory,
+        b"* * * * * a\n@reboot b\n0 * * * * c\n",
+        b"0 0 30 2 * never\n0 0 1 1 * last\n* * * * * tab\there%\xff%\n",
+        b"",
+    ];
+    let spans: [&[(u64, u64)]; 4] = [
+        &[(0, 20), (evening, evening + 60)],
+        &[(59, 61)],
+        &[(4_223_371_600, 4_223_371_679)],
+        &[(evening, evening), (0, 0), (5, 4)],
+    ];
+    for table in tables {
+        for spans in spans {
+            for pace in [0, 1, 3, 200] {
+                let path = folder.join("table");
+                fs::write(&path, table).expect("the table is written");
+                let mut arguments = vec![word(&path).to_string(), pace.to_string()];
+                arguments.extend(
+                    spans
+                        .iter()
+                        .flat_map(|&(first, last)| [argument(first), argument(last)]),
+                );
+                let output = run(&program, &arguments);
+                assert_eq!(
+                    told(&output),
+                    (log(table, pace, spans), Some(0)),
+                    "{arguments:?}"
+                );
+            }
+        }
+    }
+}
+
+/// 01's whole run: request, announce 59, announce 60, then requests until nothing waits.
+#[test]
+fn the_papers_whole_run_starts_b_a_c() {
+    let folder = scratch("daemon-run");
+    let program = build("examples/daemon.c", &folder);
+    let path = folder.join("table");
+    fs::write(&path, "* * * * * a\n@reboot b\n0 * * * * c\n").expect("the table is written");
+    let (text, _) = told(&run(
+        &program,
+        &[word(&path), "1", "1970-01-01T00:59", "1970-01-01T01:01"],
+    ));
+    let starts: Vec<&str> = text
+        .lines()
+        .filter_map(|line| line.split_once("|").map(|(_, rest)| rest))
+        .collect();
+    assert_eq!(starts, ["b|", "a|", "c|"]);
+}
+
+#[test]
+fn refusals_and_wrong_arguments_are_said() {
+    let folder = scratch("daemon-refused");
+    let program = build("examples/daemon.c", &folder);
+    let path = folder.join("table");
+    fs::write(&path, "# one\n0 0 * * mon,fri b\n").expect("the table is written");
+    let bad = word(&path);
+    let fault = format!("{bad}:2:9: refused 5: ");
+    let rows: [(&[&str], i32, &str); 7] = [
+        (
+            &[bad, "1", "1970-01-01T00:00", "1970-01-01T00:00"],
+            1,
+            &fault,
+        ),
+        (
+            &["/nowhere", "1", "1970-01-01T00:00", "1970-01-01T00:00"],
+            2,
+            "daemon: /nowhere: No such file",
+        ),
+        (
+            &[bad, "1", "2100-02-29T00:00", "2100-03-01T00:00"],
+            1,
+            "daemon: 2100-02-29T00:00: refused 14: ",
+        ),
+        (
+            &[bad, "1", "1970-01-01 00:00", "1970-01-01T00:00"],
+            2,
+            "usage: ",
+        ),
+        (
+            &[bad, "-1", "1970-01-01T00:00", "1970-01-01T00:00"],
+            2,
+            "usage: ",
+        ),
+        (&[bad, "1", "1970-01-01T00:00"], 2, "usage: "),
+        (&[], 2, "usage: "),
+    ];
+    for (arguments, status, start) in rows {
+        let output = run(&program, arguments);
+        assert_eq!(
+            told(&output),
+            (String::new(), Some(status)),
+            "{arguments:?}"
+        );
+        let said = String::from_utf8_lossy(&output.stderr);
+        assert!(said.starts_with(start), "{arguments:?}: {said}");
+    }
+}

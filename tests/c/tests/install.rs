@@ -1,0 +1,141 @@
+//! The installed tree as a C programmer uses it: by pkg-config, from C and C++, and by the manual.
+
+use c::{compile, root, run, scratch, told, word};
+use std::fs;
+use std::path::Path;
+use std::sync::Once;
+
+const PREFIX: &str = "/opt/engine";
+
+static BUILT: Once = Once::new();
+
+/// `make` at the root.
+fn make(arguments: &[&str]) {
+    let output = run("make", arguments);
+    assert!(output.status.success(), "{output:?}");
+}
+
+/// `make install` below a folder. What it installs is built only once, however many tests run side by side.
+fn install(folder: &Path) {
+    BUILT.call_once(|| make(&["all"]));
+    let below = format!("DESTDIR={}", word(folder));
+    make(&["install", &below, &format!("PREFIX={PREFIX}")]);
+}
+
+/// What pkg-config answers for the tree below a folder.
+fn flags(folder: &Path, question: &[&str]) -> Vec<String> {
+    let output = std::process::Command::new("pkg-config")
+        .env(
+            "PKG_CONFIG_PATH",
+            format!("{}{PREFIX}/lib/pkgconfig", word(folder)),
+        )
+        .env("PKG_CONFIG_SYSROOT_DIR", folder)
+        .args(question)
+        .arg("eremothyn")
+        .output()
+        .expect("pkg-config runs");
+    let (text, status) = told(&output);
+    assert_eq!(status, Some(0), "{output:?}");
+    text.split_whitespace().map(str::to_string).collect()
+}
+
+/// The C program that the README shows first.
+fn readme_program() -> String {
+    let readme = fs::read_to_string(root().join("README.md")).expect("the README");
+    let (_, rest) = readme.split_once("```c\n").expect("a C program");
+    let (program, _) = rest.split_once("```").expect("its end");
+    program.to_string()
+}
+
+#[test]
+fn a_c_and_a_cpp_program_compile_against_the_installed_tree() {
+    let folder = scratch("install-programs");
+    install(&folder);
+    let cflags = flags(&folder, &["--cflags"]);
+    let libs = flags(&folder, &["--libs"]);
+    for (compiler, standard, source) in [
+        ("cc", "-std=c99", "first.c"),
+        ("c++", "-std=c++17", "first.cpp"),
+    ] {
+        let path = folder.join(source);
+        fs::write(&path, readme_program()).expect("the program is written");
+        let program = folder.join("first");
+        let mut arguments: Vec<&str> = cflags.iter().map(String::as_str).collect();
+        arguments.extend(["-o", word(&program), word(&path)]);
+        arguments.extend(libs.iter().map(String::as_str));
+        compile(compiler, standard, &arguments);
+        assert_eq!(
+            told(&run::<&str>(&program, &[])),
+            ("fires next at minute 5\n".to_string(), Some(0))
+        );
+    }
+}
+
+#[test]
+fn the_installed_checker_runs_and_the_version_is_told() {
+    let folder = scratch("install-checker");
+    install(&folder);
+    let checker = format!("{}{PREFIX}/bin/crontab_check", word(&folder));
+    assert_eq!(
+        told(&run(checker, &["examples/observatory.crontab"])),
+        (
+            "examples/observatory.crontab: 11 entries\n".to_string(),
+            Some(0)
+        )
+    );
+    let makefile = fs::read_to_string(root().join("Makefile")).expect("the Makefile");
+    let version = flags(&folder, &["--modversion"]);
+    assert!(makefile.contains(&format!("VERSION = {}\n", version[0])));
+}
+
+/// Every function, refusal and limit of the header is in the manual, and `man FUNCTION` finds the page.
+#[test]
+fn the_manual_has_all_of_the_header() {
+    let folder = scratch("install-manual");
+    install(&folder);
+    let manual = format!("{}{PREFIX}/share/man", word(&folder));
+    let page = fs::read_to_string(format!("{manual}/man3/eremothyn.3")).expect("the page");
+    let header = fs::read_to_string(root().join("include/eremothyn.h")).expect("the header");
+    let is_name = |byte: char| byte.is_ascii_alphanumeric() || byte == '_';
+    let names = |prefix: &str| -> Vec<&str> {
+        let mut names: Vec<&str> = header
+            .split(|byte| !is_name(byte))
+            .filter(|name| name.starts_with(prefix))
+            .collect();
+        names.sort();
+        names.dedup();
+        names
+    };
+    let functions = names("eremothyn_");
+    assert_eq!(functions.len(), 22);
+    for function in &functions {
+        assert!(page.contains(&format!("{function}(")), "{function}");
+        let found = fs::read_to_string(format!("{manual}/man3/{function}.3"))
+            .expect("a page of its own name");
+        assert_eq!(found, ".so man3/eremothyn.3\n");
+    }
+    for name in names("EREMOTHYN_")
+        .iter()
+        .filter(|&&name| name != "EREMOTHYN_H")
+    {
+        assert!(page.contains(name), "{name}");
+    }
+    for page in ["man1/crontab_check.1", "man3/eremothyn.3"] {
+        let page = format!("{manual}/{page}");
+        let output = run("groff", &["-t", "-man", "-ww", "-z", "-Tutf8", &page]);
+        assert!(
+            output.status.success() && output.stderr.is_empty(),
+            "{output:?}"
+        );
+    }
+}
+
+#[test]
+fn uninstall_leaves_nothing() {
+    let folder = scratch("install-removed");
+    install(&folder);
+    let below = format!("DESTDIR={}", word(&folder));
+    make(&["uninstall", &below, &format!("PREFIX={PREFIX}")]);
+    let left = run("find", &[word(&folder), "-type", "f"]);
+    assert_eq!(told(&left), (String::new(), Some(0)));
+}
