@@ -10,7 +10,7 @@ use lib.ListN.{length, take, length-append}
 use Rattle.command.specs.declared.Piece.{Piece}
 use Rattle.command.specs.declared.Piece.the-variants.{Byte, Percent}
 use Rattle.command.specs.Pieces.{percent, backslash, alone, paired, pieces, byteOf, bytesOf}
-use Rattle.command.specs.Parts.{lineOf, restOf, shellLine, inputOf, textOf}
+use Rattle.command.specs.Parts.{upToPercent, restOf, shellLine, inputOf, textOf}
 
 -- ---- pieces
 
@@ -52,19 +52,19 @@ bytes-length (x ∷ p) = ap suc (bytes-length p)
 -- ---- the parts
 
 -- the shell line is the front of all that could be written
-pub line-front : (p : List Piece) → take (length (lineOf p)) (bytesOf p) ≡ lineOf p
-unfolding lineOf bytesOf byteOf
+pub line-front : (p : List Piece) → take (length (upToPercent p)) (bytesOf p) ≡ upToPercent p
+unfolding upToPercent bytesOf byteOf
 line-front [] = refl
 line-front (Byte b ∷ p) = ap (λ (s : List ℕ). b ∷ s) (line-front p)
 line-front (Percent ∷ p) = refl
 
-parts-length : (p : List Piece) → length (lineOf p) + length (textOf (restOf p)) ≤ length p
-unfolding lineOf restOf textOf
+parts-length : (p : List Piece) → length (upToPercent p) + length (textOf (restOf p)) ≤ length p
+unfolding upToPercent restOf textOf
 parts-length [] = omega arith
 parts-length (Byte b ∷ p) = omega (arith, parts-length p)
 parts-length (Percent ∷ p) = omega (arith, bytes-length p)
 
-pub line-length : (p : List Piece) → length (lineOf p) ≤ length p
+pub line-length : (p : List Piece) → length (upToPercent p) ≤ length p
 line-length p = omega (arith, parts-length p)
 
 pub split-length : (c : List ℕ) → length (shellLine c) + length (textOf (inputOf c)) ≤ length c

@@ -7,8 +7,7 @@ use mathlib.Core.List.{List, [], _∷_}
 use Rattle.command.specs.declared.SplitAnswer.the-variants.{Written, Refused}
 use Rattle.command.specs.declared.Input.the-variants.{None, Length}
 use Rattle.command.specs.Pieces.{alone, paired, pieces, byteOf, bytesOf}
-use Rattle.command.specs.Parts.{Stdin, absent, given, lineOf, restOf, shellLine, inputOf, textOf, inputLength}
-use Rattle.command.specs.Answers.{splitNumber, inputNumber}
+use Rattle.command.specs.Parts.{Stdin, absent, given, upToPercent, restOf, shellLine, inputOf, textOf, inputLength}
 use Rattle.command.specs.Buffers.{laidFront, haveRoom, splitStep}
 
 -- the shell line and the standard input of a command
@@ -37,7 +36,7 @@ texts :
     -- `%` and `a%`: empty input
     × (both (37 ∷ []) ≡ record { line = []; stdin = given [] })
     × (both (97 ∷ 37 ∷ []) ≡ record { line = 97 ∷ []; stdin = given [] })
-unfolding both shellLine inputOf lineOf restOf pieces alone paired bytesOf byteOf
+unfolding both shellLine inputOf upToPercent restOf pieces alone paired bytesOf byteOf
 texts = (refl, refl, refl, refl, refl, refl, refl, refl, refl)
 
 buffers :
@@ -50,11 +49,5 @@ buffers :
     -- either buffer too short: 18, and nothing written
     × (splitStep (97 ∷ 37 ∷ 98 ∷ []) (1 ∷ []) [] ≡ record { answer = Refused 18; shell = 1 ∷ []; input = [] })
     × (splitStep (97 ∷ 37 ∷ 98 ∷ []) [] (3 ∷ []) ≡ record { answer = Refused 18; shell = []; input = 3 ∷ [] })
-unfolding splitStep haveRoom laidFront inputLength textOf shellLine inputOf lineOf restOf pieces alone paired bytesOf byteOf
+unfolding splitStep haveRoom laidFront inputLength textOf shellLine inputOf upToPercent restOf pieces alone paired bytesOf byteOf
 buffers = (refl, refl, refl, refl, refl)
-
-numbers :
-    (_≡_ {A = ℕ} (splitNumber (Refused 18)) 4294967314)
-    × (_≡_ {A = ℕ} (inputNumber None) 4294967296) × (_≡_ {A = ℕ} (inputNumber (Length 0)) 0)
-unfolding splitNumber inputNumber
-numbers = (refl, refl, refl)

@@ -13,10 +13,10 @@ use Rattle.command.specs.declared.Lengths.{Lengths}
 use Rattle.command.specs.Pieces.{pieces, bytesOf}
 
 -- "the first other `%` ends the shell line"
-unfoldable pub lineOf : List Piece → List ℕ
-lineOf [] = []
-lineOf (Byte b ∷ s) = b ∷ lineOf s
-lineOf (Percent ∷ s) = []
+unfoldable pub upToPercent : List Piece → List ℕ
+upToPercent [] = []
+upToPercent (Byte b ∷ s) = b ∷ upToPercent s
+upToPercent (Percent ∷ s) = []
 
 -- "no input" and "empty input" are different answers
 pub data Stdin : Type 0 where
@@ -32,7 +32,7 @@ restOf (Percent ∷ s) = given (bytesOf s)
 -- ---- of a command's bytes
 
 unfoldable pub shellLine : List ℕ → List ℕ
-shellLine c = lineOf (pieces false c)
+shellLine c = upToPercent (pieces false c)
 
 unfoldable pub inputOf : List ℕ → Stdin
 inputOf c = restOf (pieces false c)

@@ -9,7 +9,7 @@ use lib.ListN.{length, take, drop, length-drop}
 use lib.Seq.{length-take-le, drop-drop}
 use lib.Dec.{eqb}
 use Rattle.crontab.specs.declared.class.Class.the-variants.{Not, InLine}
-use Rattle.crontab.specs.Bytes.{isIn, run, skipped}
+use Rattle.crontab.specs.Bytes.{ofClass, run, skipped}
 use Rattle.crontab.specs.Lines.{onto, linesOf}
 use Rattle.crontab.proofs.Runs.{skipped-from, skipped-within}
 
@@ -17,7 +17,7 @@ use Rattle.crontab.proofs.Runs.{skipped-from, skipped-within}
 
 line-first : (b : ℕ) (s : List ℕ)
     → linesOf (b ∷ s) ≡ take (run (Not 10) (b ∷ s)) (b ∷ s) ∷ linesOf (drop (suc (run (Not 10) (b ∷ s))) (b ∷ s))
-unfolding linesOf run isIn onto
+unfolding linesOf run ofClass onto
 line-first b [] = go (eqb b 10)
   where
     go : (t : Bool) → cond t ([] ∷ []) ((b ∷ []) ∷ []) ≡ take (cond (not t) 1 0) (b ∷ []) ∷ linesOf (drop (suc (cond (not t) 1 0)) (b ∷ []))
@@ -37,7 +37,7 @@ line-first b (x ∷ s) = go (eqb b 10) (line-first x s)
 -- ---- one search for the newline and for the first byte 0
 
 in-line : (s : List ℕ) → run (Not 10) s ≡ run InLine s + run (Not 10) (drop (run InLine s) s)
-unfolding run isIn
+unfolding run ofClass
 in-line [] = refl
 in-line (b ∷ s) = go (eqb b 10) (eqb b 0) refl (in-line s)
   where
@@ -52,7 +52,7 @@ in-line (b ∷ s) = go (eqb b 10) (eqb b 0) refl (in-line s)
     go false false p e = omega arith
 
 nul-in-line : (s : List ℕ) → run InLine s ≡ run (Not 0) (take (run (Not 10) s) s)
-unfolding run isIn
+unfolding run ofClass
 nul-in-line [] = refl
 nul-in-line (b ∷ s) = go (eqb b 10) (eqb b 0) refl (nul-in-line s)
   where

@@ -40,7 +40,7 @@ use Rattle.crontab.specs.Words.{same, Meaning, meanings, meaningIn, word
 use Rattle.crontab.specs.Entries.{withCommand, afterWord, wordEntry}
 use Rattle.crontab.specs.Times.{answered, fieldAt, afterMinute, afterHour, afterDay, afterMonth, afterWeekday, timedEntry}
 use Rattle.crontab.specs.Assignments.{quotedAt, nonEmpty, nameAt, closed, valueAt, afterEquals, afterName, settingLine}
-use Rattle.crontab.specs.Lines.{startsFields, contentFrom, contentOf, lineOf}
+use Rattle.crontab.specs.Lines.{startsFields, contentFrom, contentOf, readLine}
 use Rattle.crontab.proofs.Runs.{skipped-from, skipped-within, byte-within, trimmed-le}
 use Rattle.field.proofs.Refusals.{FieldNumber, field-number}
 use Rattle.crontab.proofs.Times.{fieldBytes, field-values}
@@ -310,8 +310,8 @@ module _ (s : List ℕ) (short : length s ≤ maxLine) where
 
 -- ---- any line
 
-pub line-proper : (s : List ℕ) → Proper (length s) (lineOf s)
-unfolding lineOf
+pub line-proper : (s : List ℕ) → Proper (length s) (readLine s)
+unfolding readLine
 line-proper s = go (ltb maxLine (length s)) (ltb (skipped (Not 0) s 0) (length s)) refl
   where
     go : (a b : Bool) → ltb maxLine (length s) ≡ a
@@ -320,12 +320,12 @@ line-proper s = go (ltb maxLine (length s)) (ltb (skipped (Not 0) s 0) (length s
     go false true p = record { from = omega arith; to = omega arith }
     go false false p = content-proper s (ltb-false _ _ p)
 
-pub entry-proper : (s : List ℕ) {e : Entry} → lineOf s ≡ line.Entry e → (length s ≤ maxLine) × (Sound (length s) e)
+pub entry-proper : (s : List ℕ) {e : Entry} → readLine s ≡ line.Entry e → (length s ≤ maxLine) × (Sound (length s) e)
 entry-proper s p = rw p at (line-proper s)
 
-pub setting-proper : (s : List ℕ) {name value : Part} → lineOf s ≡ line.Setting name value
+pub setting-proper : (s : List ℕ) {name value : Part} → readLine s ≡ line.Setting name value
     → (length s ≤ maxLine) × (Inside (length s) name) × (Inside (length s) value)
 setting-proper s p = rw p at (line-proper s)
 
-pub refused-proper : (s : List ℕ) {fault : Fault} → lineOf s ≡ line.Refused fault → Numbered (fault .number)
+pub refused-proper : (s : List ℕ) {fault : Fault} → readLine s ≡ line.Refused fault → Numbered (fault .number)
 refused-proper s p = rw p at (line-proper s)

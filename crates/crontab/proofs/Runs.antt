@@ -13,13 +13,13 @@ use lib.Seq.{drop-cons, take-suc, take-all, getD-drop, length-take-le}
 use lib.Dec.{eqb}
 use borrow.Author.Tests.{ne-eqb}
 use Rattle.crontab.specs.declared.class.Class.{Class}
-use Rattle.crontab.specs.Bytes.{isBlank, isQuote, isIn, run, skipped, trimmed, between}
+use Rattle.crontab.specs.Bytes.{isBlank, isQuote, ofClass, run, skipped, trimmed, between}
 
 module _ (k : Class) where
   run-le : (s : List ℕ) → run k s ≤ length s
   unfolding run
   run-le [] = omega arith
-  run-le (b ∷ s) = go (isIn k b) (run-le s)
+  run-le (b ∷ s) = go (ofClass k b) (run-le s)
     where
       go : (t : Bool) → run k s ≤ length s → cond t (suc (run k s)) 0 ≤ suc (length s)
       go true h = omega arith
@@ -34,11 +34,11 @@ module _ (k : Class) where
     unfolding skipped
     skipped-within at h = omega (arith, run-le (drop at s), length-drop at s)
 
-    pub skipped-in : (at : ℕ) → at < length s → isIn k (getD s at 0) ≡ true → skipped k s at ≡ skipped k s (at + 1)
+    pub skipped-in : (at : ℕ) → at < length s → ofClass k (getD s at 0) ≡ true → skipped k s at ≡ skipped k s (at + 1)
     unfolding skipped run
     skipped-in at h e = rw (drop-cons s at 0 h, e, add-one at) (omega arith)
 
-    pub skipped-other : (at : ℕ) → at < length s → isIn k (getD s at 0) ≡ false → skipped k s at ≡ at
+    pub skipped-other : (at : ℕ) → at < length s → ofClass k (getD s at 0) ≡ false → skipped k s at ≡ at
     unfolding skipped run
     skipped-other at h e = rw (drop-cons s at 0 h, e, add-zero at)
 

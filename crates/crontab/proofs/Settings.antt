@@ -7,7 +7,7 @@ use native.Mathlib.Omega.{arith}
 use lib.ListN.{length, drop, drop-of-length-le}
 use borrow.Author.Tests.{ne-eqb}
 use Rattle.crontab.specs.Bytes.{between}
-use Rattle.crontab.specs.Lines.{linesOf, lineOf}
+use Rattle.crontab.specs.Lines.{linesOf, readLine}
 use Rattle.crontab.specs.Settings.{refusedSetting, shownAt, settingFrom}
 use Rattle.crontab.proofs.Lines.{lineEnd, lines-first, next-start}
 
@@ -35,7 +35,7 @@ later-line at (suc (suc k)) l ls a b =
     rw (ne-eqb (suc k) 0 (λ z. omega (arith, z)), e)
 
 module _ (s : List ℕ) (at left end : ℕ) (inside : at < length s) (found : end ≡ lineEnd s at) where
-  pub setting-here : left ≡ 1 → shownAt at (lineOf (between s at end)) ≡ settingFrom at left (linesOf (drop at s))
+  pub setting-here : left ≡ 1 → shownAt at (readLine (between s at end)) ≡ settingFrom at left (linesOf (drop at s))
   unfolding settingFrom between
   setting-here e = rw (e, lines-first s at end inside found)
 

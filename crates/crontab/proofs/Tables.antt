@@ -12,7 +12,7 @@ use Rattle.crontab.specs.declared.line.Fault.{Fault}
 use Rattle.crontab.specs.declared.line.Line.the-variants.{Ignored, Setting, Refused}
 use Rattle.crontab.specs.declared.line.Line.the-variants as line
 use Rattle.crontab.specs.Limits.{maxTable, maxEntries}
-use Rattle.crontab.specs.Lines.{linesOf, lineOf}
+use Rattle.crontab.specs.Lines.{linesOf, readLine}
 use Rattle.crontab.specs.Tables.{refusedTable, emptyTable, placed, withEntry, afterLine, withLines, tableOf}
 use Rattle.crontab.proofs.Lines.{lineEnd, lines-first, next-start}
 
@@ -33,23 +33,23 @@ module _ (s : List ℕ) (t : Table) (at n end : ℕ) (inside : at < length s) (f
   abbrev bytes : List ℕ
   bytes = take (end - at) (drop at s)
 
-  here : reading s t at n ≡ afterLine t at n (lineOf bytes) (λ u. reading s u (end + 1) (n + 1))
+  here : reading s t at n ≡ afterLine t at n (readLine bytes) (λ u. reading s u (end + 1) (n + 1))
   unfolding reading withLines
   here = rw (lines-first s at end inside found, next-start s at end inside found)
 
-  pub reading-ignored : lineOf bytes ≡ Ignored → reading s t at n ≡ reading s t (end + 1) (n + 1)
+  pub reading-ignored : readLine bytes ≡ Ignored → reading s t at n ≡ reading s t (end + 1) (n + 1)
   unfolding afterLine
   reading-ignored e = here ∙ rw e
 
-  pub reading-setting : {name value : Part} → lineOf bytes ≡ Setting name value → reading s t at n ≡ reading s t (end + 1) (n + 1)
+  pub reading-setting : {name value : Part} → readLine bytes ≡ Setting name value → reading s t at n ≡ reading s t (end + 1) (n + 1)
   unfolding afterLine
   reading-setting e = here ∙ rw e
 
-  pub reading-refused : {f : Fault} → lineOf bytes ≡ Refused f → reading s t at n ≡ refusedTable (f .number) n (f .column)
+  pub reading-refused : {f : Fault} → readLine bytes ≡ Refused f → reading s t at n ≡ refusedTable (f .number) n (f .column)
   unfolding afterLine
   reading-refused e = here ∙ rw e
 
-  module _ {e : Entry} (is : lineOf bytes ≡ line.Entry e) where
+  module _ {e : Entry} (is : readLine bytes ≡ line.Entry e) where
     pub reading-entry : t .count < maxEntries → reading s t at n ≡ reading s (withEntry t (placed at e)) (end + 1) (n + 1)
     unfolding afterLine
     reading-entry h = here ∙ rw (is, lt-ltb (t .count) maxEntries h)

@@ -19,7 +19,7 @@ use Rattle.crontab.specs.declared.SettingAnswer.{SettingAnswer}
 use Rattle.crontab.specs.declared.line.Line.{Line}
 use Rattle.crontab.specs.declared.line.Line.the-variants as line
 use Rattle.crontab.specs.Limits.{maxTable, maxEntries}
-use Rattle.crontab.specs.Lines.{onto, linesOf, lineOf}
+use Rattle.crontab.specs.Lines.{onto, linesOf, readLine}
 use Rattle.crontab.specs.Tables.{blankEntry, noEntries, refusedTable, emptyTable, placed, withEntry, afterLine, withLines, tableOf}
 use Rattle.crontab.specs.Answers.{entryIn, entryOf}
 use Rattle.crontab.specs.Settings.{refusedSetting, moved, shownAt, settingFrom, settingOf}
@@ -107,7 +107,7 @@ module _ (n : ℕ) where
   unfolding withLines afterLine withEntry
   lines-sound t at m [] good p w = p
   lines-sound t at m (l ∷ ls) good p w =
-      go (lineOf l) (line-proper l) (λ u g q. lines-sound u (at + length l + 1) (m + 1) ls g q (w .1))
+      go (readLine l) (line-proper l) (λ u g q. lines-sound u (at + length l + 1) (m + 1) ls g q (w .1))
     where
       go : (x : Line) → Proper (length l) x → ((u : Table) → u .refusal ≡ 0 → SoundTable n u → SoundTable n (withLines u (at + length l + 1) (m + 1) ls))
           → SoundTable n (afterLine t at m x (λ u. withLines u (at + length l + 1) (m + 1) ls))
@@ -201,8 +201,8 @@ module _ (n : ℕ) where
   from-inside at (suc k) (l ∷ ls) w = go (eqb k 0) (from-inside (at + length l + 1) k ls (w .1))
     where
       go : (t : Bool) → SettingInside n (settingFrom (at + length l + 1) k ls)
-          → SettingInside n (cond t (shownAt at (lineOf l)) (settingFrom (at + length l + 1) k ls))
-      go true h = shown-inside at (length l) (lineOf l) (w .0) (line-proper l)
+          → SettingInside n (cond t (shownAt at (readLine l)) (settingFrom (at + length l + 1) k ls))
+      go true h = shown-inside at (length l) (readLine l) (w .0) (line-proper l)
       go false h = h
 
 pub setting-inside : (s : List ℕ) (k : ℕ) → SettingInside (length s) (settingOf s k)

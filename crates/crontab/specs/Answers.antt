@@ -21,7 +21,7 @@ use Rattle.crontab.specs.declared.DueAnswer.{DueAnswer}
 use Rattle.crontab.specs.declared.DueAnswer.the-variants as due
 use Rattle.crontab.specs.declared.NextAnswer.{NextAnswer}
 use Rattle.crontab.specs.declared.NextAnswer.the-variants as firing
-use Rattle.crontab.specs.Limits.{noSuchEntry, rebootOnly}
+use Rattle.crontab.specs.Limits.{noSuchEntry, atBootOnly}
 use Rattle.crontab.specs.Bytes.{between}
 use Rattle.crontab.specs.Tables.{blankEntry, tableOf}
 
@@ -75,7 +75,7 @@ nextFound next.PastEnd = firing.PastEnd
 nextFound next.NotOnCalendar = firing.Refused notOnCalendar
 
 unfoldable pub nextAt : When → ℕ → NextAnswer
-nextAt Reboot m = cond (leb m lastMinute) (firing.Refused rebootOnly) (firing.Refused notOnCalendar)
+nextAt Reboot m = cond (leb m lastMinute) (firing.Refused atBootOnly) (firing.Refused notOnCalendar)
 nextAt (Timed times) m = nextFound (nextAfter times m)
 
 unfoldable pub nextIn : EntryAnswer → ℕ → NextAnswer

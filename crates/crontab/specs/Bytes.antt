@@ -22,17 +22,17 @@ newline = 10
 abbrev pub equalsSign : ℕ
 equalsSign = 61
 
-unfoldable pub isIn : Class → ℕ → Bool
-isIn Blank b = isBlank b
-isIn Solid b = not (isBlank b)
-isIn Name b = not (isBlank b || (eqb b equalsSign || isQuote b))
-isIn (Not other) b = not (eqb b other)
-isIn InLine b = not (eqb b newline || eqb b 0)
+unfoldable pub ofClass : Class → ℕ → Bool
+ofClass Blank b = isBlank b
+ofClass Solid b = not (isBlank b)
+ofClass Name b = not (isBlank b || (eqb b equalsSign || isQuote b))
+ofClass (Not other) b = not (eqb b other)
+ofClass InLine b = not (eqb b newline || eqb b 0)
 
 -- how many bytes of a kind stand at the front
 unfoldable pub run : Class → List ℕ → ℕ
 run k [] = 0
-run k (b ∷ s) = let more = run k s in cond (isIn k b) (suc more) 0
+run k (b ∷ s) = let more = run k s in cond (ofClass k b) (suc more) 0
 
 -- where the run that starts at a place ends
 unfoldable pub skipped : Class → List ℕ → ℕ → ℕ

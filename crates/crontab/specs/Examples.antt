@@ -13,12 +13,12 @@ use Rattle.field.specs.Values.{everyStep, valuesOf, bitOf, including}
 use Rattle.field.specs.Judgement.{outside, judged}
 use Rattle.field.specs.Fields.{areElements, judgedAll, nameElement, listField, starElement, isEmpty, starField, readField}
 use Rattle.schedule.specs.Sets.{withBit, put}
-use Rattle.crontab.specs.Bytes.{isBlank, isQuote, isIn, run, skipped, trimmed, between}
+use Rattle.crontab.specs.Bytes.{isBlank, isQuote, ofClass, run, skipped, trimmed, between}
 use Rattle.crontab.specs.Assignments.{quotedAt, nonEmpty, nameAt, closed, valueAt, afterEquals, afterName, settingLine}
 use Rattle.crontab.specs.Words.{same, yearly, monthly, weekly, daily, hourly, meanings, meaningIn, wordOf}
 use Rattle.crontab.specs.Entries.{withCommand, afterWord, wordEntry}
 use Rattle.crontab.specs.Times.{answered, fieldAt, afterWeekday, afterMonth, afterDay, afterHour, afterMinute, timedEntry}
-use Rattle.crontab.specs.Lines.{onto, linesOf, startsFields, contentFrom, contentOf, lineOf}
+use Rattle.crontab.specs.Lines.{onto, linesOf, startsFields, contentFrom, contentOf, readLine}
 use Rattle.crontab.specs.Tables.{noEntries, refusedTable, emptyTable, withEntry, afterLine, withLines, tableOf}
 
 -- the refusal of a table, its place, and the count of entries
@@ -27,59 +27,59 @@ fault s = let t = tableOf s in t .refusal ∷ t .line ∷ t .column ∷ t .count
 
 examples :
     -- `60 0 * * * x`: 6 at the first field
-    (lineOf (54 ∷ 48 ∷ 32 ∷ 48 ∷ 32 ∷ 42 ∷ 32 ∷ 42 ∷ 32 ∷ 42 ∷ 32 ∷ 120 ∷ []) ≡ Refused (record { number = 6; column = 1 }))
+    (readLine (54 ∷ 48 ∷ 32 ∷ 48 ∷ 32 ∷ 42 ∷ 32 ∷ 42 ∷ 32 ∷ 42 ∷ 32 ∷ 120 ∷ []) ≡ Refused (record { number = 6; column = 1 }))
     -- `0 0 * * mon-fri x`: 5 at the fifth
-    × (lineOf (48 ∷ 32 ∷ 48 ∷ 32 ∷ 42 ∷ 32 ∷ 42 ∷ 32 ∷ 109 ∷ 111 ∷ 110 ∷ 45 ∷ 102 ∷ 114 ∷ 105 ∷ 32 ∷ 120 ∷ []) ≡ Refused (record { number = 5; column = 9 }))
+    × (readLine (48 ∷ 32 ∷ 48 ∷ 32 ∷ 42 ∷ 32 ∷ 42 ∷ 32 ∷ 109 ∷ 111 ∷ 110 ∷ 45 ∷ 102 ∷ 114 ∷ 105 ∷ 32 ∷ 120 ∷ []) ≡ Refused (record { number = 5; column = 9 }))
     -- `0 0 * * * ` without a command: 9 after the last byte
-    × (lineOf (48 ∷ 32 ∷ 48 ∷ 32 ∷ 42 ∷ 32 ∷ 42 ∷ 32 ∷ 42 ∷ 32 ∷ []) ≡ Refused (record { number = 9; column = 11 }))
+    × (readLine (48 ∷ 32 ∷ 48 ∷ 32 ∷ 42 ∷ 32 ∷ 42 ∷ 32 ∷ 42 ∷ 32 ∷ []) ≡ Refused (record { number = 9; column = 11 }))
     -- `5 5`: 4 after the last byte, but a bad field before it comes first
-    × (lineOf (53 ∷ 32 ∷ 53 ∷ []) ≡ Refused (record { number = 4; column = 4 }))
-    × (lineOf (54 ∷ 48 ∷ 32 ∷ 53 ∷ []) ≡ Refused (record { number = 6; column = 1 }))
+    × (readLine (53 ∷ 32 ∷ 53 ∷ []) ≡ Refused (record { number = 4; column = 4 }))
+    × (readLine (54 ∷ 48 ∷ 32 ∷ 53 ∷ []) ≡ Refused (record { number = 6; column = 1 }))
     -- blanks before and after, and a comment
-    × (lineOf (9 ∷ 32 ∷ 48 ∷ 32 ∷ 48 ∷ 32 ∷ 49 ∷ 32 ∷ 49 ∷ 32 ∷ 42 ∷ 32 ∷ 32 ∷ 97 ∷ 32 ∷ []) ≡ Entry (record { when = Timed yearly; start = 13; end = 15 }))
-    × (lineOf (32 ∷ 35 ∷ 32 ∷ 48 ∷ []) ≡ Ignored)
+    × (readLine (9 ∷ 32 ∷ 48 ∷ 32 ∷ 48 ∷ 32 ∷ 49 ∷ 32 ∷ 49 ∷ 32 ∷ 42 ∷ 32 ∷ 32 ∷ 97 ∷ 32 ∷ []) ≡ Entry (record { when = Timed yearly; start = 13; end = 15 }))
+    × (readLine (32 ∷ 35 ∷ 32 ∷ 48 ∷ []) ≡ Ignored)
     -- an `@` word is the whole run of non-blank bytes, in this case only
-    × (lineOf (64 ∷ 114 ∷ 101 ∷ 98 ∷ 111 ∷ 111 ∷ 116 ∷ 32 ∷ 120 ∷ []) ≡ Entry (record { when = Reboot; start = 8; end = 9 }))
-    × (lineOf (64 ∷ 82 ∷ 101 ∷ 98 ∷ 111 ∷ 111 ∷ 116 ∷ 32 ∷ 120 ∷ []) ≡ Refused (record { number = 10; column = 1 }))
-    × (lineOf (32 ∷ 64 ∷ []) ≡ Refused (record { number = 10; column = 2 }))
-    × (lineOf (64 ∷ 114 ∷ 101 ∷ 98 ∷ 111 ∷ 111 ∷ 116 ∷ 32 ∷ []) ≡ Refused (record { number = 9; column = 9 }))
+    × (readLine (64 ∷ 114 ∷ 101 ∷ 98 ∷ 111 ∷ 111 ∷ 116 ∷ 32 ∷ 120 ∷ []) ≡ Entry (record { when = Reboot; start = 8; end = 9 }))
+    × (readLine (64 ∷ 82 ∷ 101 ∷ 98 ∷ 111 ∷ 111 ∷ 116 ∷ 32 ∷ 120 ∷ []) ≡ Refused (record { number = 10; column = 1 }))
+    × (readLine (32 ∷ 64 ∷ []) ≡ Refused (record { number = 10; column = 2 }))
+    × (readLine (64 ∷ 114 ∷ 101 ∷ 98 ∷ 111 ∷ 111 ∷ 116 ∷ 32 ∷ []) ≡ Refused (record { number = 9; column = 9 }))
     -- byte 0, in a comment too
-    × (lineOf (35 ∷ 0 ∷ []) ≡ Refused (record { number = 3; column = 2 }))
+    × (readLine (35 ∷ 0 ∷ []) ≡ Refused (record { number = 3; column = 2 }))
     -- `A = "b c" `, `'A B'=c'd ` and `A =`
-    × (lineOf (65 ∷ 32 ∷ 61 ∷ 32 ∷ 34 ∷ 98 ∷ 32 ∷ 99 ∷ 34 ∷ 32 ∷ []) ≡ Setting (record { start = 0; end = 1 }) (record { start = 5; end = 8 }))
-    × (lineOf (39 ∷ 65 ∷ 32 ∷ 66 ∷ 39 ∷ 61 ∷ 99 ∷ 39 ∷ 100 ∷ 32 ∷ []) ≡ Setting (record { start = 1; end = 4 }) (record { start = 6; end = 9 }))
-    × (lineOf (65 ∷ 32 ∷ 61 ∷ []) ≡ Setting (record { start = 0; end = 1 }) (record { start = 3; end = 3 }))
+    × (readLine (65 ∷ 32 ∷ 61 ∷ 32 ∷ 34 ∷ 98 ∷ 32 ∷ 99 ∷ 34 ∷ 32 ∷ []) ≡ Setting (record { start = 0; end = 1 }) (record { start = 5; end = 8 }))
+    × (readLine (39 ∷ 65 ∷ 32 ∷ 66 ∷ 39 ∷ 61 ∷ 99 ∷ 39 ∷ 100 ∷ 32 ∷ []) ≡ Setting (record { start = 1; end = 4 }) (record { start = 6; end = 9 }))
+    × (readLine (65 ∷ 32 ∷ 61 ∷ []) ≡ Setting (record { start = 0; end = 1 }) (record { start = 3; end = 3 }))
     -- ` A"B=c`, `"A'=c` and `A="b"c`: 11 at the first byte that isn't blank
-    × (lineOf (32 ∷ 65 ∷ 34 ∷ 66 ∷ 61 ∷ 99 ∷ []) ≡ Refused (record { number = 11; column = 2 }))
-    × (lineOf (34 ∷ 65 ∷ 39 ∷ 61 ∷ 99 ∷ []) ≡ Refused (record { number = 11; column = 1 }))
-    × (lineOf (65 ∷ 61 ∷ 34 ∷ 98 ∷ 34 ∷ 99 ∷ []) ≡ Refused (record { number = 11; column = 1 }))
+    × (readLine (32 ∷ 65 ∷ 34 ∷ 66 ∷ 61 ∷ 99 ∷ []) ≡ Refused (record { number = 11; column = 2 }))
+    × (readLine (34 ∷ 65 ∷ 39 ∷ 61 ∷ 99 ∷ []) ≡ Refused (record { number = 11; column = 1 }))
+    × (readLine (65 ∷ 61 ∷ 34 ∷ 98 ∷ 34 ∷ 99 ∷ []) ≡ Refused (record { number = 11; column = 1 }))
     -- the words mean what the five fields of the paper mean
     -- `0 0 1 1 *`, `@yearly`
-    × (lineOf (48 ∷ 32 ∷ 48 ∷ 32 ∷ 49 ∷ 32 ∷ 49 ∷ 32 ∷ 42 ∷ 32 ∷ 120 ∷ []) ≡ Entry (record { when = Timed yearly; start = 10; end = 11 }))
-    × (lineOf (64 ∷ 121 ∷ 101 ∷ 97 ∷ 114 ∷ 108 ∷ 121 ∷ 32 ∷ 120 ∷ []) ≡ Entry (record { when = Timed yearly; start = 8; end = 9 }))
+    × (readLine (48 ∷ 32 ∷ 48 ∷ 32 ∷ 49 ∷ 32 ∷ 49 ∷ 32 ∷ 42 ∷ 32 ∷ 120 ∷ []) ≡ Entry (record { when = Timed yearly; start = 10; end = 11 }))
+    × (readLine (64 ∷ 121 ∷ 101 ∷ 97 ∷ 114 ∷ 108 ∷ 121 ∷ 32 ∷ 120 ∷ []) ≡ Entry (record { when = Timed yearly; start = 8; end = 9 }))
     -- `0 0 1 1 *`, `@annually`
-    × (lineOf (48 ∷ 32 ∷ 48 ∷ 32 ∷ 49 ∷ 32 ∷ 49 ∷ 32 ∷ 42 ∷ 32 ∷ 120 ∷ []) ≡ Entry (record { when = Timed yearly; start = 10; end = 11 }))
-    × (lineOf (64 ∷ 97 ∷ 110 ∷ 110 ∷ 117 ∷ 97 ∷ 108 ∷ 108 ∷ 121 ∷ 32 ∷ 120 ∷ []) ≡ Entry (record { when = Timed yearly; start = 10; end = 11 }))
+    × (readLine (48 ∷ 32 ∷ 48 ∷ 32 ∷ 49 ∷ 32 ∷ 49 ∷ 32 ∷ 42 ∷ 32 ∷ 120 ∷ []) ≡ Entry (record { when = Timed yearly; start = 10; end = 11 }))
+    × (readLine (64 ∷ 97 ∷ 110 ∷ 110 ∷ 117 ∷ 97 ∷ 108 ∷ 108 ∷ 121 ∷ 32 ∷ 120 ∷ []) ≡ Entry (record { when = Timed yearly; start = 10; end = 11 }))
     -- `0 0 1 * *`, `@monthly`
-    × (lineOf (48 ∷ 32 ∷ 48 ∷ 32 ∷ 49 ∷ 32 ∷ 42 ∷ 32 ∷ 42 ∷ 32 ∷ 120 ∷ []) ≡ Entry (record { when = Timed monthly; start = 10; end = 11 }))
-    × (lineOf (64 ∷ 109 ∷ 111 ∷ 110 ∷ 116 ∷ 104 ∷ 108 ∷ 121 ∷ 32 ∷ 120 ∷ []) ≡ Entry (record { when = Timed monthly; start = 9; end = 10 }))
+    × (readLine (48 ∷ 32 ∷ 48 ∷ 32 ∷ 49 ∷ 32 ∷ 42 ∷ 32 ∷ 42 ∷ 32 ∷ 120 ∷ []) ≡ Entry (record { when = Timed monthly; start = 10; end = 11 }))
+    × (readLine (64 ∷ 109 ∷ 111 ∷ 110 ∷ 116 ∷ 104 ∷ 108 ∷ 121 ∷ 32 ∷ 120 ∷ []) ≡ Entry (record { when = Timed monthly; start = 9; end = 10 }))
     -- `0 0 * * 0`, `@weekly`
-    × (lineOf (48 ∷ 32 ∷ 48 ∷ 32 ∷ 42 ∷ 32 ∷ 42 ∷ 32 ∷ 48 ∷ 32 ∷ 120 ∷ []) ≡ Entry (record { when = Timed weekly; start = 10; end = 11 }))
-    × (lineOf (64 ∷ 119 ∷ 101 ∷ 101 ∷ 107 ∷ 108 ∷ 121 ∷ 32 ∷ 120 ∷ []) ≡ Entry (record { when = Timed weekly; start = 8; end = 9 }))
+    × (readLine (48 ∷ 32 ∷ 48 ∷ 32 ∷ 42 ∷ 32 ∷ 42 ∷ 32 ∷ 48 ∷ 32 ∷ 120 ∷ []) ≡ Entry (record { when = Timed weekly; start = 10; end = 11 }))
+    × (readLine (64 ∷ 119 ∷ 101 ∷ 101 ∷ 107 ∷ 108 ∷ 121 ∷ 32 ∷ 120 ∷ []) ≡ Entry (record { when = Timed weekly; start = 8; end = 9 }))
     -- `0 0 * * *`, `@daily`
-    × (lineOf (48 ∷ 32 ∷ 48 ∷ 32 ∷ 42 ∷ 32 ∷ 42 ∷ 32 ∷ 42 ∷ 32 ∷ 120 ∷ []) ≡ Entry (record { when = Timed daily; start = 10; end = 11 }))
-    × (lineOf (64 ∷ 100 ∷ 97 ∷ 105 ∷ 108 ∷ 121 ∷ 32 ∷ 120 ∷ []) ≡ Entry (record { when = Timed daily; start = 7; end = 8 }))
+    × (readLine (48 ∷ 32 ∷ 48 ∷ 32 ∷ 42 ∷ 32 ∷ 42 ∷ 32 ∷ 42 ∷ 32 ∷ 120 ∷ []) ≡ Entry (record { when = Timed daily; start = 10; end = 11 }))
+    × (readLine (64 ∷ 100 ∷ 97 ∷ 105 ∷ 108 ∷ 121 ∷ 32 ∷ 120 ∷ []) ≡ Entry (record { when = Timed daily; start = 7; end = 8 }))
     -- `0 0 * * *`, `@midnight`
-    × (lineOf (48 ∷ 32 ∷ 48 ∷ 32 ∷ 42 ∷ 32 ∷ 42 ∷ 32 ∷ 42 ∷ 32 ∷ 120 ∷ []) ≡ Entry (record { when = Timed daily; start = 10; end = 11 }))
-    × (lineOf (64 ∷ 109 ∷ 105 ∷ 100 ∷ 110 ∷ 105 ∷ 103 ∷ 104 ∷ 116 ∷ 32 ∷ 120 ∷ []) ≡ Entry (record { when = Timed daily; start = 10; end = 11 }))
+    × (readLine (48 ∷ 32 ∷ 48 ∷ 32 ∷ 42 ∷ 32 ∷ 42 ∷ 32 ∷ 42 ∷ 32 ∷ 120 ∷ []) ≡ Entry (record { when = Timed daily; start = 10; end = 11 }))
+    × (readLine (64 ∷ 109 ∷ 105 ∷ 100 ∷ 110 ∷ 105 ∷ 103 ∷ 104 ∷ 116 ∷ 32 ∷ 120 ∷ []) ≡ Entry (record { when = Timed daily; start = 10; end = 11 }))
     -- `0 * * * *`, `@hourly`
-    × (lineOf (48 ∷ 32 ∷ 42 ∷ 32 ∷ 42 ∷ 32 ∷ 42 ∷ 32 ∷ 42 ∷ 32 ∷ 120 ∷ []) ≡ Entry (record { when = Timed hourly; start = 10; end = 11 }))
-    × (lineOf (64 ∷ 104 ∷ 111 ∷ 117 ∷ 114 ∷ 108 ∷ 121 ∷ 32 ∷ 120 ∷ []) ≡ Entry (record { when = Timed hourly; start = 8; end = 9 }))
+    × (readLine (48 ∷ 32 ∷ 42 ∷ 32 ∷ 42 ∷ 32 ∷ 42 ∷ 32 ∷ 42 ∷ 32 ∷ 120 ∷ []) ≡ Entry (record { when = Timed hourly; start = 10; end = 11 }))
+    × (readLine (64 ∷ 104 ∷ 111 ∷ 117 ∷ 114 ∷ 108 ∷ 121 ∷ 32 ∷ 120 ∷ []) ≡ Entry (record { when = Timed hourly; start = 8; end = 9 }))
     -- the empty table has no entries
     × (tableOf [] ≡ emptyTable)
     -- the three lines of the paper's whole run, the last without a newline
     × (fault (42 ∷ 32 ∷ 42 ∷ 32 ∷ 42 ∷ 32 ∷ 42 ∷ 32 ∷ 42 ∷ 32 ∷ 97 ∷ 10 ∷ 64 ∷ 114 ∷ 101 ∷ 98 ∷ 111 ∷ 111 ∷ 116 ∷ 32 ∷ 98 ∷ 10 ∷ 48 ∷ 32 ∷ 42 ∷ 32 ∷ 42 ∷ 32 ∷ 42 ∷ 32 ∷ 42 ∷ 32 ∷ 99 ∷ []) ≡ 0 ∷ 0 ∷ 0 ∷ 3 ∷ [])
     -- the first bad line, and no entry
     × (fault (64 ∷ 114 ∷ 101 ∷ 98 ∷ 111 ∷ 111 ∷ 116 ∷ 32 ∷ 98 ∷ 10 ∷ 10 ∷ 54 ∷ 48 ∷ 32 ∷ 42 ∷ 32 ∷ 42 ∷ 32 ∷ 42 ∷ 32 ∷ 42 ∷ 32 ∷ 97 ∷ 10 ∷ 65 ∷ 10 ∷ []) ≡ 6 ∷ 3 ∷ 1 ∷ 0 ∷ [])
-unfolding until has before after afterEach split isDigit areDigits valueFrom numberOf isElement ranging afterDash elementOf lower alike named monthNames weekdayNames nameOf everyStep valuesOf bitOf put including outside judged areElements judgedAll nameElement listField starElement isEmpty starField readField withBit isBlank isQuote isIn run skipped trimmed between quotedAt nonEmpty nameAt closed valueAt afterEquals afterName settingLine same meanings meaningIn wordOf withCommand afterWord wordEntry answered fieldAt afterWeekday afterMonth afterDay afterHour afterMinute timedEntry startsFields contentFrom contentOf lineOf onto linesOf noEntries refusedTable emptyTable withEntry afterLine withLines tableOf fault
+unfolding until has before after afterEach split isDigit areDigits valueFrom numberOf isElement ranging afterDash elementOf lower alike named monthNames weekdayNames nameOf everyStep valuesOf bitOf put including outside judged areElements judgedAll nameElement listField starElement isEmpty starField readField withBit isBlank isQuote ofClass run skipped trimmed between quotedAt nonEmpty nameAt closed valueAt afterEquals afterName settingLine same meanings meaningIn wordOf withCommand afterWord wordEntry answered fieldAt afterWeekday afterMonth afterDay afterHour afterMinute timedEntry startsFields contentFrom contentOf readLine onto linesOf noEntries refusedTable emptyTable withEntry afterLine withLines tableOf fault
 examples = (refl, refl, refl, refl, refl, refl, refl, refl, refl, refl, refl, refl, refl, refl, refl, refl, refl, refl, refl, refl, refl, refl, refl, refl, refl, refl, refl, refl, refl, refl, refl, refl, refl, refl, refl)

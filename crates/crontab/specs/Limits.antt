@@ -41,8 +41,8 @@ abbrev pub noSuchEntry : ℕ
 noSuchEntry = 13
 
 -- next firing of an `@reboot` entry
-abbrev pub rebootOnly : ℕ
-rebootOnly = 15
+abbrev pub atBootOnly : ℕ
+atBootOnly = 15
 
 -- the line asked for is no setting, or isn't there
 abbrev pub noSetting : ℕ

@@ -51,8 +51,8 @@ contentFrom s at first =
 unfoldable pub contentOf : List ℕ → Line
 contentOf s = let at = skipped Blank s 0 in cond (leb (length s) at) Ignored (contentFrom s at (getD s at 0))
 
-unfoldable pub lineOf : List ℕ → Line
-lineOf s =
+unfoldable pub readLine : List ℕ → Line
+readLine s =
     let nul = skipped (Not 0) s 0 in
     cond (ltb maxLine (length s))
     (Refused (record { number = lineTooLong; column = maxLine + 1 }))

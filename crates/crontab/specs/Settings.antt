@@ -11,7 +11,7 @@ use Rattle.crontab.specs.declared.line.Line.{Line}
 use Rattle.crontab.specs.declared.line.Line.the-variants as line
 use Rattle.crontab.specs.Limits.{noSetting}
 use Rattle.crontab.specs.Bytes.{between}
-use Rattle.crontab.specs.Lines.{linesOf, lineOf}
+use Rattle.crontab.specs.Lines.{linesOf, readLine}
 use Rattle.crontab.specs.Tables.{tableOf}
 
 -- both parts empty
@@ -32,11 +32,11 @@ shownAt at (line.Refused fault) = refusedSetting noSetting
 unfoldable pub settingFrom : ℕ → ℕ → List (List ℕ) → SettingAnswer
 settingFrom at zero ls = refusedSetting noSetting
 settingFrom at (suc n) [] = refusedSetting noSetting
-settingFrom at (suc n) (l ∷ ls) = let later = settingFrom (at + length l + 1) n ls in cond (eqb n 0) (shownAt at (lineOf l)) later
+settingFrom at (suc n) (l ∷ ls) = let later = settingFrom (at + length l + 1) n ls in cond (eqb n 0) (shownAt at (readLine l)) later
 
 unfoldable pub settingOf : List ℕ → ℕ → SettingAnswer
 settingOf s n = cond (eqb (tableOf s .refusal) 0) (settingFrom 0 n (linesOf s)) (refusedSetting (tableOf s .refusal))
 
 -- the bytes of a part
-abbrev pub bytesOf : List ℕ → Part → List ℕ
-bytesOf s p = between s (p .start) (p .end)
+abbrev pub partBytes : List ℕ → Part → List ℕ
+partBytes s p = between s (p .start) (p .end)

@@ -12,7 +12,7 @@ use Rattle.crontab.specs.declared.Table.{Table}
 use Rattle.crontab.specs.declared.line.Line.{Line}
 use Rattle.crontab.specs.declared.line.Line.the-variants as line
 use Rattle.crontab.specs.Limits.{maxTable, maxEntries, tableTooLong, tooManyEntries}
-use Rattle.crontab.specs.Lines.{linesOf, lineOf}
+use Rattle.crontab.specs.Lines.{linesOf, readLine}
 
 -- what stands in the place of an entry that isn't there
 abbrev pub blankEntry : Entry
@@ -46,7 +46,7 @@ afterLine t at n (line.Entry e) later =
 -- line by line: the next one starts a newline after this one
 unfoldable pub withLines : Table → ℕ → ℕ → List (List ℕ) → Table
 withLines t at n [] = t
-withLines t at n (l ∷ ls) = afterLine t at n (lineOf l) (λ u. withLines u (at + length l + 1) (n + 1) ls)
+withLines t at n (l ∷ ls) = afterLine t at n (readLine l) (λ u. withLines u (at + length l + 1) (n + 1) ls)
 
 unfoldable pub tableOf : List ℕ → Table
 tableOf s = cond (ltb maxTable (length s)) (refusedTable tableTooLong 0 0) (withLines emptyTable 0 1 (linesOf s))

@@ -4,7 +4,7 @@ ghost use Prim.Native.Nat.{_≤_};
 ghost use lib.ListN.{length};
 ghost use Rattle.crontab.specs.Limits.{maxTable, maxLine};
 ghost use Rattle.crontab.specs.Bytes.{between};
-ghost use Rattle.crontab.specs.Lines.{linesOf, lineOf};
+ghost use Rattle.crontab.specs.Lines.{linesOf, readLine};
 ghost use Rattle.crontab.specs.Settings.{refusedSetting, moved, shownAt, settingFrom};
 use crate::NO_SETTING;
 use crate::Part;
@@ -39,7 +39,7 @@ fn moved(part: Part, at: usize) -> Part
 // The setting of the line that starts at a place and goes on to before another.
 fn shown(s: &[u8], at: usize, end: usize) -> SettingAnswer
     requires { ⌜ (at ≤ end) × (end ≤ length (now s)) × (length (now s) ≤ maxTable) ⌝ }
-    ensures { λ r. ⌜ r ≡ shownAt at (lineOf (between (now (s .entry)) at end)) ⌝ }
+    ensures { λ r. ⌜ r ≡ shownAt at (readLine (between (now (s .entry)) at end)) ⌝ }
 {
     match line::read(&s[at..end]) {
         Line::Setting { name, value } => {

@@ -2,7 +2,7 @@
 ghost use mathlib.Core.Path.{_≡_};
 ghost use Prim.Native.Nat.{_+_, _≤_};
 ghost use lib.ListN.{getD, drop};
-ghost use Rattle.crontab.specs.Bytes.{isBlank, isQuote, isIn, skipped, trimmed};
+ghost use Rattle.crontab.specs.Bytes.{isBlank, isQuote, ofClass, skipped, trimmed};
 
 pub(crate) enum Class {
     // Space and tab.
@@ -30,7 +30,7 @@ pub(crate) fn is_quote(b: u8) -> bool
 }
 
 fn is_in(class: Class, b: u8) -> bool
-    ensures { λ r. ⌜ r ≡ isIn class b ⌝ }
+    ensures { λ r. ⌜ r ≡ ofClass class b ⌝ }
 {
     match class {
         Class::Blank => is_blank(b),

@@ -1,9 +1,9 @@
 // Whether an entry is due at a minute, and when it fires next.
 ghost use mathlib.Core.Path.{_≡_};
 ghost use Rattle.crontab.specs.Answers.{firesOn, dueAt, nextFound, nextAt};
+use crate::AT_BOOT_ONLY;
 use crate::DueAnswer;
 use crate::NextAnswer;
-use crate::REBOOT_ONLY;
 use crate::When;
 use calendar::Date;
 use schedule::Next;
@@ -51,7 +51,7 @@ pub(crate) fn next_at(when: When, minute: u64) -> NextAnswer
         if found.refusal != 0 {
             return NextAnswer::Refused(found.refusal);
         }
-        return NextAnswer::Refused(REBOOT_ONLY);
+        return NextAnswer::Refused(AT_BOOT_ONLY);
     };
     next_found(schedule::next_firing(times, minute))
 }

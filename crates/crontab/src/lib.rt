@@ -12,7 +12,7 @@ ghost use Prim.Native.Nat.{_≤_};
 ghost use Rattle.crontab.specs.Limits.{maxTable, maxLine};
 ghost use Rattle.crontab.specs.Tables.{refusedTable, placed, tableOf};
 ghost use Rattle.crontab.specs.Answers.{entryOf, commandOf, dueOf, nextOf};
-ghost use Rattle.crontab.specs.Settings.{settingOf, bytesOf};
+ghost use Rattle.crontab.specs.Settings.{settingOf, partBytes};
 use class::Class;
 use class::skip;
 use line::Line;
@@ -43,7 +43,7 @@ pub const TOO_MANY_ENTRIES: u8 = 12;
 
 pub const NO_SUCH_ENTRY: u8 = 13;
 
-pub const REBOOT_ONLY: u8 = 15;
+pub const AT_BOOT_ONLY: u8 = 15;
 
 pub const NO_SETTING: u8 = 19;
 
@@ -241,7 +241,7 @@ pub fn setting(s: &[u8], line: u64) -> SettingAnswer
 }
 
 pub fn setting_name(s: &[u8], line: u64) -> &[u8]
-    ensures { λ r. ⌜ now r ≡ bytesOf (now (s .entry)) (settingOf (now (s .entry)) line .name) ⌝ }
+    ensures { λ r. ⌜ now r ≡ partBytes (now (s .entry)) (settingOf (now (s .entry)) line .name) ⌝ }
 {
     let found = setting(s, line);
     let part = found.name;
@@ -251,7 +251,7 @@ pub fn setting_name(s: &[u8], line: u64) -> &[u8]
 }
 
 pub fn setting_value(s: &[u8], line: u64) -> &[u8]
-    ensures { λ r. ⌜ now r ≡ bytesOf (now (s .entry)) (settingOf (now (s .entry)) line .value) ⌝ }
+    ensures { λ r. ⌜ now r ≡ partBytes (now (s .entry)) (settingOf (now (s .entry)) line .value) ⌝ }
 {
     let found = setting(s, line);
     let part = found.value;

@@ -6,7 +6,7 @@ ghost use Rattle.crontab.specs.declared.class.Class.the-variants.{Not};
 ghost use Rattle.crontab.specs.Limits.{maxLine};
 ghost use Rattle.crontab.specs.Bytes.{skipped};
 ghost use Rattle.crontab.specs.Entries.{withCommand, wordEntry};
-ghost use Rattle.crontab.specs.Lines.{startsFields, contentOf, lineOf};
+ghost use Rattle.crontab.specs.Lines.{startsFields, contentOf, readLine};
 use crate::Entry;
 use crate::LINE_TOO_LONG;
 use crate::MAX_LINE;
@@ -98,7 +98,7 @@ fn content(s: &[u8]) -> Line
 // A line whose first byte 0 stands at a place, or one that has none and ends there.
 pub(crate) fn judge(s: &[u8], nul: usize) -> Line
     requires { ⌜ nul ≡ skipped (Not 0) (now s) 0 ⌝ }
-    ensures { λ r. ⌜ r ≡ lineOf (now (s .entry)) ⌝ }
+    ensures { λ r. ⌜ r ≡ readLine (now (s .entry)) ⌝ }
 {
     if MAX_LINE < s.len() {
         return Line::Refused(Fault {
@@ -116,7 +116,7 @@ pub(crate) fn judge(s: &[u8], nul: usize) -> Line
 }
 
 pub(crate) fn read(s: &[u8]) -> Line
-    ensures { λ r. ⌜ r ≡ lineOf (now (s .entry)) ⌝ }
+    ensures { λ r. ⌜ r ≡ readLine (now (s .entry)) ⌝ }
 {
     judge(s, skip(s, 0, Class::Not(0)))
 }

@@ -20,60 +20,57 @@ use Rattle.field.specs.Judgement.{outside, judged}
 use Rattle.field.specs.Fields.{areElements, judgedAll, nameElement, listField, starElement, isEmpty, starField, readField}
 use Rattle.crontab.specs.declared.When.the-variants.{Timed}
 use Rattle.crontab.specs.declared.EntryAnswer.the-variants.{Found}
-use Rattle.crontab.specs.Bytes.{isBlank, isQuote, isIn, run, skipped, trimmed, between}
+use Rattle.crontab.specs.Bytes.{isBlank, isQuote, ofClass, run, skipped, trimmed, between}
 use Rattle.crontab.specs.Entries.{withCommand}
 use Rattle.crontab.specs.Times.{answered, fieldAt, afterWeekday, afterMonth, afterDay, afterHour, afterMinute, timedEntry}
-use Rattle.crontab.specs.Lines.{onto, linesOf, startsFields, contentFrom, contentOf, lineOf}
+use Rattle.crontab.specs.Lines.{onto, linesOf, startsFields, contentFrom, contentOf, readLine}
 use Rattle.crontab.specs.Tables.{noEntries, refusedTable, emptyTable, withEntry, afterLine, withLines, tableOf}
 use Rattle.crontab.specs.Answers.{entryIn, entryOf, nextFound, nextAt, nextIn, nextOf}
 use Rattle.command.specs.Pieces.{alone, paired, pieces, byteOf, bytesOf}
-use Rattle.command.specs.Parts.{lineOf as shellOf, restOf, shellLine, inputOf}
+use Rattle.command.specs.Parts.{upToPercent, restOf, shellLine, inputOf}
 use Rattle.eremothyn.specs.KnownDays.{KnownDays}
 
+-- the table's first entry is timed
+abbrev reads : List ℕ → Schedule → ℕ → ℕ → Type 0
+reads s times start end = entryOf s 0 ≡ Found (record { when = Timed times; start = start; end = end })
+
 -- the next firing of a table's first entry, by its schedule's
-firing : (s : List ℕ) (times : Schedule) (start end m : ℕ) → entryOf s 0 ≡ Found (record { when = Timed times; start = start; end = end })
-    → nextOf s 0 m ≡ nextFound (nextAfter times m)
+firing : (s : List ℕ) (times : Schedule) (start end m : ℕ) → reads s times start end → nextOf s 0 m ≡ nextFound (nextAfter times m)
 unfolding nextOf nextIn nextAt
 firing s times start end m e = rw e
 
--- `0 0 29 2 * a`
-leap-day : entryOf (48 ∷ 32 ∷ 48 ∷ 32 ∷ 50 ∷ 57 ∷ 32 ∷ 50 ∷ 32 ∷ 42 ∷ 32 ∷ 97 ∷ []) 0 ≡ Found (record { when = Timed leapDay; start = 11; end = 12 })
-unfolding leapDay isBlank isQuote isIn run skipped trimmed between withCommand answered fieldAt afterWeekday afterMonth afterDay afterHour afterMinute timedEntry startsFields contentFrom contentOf lineOf onto linesOf noEntries refusedTable emptyTable withEntry afterLine withLines tableOf entryIn entryOf until has before after afterEach split isDigit areDigits valueFrom numberOf isElement ranging afterDash elementOf lower alike named monthNames weekdayNames nameOf everyStep valuesOf bitOf put including outside judged areElements judgedAll nameElement listField starElement isEmpty starField readField withBit
-leap-day = refl
-
--- `30 4 1,15 * 5 a`
-friday-line : entryOf (51 ∷ 48 ∷ 32 ∷ 52 ∷ 32 ∷ 49 ∷ 44 ∷ 49 ∷ 53 ∷ 32 ∷ 42 ∷ 32 ∷ 53 ∷ 32 ∷ 97 ∷ []) 0 ≡ Found (record { when = Timed fridays; start = 14; end = 15 })
-unfolding fridays isBlank isQuote isIn run skipped trimmed between withCommand answered fieldAt afterWeekday afterMonth afterDay afterHour afterMinute timedEntry startsFields contentFrom contentOf lineOf onto linesOf noEntries refusedTable emptyTable withEntry afterLine withLines tableOf entryIn entryOf until has before after afterEach split isDigit areDigits valueFrom numberOf isElement ranging afterDash elementOf lower alike named monthNames weekdayNames nameOf everyStep valuesOf bitOf put including outside judged areElements judgedAll nameElement listField starElement isEmpty starField readField withBit
-friday-line = refl
-
--- `0 0 30 2 * a`
-february-30 : entryOf (48 ∷ 32 ∷ 48 ∷ 32 ∷ 51 ∷ 48 ∷ 32 ∷ 50 ∷ 32 ∷ 42 ∷ 32 ∷ 97 ∷ []) 0 ≡ Found (record { when = Timed february30; start = 11; end = 12 })
-unfolding february30 isBlank isQuote isIn run skipped trimmed between withCommand answered fieldAt afterWeekday afterMonth afterDay afterHour afterMinute timedEntry startsFields contentFrom contentOf lineOf onto linesOf noEntries refusedTable emptyTable withEntry afterLine withLines tableOf entryIn entryOf until has before after afterEach split isDigit areDigits valueFrom numberOf isElement ranging afterDash elementOf lower alike named monthNames weekdayNames nameOf everyStep valuesOf bitOf put including outside judged areElements judgedAll nameElement listField starElement isEmpty starField readField withBit
-february-30 = refl
-
--- `0 0 30 2 1 a`
-monday-line : entryOf (48 ∷ 32 ∷ 48 ∷ 32 ∷ 51 ∷ 48 ∷ 32 ∷ 50 ∷ 32 ∷ 49 ∷ 32 ∷ 97 ∷ []) 0 ≡ Found (record { when = Timed mondays30; start = 11; end = 12 })
-unfolding mondays30 isBlank isQuote isIn run skipped trimmed between withCommand answered fieldAt afterWeekday afterMonth afterDay afterHour afterMinute timedEntry startsFields contentFrom contentOf lineOf onto linesOf noEntries refusedTable emptyTable withEntry afterLine withLines tableOf entryIn entryOf until has before after afterEach split isDigit areDigits valueFrom numberOf isElement ranging afterDash elementOf lower alike named monthNames weekdayNames nameOf everyStep valuesOf bitOf put including outside judged areElements judgedAll nameElement listField starElement isEmpty starField readField withBit
-monday-line = refl
-
--- `0 0 31 12 * a`
-last-day : entryOf (48 ∷ 32 ∷ 48 ∷ 32 ∷ 51 ∷ 49 ∷ 32 ∷ 49 ∷ 50 ∷ 32 ∷ 42 ∷ 32 ∷ 97 ∷ []) 0 ≡ Found (record { when = Timed lastDay; start = 12; end = 13 })
-unfolding lastDay isBlank isQuote isIn run skipped trimmed between withCommand answered fieldAt afterWeekday afterMonth afterDay afterHour afterMinute timedEntry startsFields contentFrom contentOf lineOf onto linesOf noEntries refusedTable emptyTable withEntry afterLine withLines tableOf entryIn entryOf until has before after afterEach split isDigit areDigits valueFrom numberOf isElement ranging afterDash elementOf lower alike named monthNames weekdayNames nameOf everyStep valuesOf bitOf put including outside judged areElements judgedAll nameElement listField starElement isEmpty starField readField withBit
-last-day = refl
+-- the tables of KnownDays, in its order
+entries :
+    reads (48 ∷ 32 ∷ 48 ∷ 32 ∷ 50 ∷ 57 ∷ 32 ∷ 50 ∷ 32 ∷ 42 ∷ 32 ∷ 97 ∷ []) leapDay 11 12
+    × reads (51 ∷ 48 ∷ 32 ∷ 52 ∷ 32 ∷ 49 ∷ 44 ∷ 49 ∷ 53 ∷ 32 ∷ 42 ∷ 32 ∷ 53 ∷ 32 ∷ 97 ∷ []) fridays 14 15
+    × reads (48 ∷ 32 ∷ 48 ∷ 32 ∷ 51 ∷ 48 ∷ 32 ∷ 50 ∷ 32 ∷ 42 ∷ 32 ∷ 97 ∷ []) february30 11 12
+    × reads (48 ∷ 32 ∷ 48 ∷ 32 ∷ 51 ∷ 48 ∷ 32 ∷ 50 ∷ 32 ∷ 49 ∷ 32 ∷ 97 ∷ []) mondays30 11 12
+    × reads (48 ∷ 32 ∷ 48 ∷ 32 ∷ 51 ∷ 49 ∷ 32 ∷ 49 ∷ 50 ∷ 32 ∷ 42 ∷ 32 ∷ 97 ∷ []) lastDay 12 13
+unfolding leapDay fridays february30 mondays30 lastDay isBlank isQuote ofClass run skipped trimmed between withCommand answered
+    fieldAt afterWeekday afterMonth afterDay afterHour afterMinute timedEntry startsFields contentFrom contentOf readLine onto
+    linesOf noEntries refusedTable emptyTable withEntry afterLine withLines tableOf entryIn entryOf until has before after
+    afterEach split isDigit areDigits valueFrom numberOf isElement ranging afterDash elementOf lower alike named monthNames
+    weekdayNames nameOf everyStep valuesOf bitOf put including outside judged areElements judgedAll nameElement listField
+    starElement isEmpty starField readField withBit
+entries = (refl, refl, refl, refl, refl)
 
 pub known-days : KnownDays
-unfolding nextFound dateOf dateAt yearOf monthOf weekdayOf walk yearDays leap monthDays monthLength monthTable noDate minuteOf minuteAt daysBefore exists span until has before after afterEach split isDigit areDigits valueFrom numberOf isElement ranging afterDash elementOf lower alike named monthNames weekdayNames nameOf everyStep valuesOf bitOf put including outside judged areElements judgedAll nameElement listField starElement isEmpty starField readField withBit alone paired pieces byteOf bytesOf shellOf restOf shellLine inputOf
+unfolding nextFound dateOf dateAt yearOf monthOf weekdayOf walk yearDays leap monthDays monthLength monthTable noDate minuteOf
+    minuteAt daysBefore exists span until has before after afterEach split isDigit areDigits valueFrom numberOf isElement
+    ranging afterDash elementOf lower alike named monthNames weekdayNames nameOf everyStep valuesOf bitOf put including outside
+    judged areElements judgedAll nameElement listField starElement isEmpty starField readField withBit alone paired pieces
+    byteOf bytesOf upToPercent restOf shellLine inputOf
 known-days = (
   refl,
   refl,
   refl,
   refl,
-  firing _ leapDay 11 12 _ leap-day ∙ ap nextFound (firings.known-days .0),
-  firing _ fridays 14 15 _ friday-line ∙ ap nextFound (firings.known-days .1),
-  firing _ fridays 14 15 _ friday-line ∙ ap nextFound (firings.known-days .2),
-  firing _ february30 11 12 _ february-30 ∙ ap nextFound (firings.known-days .3),
-  firing _ mondays30 11 12 _ monday-line ∙ ap nextFound (firings.known-days .4),
-  firing _ lastDay 12 13 _ last-day ∙ ap nextFound (firings.known-days .5),
+  firing _ leapDay 11 12 _ (entries .0) ∙ ap nextFound (firings.known-days .0),
+  firing _ fridays 14 15 _ (entries .1) ∙ ap nextFound (firings.known-days .1),
+  firing _ fridays 14 15 _ (entries .1) ∙ ap nextFound (firings.known-days .2),
+  firing _ february30 11 12 _ (entries .2) ∙ ap nextFound (firings.known-days .3),
+  firing _ mondays30 11 12 _ (entries .3) ∙ ap nextFound (firings.known-days .4),
+  firing _ lastDay 12 13 _ (entries .4) ∙ ap nextFound (firings.known-days .5),
   refl,
   refl,
   refl,

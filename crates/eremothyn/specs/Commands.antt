@@ -7,11 +7,23 @@ use Rattle.crontab.specs.declared.EntryAnswer.{EntryAnswer}
 use Rattle.crontab.specs.declared.EntryAnswer.the-variants as entry
 use Rattle.crontab.specs.Bytes.{between}
 use Rattle.crontab.specs.Answers.{entryOf}
+use Rattle.command.specs.declared.Input.{Input}
+use Rattle.command.specs.declared.Input.the-variants.{None, Length}
+use Rattle.command.specs.declared.SplitAnswer.{SplitAnswer}
 use Rattle.command.specs.declared.SplitAnswer.the-variants as split
 use Rattle.command.specs.Parts.{inputOf, inputLength}
 use Rattle.command.specs.Buffers.{Split, splitStep}
-use Rattle.command.specs.Answers.{inputNumber}
 use Rattle.eremothyn.specs.Answer.{refused}
+
+-- the length of the shell line
+unfoldable pub splitNumber : SplitAnswer → ℕ
+splitNumber (split.Written n input) = n
+splitNumber (split.Refused number) = refused + number
+
+-- the length of the input; "no input" is no length
+unfoldable pub inputNumber : Input → ℕ
+inputNumber None = refused
+inputNumber (Length n) = n
 
 unfoldable pub splitIn : List ℕ → EntryAnswer → List ℕ → List ℕ → Split
 splitIn table (entry.Found e) shell input = splitStep (between table (e .start) (e .end)) shell input

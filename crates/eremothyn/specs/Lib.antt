@@ -4,5 +4,6 @@ pub mod Tables
 pub mod Entries
 pub mod Commands
 pub mod Settings
+pub mod Queue
 pub mod Examples
 pub mod KnownDays

@@ -1,7 +1,6 @@
 // Commands: splitting one into the buffers that the caller lends, and the length of its standard input.
 ghost use mathlib.Core.Path.{_≡_};
-ghost use Rattle.command.specs.Answers.{splitNumber, inputNumber};
-ghost use Rattle.eremothyn.specs.Commands.{splitOf, stdinLength};
+ghost use Rattle.eremothyn.specs.Commands.{splitNumber, inputNumber, splitOf, stdinLength};
 use crate::answer::REFUSED;
 use command::Input;
 use command::SplitAnswer;

@@ -1,7 +1,7 @@
 // The run queue: the line of waiting jobs of a table, in a room that the caller lends.
 ghost use mathlib.Core.Path.{_≡_};
-ghost use Rattle.fifo.specs.Answers.{tickNumber, popNumber};
 ghost use Rattle.runqueue.specs.Calls.{initOf, tickOf, popOf};
+ghost use Rattle.eremothyn.specs.Queue.{tickNumber, popNumber};
 use crate::answer::REFUSED;
 use fifo::Popped;
 use fifo::Ticked;

@@ -2,6 +2,7 @@
 -- Assumes nothing.
 use mathlib.Core.Path.{_≡_, refl, sym, _∙_}
 use mathlib.Core.Bool.{Bool, true, false, cond, _&&_, _||_}
+use mathlib.Mathlib.Data.Bool.Basic.{or-eq-false-eq-eq-false-and-eq-false}
 use mathlib.Core.List.{List, [], _∷_, map}
 use Prim.Native.Nat.{ℕ, _+_, _≤_, _<_}
 use native.Mathlib.Omega.{arith}
@@ -20,7 +21,6 @@ use Rattle.field.specs.Values.{valuesOf, including}
 use Rattle.field.specs.Judgement.{outside, judged}
 use Rattle.field.specs.Fields.{areElements, judgedAll, nameElement, listField, starElement, isEmpty, starField, readField}
 use Rattle.field.specs.Members.{isStar, elementsOf}
-use Rattle.field.proofs.Bools.{or-false}
 
 pub record Accepted (l : Limits) (low high step : ℕ) : Type 0 where
   pub from : l .first ≤ low
@@ -56,7 +56,7 @@ clash q = let z : _≡_ {A = ℕ} 0 1 = cc in omega arith
 inside : (l : Limits) (n : ℕ) → outside l n ≡ false → (l .first ≤ n) × (n ≤ l .last)
 unfolding outside
 inside l n e =
-    let t = or-false (ltb n (l .first)) (ltb (l .last) n) e in
+    let t = or-eq-false-eq-eq-false-and-eq-false (ltb n (l .first)) (ltb (l .last) n) .0 e in
     (ltb-false _ _ (t .0), ltb-false _ _ (t .1))
 
 module _ (l : Limits) where
@@ -76,7 +76,7 @@ module _ (l : Limits) where
       go false true z a b c q = absurd (clash q)
       go false false true a b c q = absurd (clash q)
       go false false false a b c q =
-          let t = or-false (outside l low) (outside l high) a in
+          let t = or-eq-false-eq-eq-false-and-eq-false (outside l low) (outside l high) .0 a in
           let x = inside l low (t .0) in
           let y = inside l high (t .1) in
           record {

@@ -1,4 +1,3 @@
-pub mod Bools
 pub mod Parts
 pub mod Numbers
 pub mod Elements

@@ -2,7 +2,7 @@
 -- `values-members`: an element's values are those in its range that are a multiple of its step after its first value.
 -- Assumes nothing.
 use mathlib.Core.Path.{_≡_, refl, sym, ap, _∙_}
-use mathlib.Core.Bool.{Bool, true, false, cond, _||_}
+use mathlib.Core.Bool.{Bool, true, false, cond, _||_, and-false, or-false, or-assoc}
 use mathlib.Core.List.{List, [], _∷_, _++_, map}
 use Prim.Native.Nat.{ℕ, zero, suc, _+_, _-_, _%_, _≤_, _<_}
 use native.Mathlib.Nat.{lt-of-not-le, mod-eq-of-lt, mod-eq-sub-mod, zero-mod}
@@ -20,9 +20,13 @@ use Rattle.field.specs.declared.element.Element.the-variants.{Range, Mal
 use Rattle.field.specs.Values.{valuesOf, bitOf, including}
 use Rattle.field.specs.Fields.{readField}
 use Rattle.field.specs.Members.{isIn, contains, elementsOf, elementBits, bitsOf}
-use Rattle.field.proofs.Bools.{and-false, or-none, or-assoc, or-swap}
 use Rattle.field.proofs.Steps.{remaining, remaining-first, remaining-next, remaining-end}
 use Rattle.field.proofs.Accepted.{withElement, withElements, read-values}
+
+or-swap : (a b c : Bool) → (a || (b || c)) ≡ (b || (a || c))
+or-swap true true c = refl
+or-swap true false c = refl
+or-swap false b c = refl
 
 -- ---- the values of an element
 
@@ -118,4 +122,4 @@ module _ (n : ℕ) (h : n < 64) where
   set-members l column s q =
       ap (λ (x : ℕ). hasBit x n) (read-values l column s q .sets)
       ∙ elements-have (l .names) 0 (elementsOf l s)
-      ∙ rw (none-has n) (or-none _)
+      ∙ rw (none-has n) (or-false _)

@@ -1,7 +1,7 @@
 -- Laws of names.
 -- Assumes nothing.
 use mathlib.Core.Path.{_≡_, refl, sym, ap, _∙_}
-use mathlib.Core.Bool.{true, false, cond, _&&_}
+use mathlib.Core.Bool.{true, false, cond, _&&_, and-eq-true-iff, and-false}
 use mathlib.Core.List.{List, [], _∷_}
 use Prim.Native.Nat.{ℕ, suc, _+_, _≤_, _<_}
 use native.Mathlib.Omega.{arith}
@@ -13,11 +13,10 @@ use borrow.Author.Tests.{eq-eqb, ne-eqb, leb-true}
 use Rattle.field.specs.declared.number.Number.{Number}
 use Rattle.field.specs.declared.number.Number.the-variants.{Value, Malformed}
 use Rattle.field.specs.Names.{lower, alike, named}
-use Rattle.field.proofs.Bools.{and-true, and-false}
 
 -- a capital letter
 pub upper-le : (b : ℕ) → (leb 65 b && leb b 90) ≡ true → b ≤ 90
-upper-le b e = leb-true _ _ (and-true (leb 65 b) (leb b 90) e .1)
+upper-le b e = leb-true _ _ (and-eq-true-iff (leb 65 b) (leb b 90) .0 e .1)
 
 drop-none : (s : List ℕ) (i : ℕ) → i ≡ length s → drop i s ≡ []
 drop-none s i e = rw e (drop-length s)

@@ -1,7 +1,7 @@
 -- Laws of numbers read digit by digit: after each digit what is left says the same.
 -- Assumes nothing.
 use mathlib.Core.Path.{_≡_, refl}
-use mathlib.Core.Bool.{true, false}
+use mathlib.Core.Bool.{true, false, and-eq-true-iff}
 use mathlib.Core.List.{List}
 use Prim.Native.Nat.{ℕ, _+_, _-_, _*_, _^_, _≤_, _<_}
 use native.Mathlib.Nat.{pow-succ', pow-le-pow-right}
@@ -13,7 +13,6 @@ use lib.Dec.{leb}
 use borrow.Author.Tests.{leb-true, le-leb, lt-leb}
 use Rattle.field.specs.declared.number.Number.the-variants.{Value, Malformed}
 use Rattle.field.specs.Numbers.{isDigit, areDigits, valueFrom, numberOf}
-use Rattle.field.proofs.Bools.{and-true}
 
 -- the reading of s so far: of s the bytes before `at` are digits, and their value is v
 pub record Reading (s : List ℕ) (v at : ℕ) : Type 0 where
@@ -31,7 +30,7 @@ pub record Digit (b : ℕ) : Type 0 where
 pub is-digit : (b : ℕ) → isDigit b ≡ true → Digit b
 unfolding isDigit
 is-digit b e =
-    let t = and-true (leb 48 b) (leb b 57) e in
+    let t = and-eq-true-iff (leb 48 b) (leb b 57) .0 e in
     record { from = leb-true _ _ (t .0); to = leb-true _ _ (t .1) }
 
 module _ (s : List ℕ) where

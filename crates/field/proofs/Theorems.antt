@@ -2,8 +2,8 @@
 -- of the limits, and that a plain `*` has all of them.
 -- Assumes nothing.
 use mathlib.Core.Path.{_≡_, refl, sym, ap, _∙_}
-use mathlib.Core.Logic.{⊎-elim}
-use mathlib.Core.Bool.{Bool, true, false, cond, _&&_, _||_}
+use mathlib.Core.Logic.{_⊎_, inl, inr, ⊎-elim}
+use mathlib.Core.Bool.{Bool, true, false, cond, _&&_, _||_, false≢true, and-eq-true-iff, or-true}
 use mathlib.Core.List.{List, [], _∷_, _++_, map}
 use Prim.Native.Nat.{ℕ, _-_, _%_, _^_, _≤_, _<_}
 use native.Mathlib.Nat.{mod-one}
@@ -23,18 +23,21 @@ use Rattle.field.specs.Values.{valuesOf, bitOf, including}
 use Rattle.field.specs.Limits.{minuteLimits, hourLimits, dayLimits, monthLimits, weekdayLimits}
 use Rattle.field.specs.Fields.{isEmpty, starElement, readField}
 use Rattle.field.specs.Members.{isIn, contains, isStar, elementsOf, elementBits, bitsOf}
-use Rattle.field.proofs.Bools.{never, and-true, or-true, or-cases}
 use Rattle.field.proofs.Steps.{bit-other}
 use Rattle.field.proofs.Accepted.{Each, withElements, read-values}
 use Rattle.field.proofs.Members.{values-members, in-append, set-members}
+
+or-cases : (a b : Bool) → (a || b) ≡ true → (a ≡ true) ⊎ (b ≡ true)
+or-cases true b e = inl refl
+or-cases false b e = inr e
 
 -- ---- the width of a set
 
 in-range : (low high step v : ℕ) → contains low high step v ≡ true → (low ≤ v) × (v ≤ high)
 unfolding contains
 in-range low high step v e =
-    let t = and-true (leb low v) (leb v high && eqb ((v - low) % step) 0) e in
-    (leb-true _ _ (t .0), leb-true _ _ (and-true (leb v high) (eqb ((v - low) % step) 0) (t .1) .0))
+    let t = and-eq-true-iff (leb low v) (leb v high && eqb ((v - low) % step) 0) .0 e in
+    (leb-true _ _ (t .0), leb-true _ _ (and-eq-true-iff (leb v high) (eqb ((v - low) % step) 0) .0 (t .1) .0))
 
 module _ (l : Limits) (w : ℕ) (wide : (v : ℕ) → v ≤ l .last → bitOf (l .names) v < w) where
   put-fits : (set v : ℕ) → set < 2 ^ w → v ≤ l .last → put set (bitOf (l .names) v) < 2 ^ w
@@ -75,7 +78,7 @@ pub record Within (l : Limits) (n : ℕ) : Type 0 where
 module _ (l : Limits) (n : ℕ) (word : n < 64) where
   values-within : (vs : List ℕ) → ((v : ℕ) → isIn v vs ≡ true → (l .first ≤ v) × (v ≤ l .last)) → isIn n (map (bitOf (l .names)) vs) ≡ true → Within l n
   unfolding isIn
-  values-within [] k e = absurd (never e)
+  values-within [] k e = absurd (false≢true e)
   values-within (v ∷ vs) k e =
       ⊎-elim
       (λ t. let w = k v (rw (eq-eqb v v refl)) in record { value = v; from = w .0; to = w .1; bit = eqb-true (bitOf (l .names) v) n t })
@@ -84,7 +87,7 @@ module _ (l : Limits) (n : ℕ) (word : n < 64) where
 
   elements-within : (es : List Element) → Each l es → isIn n (bitsOf (l .names) es) ≡ true → Within l n
   unfolding isIn bitsOf elementBits
-  elements-within [] k e = absurd (never e)
+  elements-within [] k e = absurd (false≢true e)
   elements-within (Malformed ∷ es) k e = absurd (k .0)
   elements-within (Range low high step ∷ es) k e =
       ⊎-elim
@@ -103,7 +106,7 @@ module _ (l : Limits) (n : ℕ) (word : n < 64) where
 
 map-in : (f : ℕ → ℕ) (v : ℕ) (vs : List ℕ) → isIn v vs ≡ true → isIn (f v) (map f vs ++ []) ≡ true
 unfolding isIn
-map-in f v [] e = absurd (never e)
+map-in f v [] e = absurd (false≢true e)
 map-in f v (u ∷ vs) e = go (eqb u v) refl e (λ k. map-in f v vs k)
   where
     go : (t : Bool) → eqb u v ≡ t → (t || isIn v vs) ≡ true → (isIn v vs ≡ true → isIn (f v) (map f vs ++ []) ≡ true)
@@ -118,9 +121,9 @@ module _ (l : Limits) (column : ℕ) where
 
   star-only : (s : List ℕ) → isStar s ≡ true → s ≡ 42 ∷ []
   unfolding isStar isEmpty
-  star-only [] e = absurd (never e)
-  star-only (b ∷ []) e = rw (eqb-true b 42 (and-true (eqb b 42) true e .0))
-  star-only (b ∷ c ∷ s) e = absurd (never (and-true (eqb b 42) false e .1))
+  star-only [] e = absurd (false≢true e)
+  star-only (b ∷ []) e = rw (eqb-true b 42 (and-eq-true-iff (eqb b 42) true .0 e .0))
+  star-only (b ∷ c ∷ s) e = absurd (false≢true (and-eq-true-iff (eqb b 42) false .0 e .1))
 
   pub star-exact : (s : List ℕ) {set : ℕ} → readField l column s ≡ Values set true → s ≡ 42 ∷ []
   star-exact s q = star-only s (sym (star-flag s q))

@@ -1,7 +1,7 @@
 -- A line that grows entry by entry, as a loop over the entries makes it: those below i that pass a test have joined.
 -- Assumes nothing.
 use mathlib.Core.Path.{_≡_, refl, sym, ap, _∙_}
-use mathlib.Core.Bool.{Bool, true, false, not, cond, _&&_}
+use mathlib.Core.Bool.{Bool, true, false, not, cond, _&&_, and-eq-true-iff, or-false}
 use mathlib.Core.List.{List, [], _∷_, _++_, append-assoc, append-nil}
 use Prim.Native.Nat.{ℕ, suc, _+_, _≤_, _<_}
 use native.Mathlib.Numerals.{add-one}
@@ -13,7 +13,7 @@ use Rattle.fifo.specs.declared.Ticked.the-variants.{Joined, Refused}
 use Rattle.fifo.specs.Line.{has, entriesOf, pick}
 use Rattle.fifo.specs.Layout.{isLine, lineOf, laid, lineSize, roomy, limit}
 use Rattle.fifo.specs.Steps.{Jobs, fresh, initStep, joins, joiners, ticked, tickStep, cleared, canPush, pushed, canJoin, joined}
-use Rattle.fifo.proofs.Lines.{and-true, or-none, has-append, has-pick, entries-length, entries-snoc, entries-pick}
+use Rattle.fifo.proofs.Lines.{has-append, has-pick, entries-length, entries-snoc, entries-pick}
 use Rattle.fifo.proofs.Rooms.{is-line}
 use Rattle.fifo.proofs.Laid.{isLine-laid, lineOf-laid, laid-laid}
 
@@ -77,7 +77,7 @@ module _ (l room : List ℕ) (p : ℕ → Bool) where
 
     -- entry i waits there if it waited before
     waits-before : (i : ℕ) → has i (l ++ pick p i) ≡ has i l
-    waits-before i = has-append i l (pick p i) ∙ rw (has-pick p i i, le-ltb i i (omega arith)) (or-none (has i l))
+    waits-before i = has-append i l (pick p i) ∙ rw (has-pick p i i, le-ltb i i (omega arith)) (or-false (has i l))
 
     pub filled-waits : (i : ℕ) → i ≤ n → has i (lineOf (filled i)) ≡ has i l
     filled-waits i k = ap (has i) (filled-line i k) ∙ waits-before i
@@ -156,7 +156,7 @@ module _ (l room₀ : List ℕ) (p : ℕ → Bool) (n : ℕ) where
 -- who joins doesn't wait
 pub joins-new : (jobs : Jobs) (minute : ℕ) (l : List ℕ) (e : ℕ) → joins jobs minute l e ≡ true → has e l ≡ false
 unfolding joins
-joins-new jobs minute l e q = not-true (has e l) (and-true (not (jobs .boot e) && jobs .matches e minute) (not (has e l)) q .1)
+joins-new jobs minute l e q = not-true (has e l) (and-eq-true-iff (not (jobs .boot e) && jobs .matches e minute) (not (has e l)) .0 q .1)
 
 module _ (jobs : Jobs) (room : List ℕ) where
   pub init-start : roomy (jobs .count) room ≡ true → (roomy 0 room ≡ true) × (cleared room ≡ laid [] room)

@@ -1,7 +1,8 @@
 -- Laws of lines: who waits, and that a line of n entries has at most n.
 -- Assumes nothing.
 use mathlib.Core.Path.{_≡_, refl, sym, ap, _∙_}
-use mathlib.Core.Bool.{Bool, true, false, not, cond, _&&_, _||_, true≢false, false≢true}
+use mathlib.Core.Bool.{Bool, true, false, not, cond, _&&_, _||_, true≢false, false≢true, and-eq-true-iff, and-false, or-true, or-false}
+use mathlib.Mathlib.Data.Bool.Basic.{or-eq-false-eq-eq-false-and-eq-false}
 use mathlib.Core.List.{List, [], _∷_, _++_, append-assoc, append-nil}
 use Prim.Native.Nat.{ℕ, zero, suc, _+_, _≤_, _<_}
 use native.Mathlib.Omega.{arith}
@@ -14,26 +15,6 @@ use lib.Seq.{drop-cons, split-at, take-suc}
 use borrow.Author.Tests.{ltb-true, eqb-true, eqb-false, lt-ltb, le-ltb, eq-eqb, ne-eqb, not-true}
 use Rattle.fifo.specs.Line.{has, entriesOf, pick}
 use Rattle.fifo.specs.Steps.{popped}
-
-pub and-true : (a b : Bool) → (a && b) ≡ true → (a ≡ true) × (b ≡ true)
-and-true true b e = (refl, e)
-and-true false b e = absurd (false≢true e)
-
-or-false : (a b : Bool) → (a || b) ≡ false → (a ≡ false) × (b ≡ false)
-or-false true b e = absurd (true≢false e)
-or-false false b e = (refl, e)
-
-pub or-none : (a : Bool) → (a || false) ≡ a
-or-none true = refl
-or-none false = refl
-
-or-all : (a : Bool) → (a || true) ≡ true
-or-all true = refl
-or-all false = refl
-
-and-none : (a : Bool) → (a && false) ≡ false
-and-none true = refl
-and-none false = refl
 
 -- ---- who waits
 
@@ -64,8 +45,8 @@ has-end e l i h = rw (drop-of-length-le l h)
 pub entries-cons : (n x : ℕ) (l : List ℕ) → entriesOf n (x ∷ l) ≡ true → (x < n) × (has x l ≡ false) × (entriesOf n l ≡ true)
 unfolding entriesOf
 entries-cons n x l e =
-    let both = and-true (ltb x n && not (has x l)) (entriesOf n l) e in
-    let two = and-true (ltb x n) (not (has x l)) (both .0) in
+    let both = and-eq-true-iff (ltb x n && not (has x l)) (entriesOf n l) .0 e in
+    let two = and-eq-true-iff (ltb x n) (not (has x l)) .0 (both .0) in
     (ltb-true x n (two .0), not-true (has x l) (two .1), both .1)
 
 entries-more : (n x : ℕ) (l : List ℕ) → x < n → has x l ≡ false → entriesOf n l ≡ true → entriesOf n (x ∷ l) ≡ true
@@ -78,7 +59,7 @@ unfolding has entriesOf
 entries-snoc n [] x e h q = entries-more n x [] h refl refl
 entries-snoc n (y ∷ l) x e h q =
     let c = entries-cons n y l e in
-    let o = or-false (eqb y x) (has x l) q in
+    let o = or-eq-false-eq-eq-false-and-eq-false (eqb y x) (has x l) .0 q in
     let d : eqb x y ≡ false = ne-eqb x y (λ r. eqb-false y x (o .0) (sym r)) in
     let w : has y (l ++ x ∷ []) ≡ false = has-append y l (x ∷ []) ∙ rw (c .1, d) in
     entries-more n y (l ++ x ∷ []) (c .0) w (entries-snoc n l x (c .2) h (o .1))
@@ -87,7 +68,7 @@ entries-snoc n (y ∷ l) x e h q =
 pub entries-over : (n : ℕ) (l : List ℕ) (x : ℕ) (k : List ℕ) → n ≤ x → entriesOf n (l ++ x ∷ k) ≡ false
 unfolding entriesOf
 entries-over n [] x k h = rw (le-ltb x n h)
-entries-over n (y ∷ l) x k h = rw (entries-over n l x k h) (and-none (ltb y n && not (has y (l ++ x ∷ k))))
+entries-over n (y ∷ l) x k h = rw (entries-over n l x k h) (and-false (ltb y n && not (has y (l ++ x ∷ k))))
 
 pub entries-twice : (n : ℕ) (l : List ℕ) (x : ℕ) (k : List ℕ) → has x l ≡ true → entriesOf n (l ++ x ∷ k) ≡ false
 unfolding entriesOf has
@@ -97,9 +78,9 @@ entries-twice n (y ∷ l) x k q = go (eqb y x) refl q (λ r. entries-twice n l x
     go : (b : Bool) → eqb y x ≡ b → (b || has x l) ≡ true → (has x l ≡ true → entriesOf n (l ++ x ∷ k) ≡ false)
         → (ltb y n && not (has y (l ++ x ∷ k)) && entriesOf n (l ++ x ∷ k)) ≡ false
     go true r t later =
-        let here : has y (l ++ x ∷ k) ≡ true = has-append y l (x ∷ k) ∙ rw (eq-eqb x y (sym (eqb-true y x r))) (or-all (has y l)) in
-        rw (here, and-none (ltb y n))
-    go false r t later = rw (later t) (and-none (ltb y n && not (has y (l ++ x ∷ k))))
+        let here : has y (l ++ x ∷ k) ≡ true = has-append y l (x ∷ k) ∙ rw (eq-eqb x y (sym (eqb-true y x r))) (or-true (has y l)) in
+        rw (here, and-false (ltb y n))
+    go false r t later = rw (later t) (and-false (ltb y n && not (has y (l ++ x ∷ k))))
 
 -- the first of a line is out of it, and the others stay
 pub entries-popped : (n : ℕ) (l : List ℕ) → entriesOf n l ≡ true → entriesOf n (popped l) ≡ true
@@ -116,12 +97,12 @@ without n (x ∷ l) = let rest = without n l in cond (eqb x n) rest (x ∷ rest)
 without-none : (n : ℕ) (l : List ℕ) → has n l ≡ false → without n l ≡ l
 unfolding without has
 without-none n [] q = refl
-without-none n (x ∷ l) q = let o = or-false (eqb x n) (has n l) q in rw (o .0, without-none n l (o .1))
+without-none n (x ∷ l) q = let o = or-eq-false-eq-eq-false-and-eq-false (eqb x n) (has n l) .0 q in rw (o .0, without-none n l (o .1))
 
 without-has : (n y : ℕ) (l : List ℕ) → has y l ≡ false → has y (without n l) ≡ false
 unfolding without has
 without-has n y [] q = refl
-without-has n y (x ∷ l) q = let o = or-false (eqb x y) (has y l) q in go (eqb x n) (o .0) (without-has n y l (o .1))
+without-has n y (x ∷ l) q = let o = or-eq-false-eq-eq-false-and-eq-false (eqb x y) (has y l) .0 q in go (eqb x n) (o .0) (without-has n y l (o .1))
   where
     go : (b : Bool) → eqb x y ≡ false → has y (without n l) ≡ false → has y (cond b (without n l) (x ∷ without n l)) ≡ false
     go true o h = h
@@ -177,7 +158,7 @@ has-pick p (suc n) e =
         above h = rw (le-ltb e n h, le-ltb e (suc n) (omega arith))
 
         under : e < n → (ltb e n && p e || false) ≡ (ltb e (suc n) && p e)
-        under h = rw (lt-ltb e n h, lt-ltb e (suc n) (omega arith)) (or-none (p e))
+        under h = rw (lt-ltb e n h, lt-ltb e (suc n) (omega arith)) (or-false (p e))
 
 -- the picked ones join a line in which none of them waits
 pub entries-pick : (n : ℕ) (l : List ℕ) (p : ℕ → Bool) → ((e : ℕ) → p e ≡ true → has e l ≡ false) → entriesOf n l ≡ true

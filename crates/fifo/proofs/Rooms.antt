@@ -1,7 +1,7 @@
 -- Laws of the steps as the functions take them: what each way through the code leaves is what the definitions say.
 -- Assumes nothing.
 use mathlib.Core.Path.{_≡_, refl, sym, ap, _∙_}
-use mathlib.Core.Bool.{true, false, _&&_}
+use mathlib.Core.Bool.{true, false, _&&_, and-eq-true-iff}
 use mathlib.Core.List.{List, [], _∷_}
 use Prim.Native.Nat.{ℕ, suc, _+_, _-_, _*_, _/_, _≤_, _<_}
 use native.Mathlib.Omega.{arith}
@@ -13,7 +13,6 @@ use Rattle.fifo.specs.declared.Popped.the-variants.{Entry, Nothing, Refu
 use Rattle.fifo.specs.Line.{has, entriesOf}
 use Rattle.fifo.specs.Layout.{numbers, stored, lineOf, laid, lineSize, roomy, isLine, limit}
 use Rattle.fifo.specs.Steps.{canPush, pushed, canJoin, joined, cleared, front, popped, popStep}
-use Rattle.fifo.proofs.Lines.{and-true}
 use Rattle.fifo.proofs.Numbers.{Bytes, line-length, line-short, line-at}
 use Rattle.fifo.proofs.Laid.{roomy-half, laid-same}
 use Rattle.fifo.proofs.Stores.{laid-push, laid-pop, laid-clear}
@@ -30,8 +29,8 @@ pub record IsLine (n : ℕ) (s : List ℕ) : Type 0 where
 pub is-line : (n : ℕ) (s : List ℕ) → isLine n s ≡ true → IsLine n s
 unfolding isLine roomy
 is-line n s e =
-    let both = and-true (roomy n s && leb (getD (numbers s) 0 0) n) (entriesOf n (lineOf s)) e in
-    let two = and-true (roomy n s) (leb (getD (numbers s) 0 0) n) (both .0) in
+    let both = and-eq-true-iff (roomy n s && leb (getD (numbers s) 0 0) n) (entriesOf n (lineOf s)) .0 e in
+    let two = and-eq-true-iff (roomy n s) (leb (getD (numbers s) 0 0) n) .0 (both .0) in
     let h : 2 + 2 * n ≤ length s = leb-true (2 + 2 * n) (length s) (two .0) in
     let k : getD (numbers s) 0 0 ≤ n = leb-true (getD (numbers s) 0 0) n (two .1) in
     record {

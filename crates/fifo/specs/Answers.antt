@@ -1,6 +1,6 @@
--- Paper 01, "What comes back": the answers of the run queue's calls, and their numbers for C callers.
+-- Paper 01, "What comes back": the refusals of the run queue's calls.
 -- Assumes nothing.
-use Prim.Native.Nat.{ℕ, _+_}
+use Prim.Native.Nat.{ℕ}
 use Rattle.fifo.specs.declared.Ticked.{Ticked}
 use Rattle.fifo.specs.declared.Popped.{Popped}
 use Rattle.fifo.specs.declared.Ticked.the-variants.{Joined, Refused as NotTicked}
@@ -13,19 +13,6 @@ notALine = 28
 -- the minute isn't on the calendar
 abbrev pub offCalendar : ℕ
 offCalendar = 14
-
--- "nothing waits" is this number, and a refusal this and its own
-abbrev pub refusals : ℕ
-refusals = 4294967296
-
-unfoldable pub tickNumber : Ticked → ℕ
-tickNumber (Joined n) = n
-tickNumber (NotTicked why) = refusals + why
-
-unfoldable pub popNumber : Popped → ℕ
-popNumber (Entry e) = e
-popNumber Nothing = refusals
-popNumber (NotPopped why) = refusals + why
 
 -- the number of a refusal, and 0 where there is none; "nothing waits" is no refusal
 unfoldable pub tickRefusal : Ticked → ℕ

@@ -15,35 +15,35 @@ use Rattle.fifo.specs.Steps.{initStep, tickStep, popStep, cleared}
 use Rattle.fifo.proofs.Laid.{laid-laid}
 use Rattle.fifo.proofs.Filling.{init-start}
 use Rattle.runqueue.specs.Jobs.{jobsOf}
-use Rattle.runqueue.specs.Calls.{initIn, tickIn, popIn}
+use Rattle.runqueue.specs.Calls.{initTable, tickTable, popTable}
 
 module _ (t : Table) (room : List ℕ) where
   -- a refused table
   module _ (bad : t .refusal ≡ 0 → ⊥) where
-    pub init-bad : (NotTicked (t .refusal) ≡ initIn t room .answer) × (room ≡ initIn t room .room)
-    unfolding initIn
+    pub init-bad : (NotTicked (t .refusal) ≡ initTable t room .answer) × (room ≡ initTable t room .room)
+    unfolding initTable
     init-bad = let e = ne-eqb (t .refusal) 0 bad in (rw e, rw e)
 
-    pub tick-bad : (minute : ℕ) → (NotTicked (t .refusal) ≡ tickIn t minute room .answer) × (room ≡ tickIn t minute room .room)
-    unfolding tickIn
+    pub tick-bad : (minute : ℕ) → (NotTicked (t .refusal) ≡ tickTable t minute room .answer) × (room ≡ tickTable t minute room .room)
+    unfolding tickTable
     tick-bad minute = let e = ne-eqb (t .refusal) 0 bad in (rw e, rw e)
 
-    pub pop-bad : (NotPopped (t .refusal) ≡ popIn t room .answer) × (room ≡ popIn t room .room)
-    unfolding popIn
+    pub pop-bad : (NotPopped (t .refusal) ≡ popTable t room .answer) × (room ≡ popTable t room .room)
+    unfolding popTable
     pop-bad = let e = ne-eqb (t .refusal) 0 bad in (rw e, rw e)
 
   -- a good one
   module _ (good : t .refusal ≡ 0) where
-    pub init-good : initIn t room ≡ initStep (jobsOf t) room
-    unfolding initIn
+    pub init-good : initTable t room ≡ initStep (jobsOf t) room
+    unfolding initTable
     init-good = rw (eq-eqb (t .refusal) 0 good)
 
-    pub tick-good : (minute : ℕ) → tickIn t minute room ≡ tickStep (jobsOf t) minute room
-    unfolding tickIn
+    pub tick-good : (minute : ℕ) → tickTable t minute room ≡ tickStep (jobsOf t) minute room
+    unfolding tickTable
     tick-good minute = rw (eq-eqb (t .refusal) 0 good)
 
-    pub pop-good : popIn t room ≡ popStep (t .count) room
-    unfolding popIn
+    pub pop-good : popTable t room ≡ popStep (t .count) room
+    unfolding popTable
     pop-good = rw (eq-eqb (t .refusal) 0 good)
 
 -- a room that was cleared holds the empty line, and what is laid there is as in the room before

@@ -15,21 +15,21 @@ use Rattle.fifo.specs.Steps.{Step, initStep, tickStep, popStep}
 use Rattle.runqueue.specs.Jobs.{jobsOf}
 
 -- a fresh line (init), an announcement (tick) and a request (pop)
-unfoldable pub initIn : Table → List ℕ → Step Ticked
-initIn t room = cond (eqb (t .refusal) 0) (initStep (jobsOf t) room) (record { answer = NotTicked (t .refusal); room = room })
+unfoldable pub initTable : Table → List ℕ → Step Ticked
+initTable t room = cond (eqb (t .refusal) 0) (initStep (jobsOf t) room) (record { answer = NotTicked (t .refusal); room = room })
 
-unfoldable pub tickIn : Table → ℕ → List ℕ → Step Ticked
-tickIn t minute room =
+unfoldable pub tickTable : Table → ℕ → List ℕ → Step Ticked
+tickTable t minute room =
     cond (eqb (t .refusal) 0) (tickStep (jobsOf t) minute room) (record { answer = NotTicked (t .refusal); room = room })
 
-unfoldable pub popIn : Table → List ℕ → Step Popped
-popIn t room = cond (eqb (t .refusal) 0) (popStep (t .count) room) (record { answer = NotPopped (t .refusal); room = room })
+unfoldable pub popTable : Table → List ℕ → Step Popped
+popTable t room = cond (eqb (t .refusal) 0) (popStep (t .count) room) (record { answer = NotPopped (t .refusal); room = room })
 
 unfoldable pub initOf : List ℕ → List ℕ → Step Ticked
-initOf table room = initIn (tableOf table) room
+initOf table room = initTable (tableOf table) room
 
 unfoldable pub tickOf : List ℕ → ℕ → List ℕ → Step Ticked
-tickOf table minute room = tickIn (tableOf table) minute room
+tickOf table minute room = tickTable (tableOf table) minute room
 
 unfoldable pub popOf : List ℕ → List ℕ → Step Popped
-popOf table room = popIn (tableOf table) room
+popOf table room = popTable (tableOf table) room

@@ -1,6 +1,6 @@
 -- `crontab::class::is_in` meets its contract, class by class.
 -- Assumes nothing.
-use Rattle.crontab.specs.Bytes.{isIn}
+use Rattle.crontab.specs.Bytes.{ofClass}
 use borrow.Author.Needs.{needs}
 use Rattle.crontab.proofs.class.is_in.Statement.{statement}
 use Rattle.crontab.proofs.class.is_in.Tie as tie
@@ -33,23 +33,23 @@ enum-told-4 : tie.Need-enum-told-4
 enum-told-4 c = search needs
 
 returns : tie.Need-returns
-unfolding isIn
+unfolding ofClass
 returns c = rw (c .before .enum-told .given .1) (c .is-blank .ensures)
 
 returns-2 : tie.Need-returns-2
-unfolding isIn
+unfolding ofClass
 returns-2 c = rw (c .before .enum-told2 .given .1, c .is-blank2 .ensures)
 
 returns-3 : tie.Need-returns-3
-unfolding isIn
+unfolding ofClass
 returns-3 c = rw (c .before .before .enum-told3 .given .1, c .before .is-blank3 .ensures, c .is-quote .ensures)
 
 returns-4 : tie.Need-returns-4
-unfolding isIn
+unfolding ofClass
 returns-4 c = rw (c .before .class .given .1)
 
 returns-5 : tie.Need-returns-5
-unfolding isIn
+unfolding ofClass
 returns-5 c = rw (c .enum-told4 .given .1)
 
 pub is-in-spec : {M : Type 1} → statement M

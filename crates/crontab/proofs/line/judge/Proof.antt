@@ -2,7 +2,7 @@
 -- Assumes nothing.
 use mathlib.Core.Path.{_∙_}
 use borrow.Author.Tests.{lt-ltb, le-ltb}
-use Rattle.crontab.specs.Lines.{lineOf}
+use Rattle.crontab.specs.Lines.{readLine}
 use borrow.Author.Needs.{needs}
 use Rattle.crontab.proofs.line.judge.Statement.{statement}
 use Rattle.crontab.proofs.line.judge.Tie as tie
@@ -11,21 +11,21 @@ add-t5 : tie.Need-add-t5
 add-t5 c = search needs
 
 returns : tie.Need-returns
-unfolding lineOf
+unfolding readLine
 returns c = rw (lt-ltb _ _ (c .if1 .taken))
 
 add-t7 : tie.Need-add-t7
 add-t7 c = search needs
 
 returns-2 : tie.Need-returns-2
-unfolding lineOf
+unfolding readLine
 returns-2 c = rw (le-ltb _ _ (c .before .if1 .left), ← (c .before .before .before .pre), lt-ltb _ _ (c .if2 .taken))
 
 content-requires : tie.Need-content-requires
 content-requires c κs = search needs
 
 returns-3 : tie.Need-returns-3
-unfolding lineOf
+unfolding readLine
 returns-3 c = c .content .ensures ∙ rw (le-ltb _ _ (c .before .before .if1 .left), ← (c .before .before .before .before .pre), le-ltb _ _ (c .before .if2 .left))
 
 pub judge-spec : {M : Type 1} → statement M

@@ -4,7 +4,7 @@ use mathlib.Core.Path.{refl, sym, ap, _∙_}
 use native.Mathlib.Omega.{arith}
 use Rattle.crontab.specs.Bytes.{between}
 use Rattle.crontab.proofs.Theorems.{entry-sound}
-use Rattle.command.specs.Answers.{splitNumber}
+use Rattle.eremothyn.specs.Commands.{splitNumber}
 use Rattle.eremothyn.specs.Commands.{splitIn, splitOf}
 use borrow.Author.Needs.{needs}
 use Rattle.eremothyn.proofs.commands.eremothyn_split_command.Statement.{statement}

@@ -1,6 +1,6 @@
 -- `eremothyn::commands::input_number` meets its contract: it is the definition, case by case.
 -- Assumes nothing.
-use Rattle.command.specs.Answers.{inputNumber}
+use Rattle.eremothyn.specs.Commands.{inputNumber}
 use borrow.Author.Needs.{needs}
 use Rattle.eremothyn.proofs.commands.input_number.Statement.{statement}
 use Rattle.eremothyn.proofs.commands.input_number.Tie as tie

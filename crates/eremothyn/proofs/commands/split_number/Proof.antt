@@ -1,6 +1,6 @@
 -- `eremothyn::commands::split_number` meets its contract: it is the definition, case by case.
 -- Assumes nothing.
-use Rattle.command.specs.Answers.{splitNumber}
+use Rattle.eremothyn.specs.Commands.{splitNumber}
 use borrow.Author.Needs.{needs}
 use Rattle.eremothyn.proofs.commands.split_number.Statement.{statement}
 use Rattle.eremothyn.proofs.commands.split_number.Tie as tie

@@ -2,7 +2,7 @@
 -- Assumes nothing.
 use mathlib.Core.Path.{ap, _∙_}
 use borrow.Author.Needs.{needs}
-use Rattle.fifo.specs.Answers.{popNumber}
+use Rattle.eremothyn.specs.Queue.{popNumber}
 use Rattle.eremothyn.proofs.queue.eremothyn_queue_pop.Statement.{statement}
 use Rattle.eremothyn.proofs.queue.eremothyn_queue_pop.Tie as tie
 

@@ -2,7 +2,7 @@
 -- Assumes nothing.
 use mathlib.Core.Path.{ap, _∙_}
 use borrow.Author.Needs.{needs}
-use Rattle.fifo.specs.Answers.{tickNumber}
+use Rattle.eremothyn.specs.Queue.{tickNumber}
 use Rattle.eremothyn.proofs.queue.eremothyn_queue_tick.Statement.{statement}
 use Rattle.eremothyn.proofs.queue.eremothyn_queue_tick.Tie as tie
 

@@ -1,7 +1,7 @@
 -- `eremothyn::queue::popped_number` meets its contract: it is the definition, case by case.
 -- Assumes nothing.
 use borrow.Author.Needs.{needs}
-use Rattle.fifo.specs.Answers.{popNumber}
+use Rattle.eremothyn.specs.Queue.{popNumber}
 use Rattle.eremothyn.proofs.queue.popped_number.Statement.{statement}
 use Rattle.eremothyn.proofs.queue.popped_number.Tie as tie
 

@@ -1,7 +1,7 @@
 -- `eremothyn::queue::ticked_number` meets its contract: it is the definition, case by case.
 -- Assumes nothing.
 use borrow.Author.Needs.{needs}
-use Rattle.fifo.specs.Answers.{tickNumber}
+use Rattle.eremothyn.specs.Queue.{tickNumber}
 use Rattle.eremothyn.proofs.queue.ticked_number.Statement.{statement}
 use Rattle.eremothyn.proofs.queue.ticked_number.Tie as tie
 

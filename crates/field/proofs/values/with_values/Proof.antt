@@ -1,11 +1,10 @@
 -- `field::values::with_values` meets its contract: a run with no gap, or any range.
 -- Assumes nothing.
 use mathlib.Core.Path.{_≡_, sym, _∙_}
-use mathlib.Core.Bool.{true}
+use mathlib.Core.Bool.{true, and-eq-true-iff}
 use Prim.Native.Nat.{_<_}
 use borrow.Author.Tests.{eqb-true, ltb-true}
 use borrow.Author.Needs.{needs}
-use Rattle.field.proofs.Bools.{and-true}
 use Rattle.field.proofs.Runs.{run-values}
 use Rattle.field.proofs.values.with_values.Statement.{statement}
 use Rattle.field.proofs.values.with_values.Tie as tie
@@ -22,9 +21,9 @@ record Chosen (c : tie.Then1) : Type 0 where
 
 chosen : (c : tie.Then1) → Chosen c
 chosen c =
-    let t = and-true _ _ (c .if1 .taken) in
-    let u = and-true _ _ (t .0) in
-    let v = and-true _ _ (u .0) in
+    let t = and-eq-true-iff _ _ .0 (c .if1 .taken) in
+    let u = and-eq-true-iff _ _ .0 (t .0) in
+    let v = and-eq-true-iff _ _ .0 (u .0) in
     record { empty = eqb-true _ _ (v .0); single = eqb-true _ _ (v .1); small = ltb-true _ _ (u .1); own = t .1 }
 
 run-requires : tie.Need-run-requires
