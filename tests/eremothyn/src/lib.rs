@@ -1,5 +1,7 @@
 //! The functions of `include/eremothyn.h`, each under its own name without the prefix.
 
+pub mod compare;
+
 /// A refusal is this plus its number.
 pub const REFUSED: u64 = 1 << 32;
 

@@ -1,8 +1,9 @@
-//! A table, and a line of it in one buffer, beside the second program's list. Each call is lent the buffer's first bytes,
-//! as many as the caller likes.
+//! A table, and a line of it in one buffer, beside the second program's list. Each call is lent a copy of the buffer's
+//! first bytes, as many as the caller likes. The lent bytes end at guard pages, and the table's are read-only.
 
 use crate as library;
 use eremothyn::Answer;
+use guard::Guarded;
 use second::queue::Queue;
 use second::table::{read, Table, When};
 use std::fmt::Debug;
@@ -13,6 +14,7 @@ const NO_LINE: u64 = 28;
 /// A good table.
 pub struct Case<'a> {
     bytes: &'a [u8],
+    lent: Guarded,
     pub table: Table<'a>,
     /// The least room that the library takes for a line of the table.
     pub least: usize,
@@ -21,9 +23,11 @@ pub struct Case<'a> {
 impl<'a> Case<'a> {
     pub fn of(bytes: &'a [u8]) -> Case<'a> {
         let table = read(bytes).expect("a good table");
-        let least = least_room(bytes, table.entries.len());
+        let lent = Guarded::read_only(bytes);
+        let least = least_room(&lent, table.entries.len());
         Case {
             bytes,
+            lent,
             table,
             least,
         }
@@ -45,6 +49,11 @@ impl<'a> Case<'a> {
     pub fn enough(&self) -> usize {
         8 * self.count() + 64
     }
+
+    /// A call that is lent the table and a room.
+    fn ask<T>(&self, room: &mut [u8], call: impl FnOnce(&[u8], &mut [u8]) -> T) -> T {
+        Guarded::lend(room, |room| call(&self.lent, room))
+    }
 }
 
 /// The least room that a fresh line is accepted in. What is refused changes no byte.
@@ -52,7 +61,7 @@ fn least_room(table: &[u8], entries: usize) -> usize {
     let most = 8 * entries + 64;
     let accepted = |length: &usize| {
         let mut room = filled(*length);
-        let answer = library::init(table, &mut room);
+        let answer = Guarded::lend(&mut room, |room| library::init(table, room));
         if answer.is_err() {
             assert_eq!(answer, Err(NO_LINE), "a room of {length} bytes");
             assert_eq!(room, filled(*length));
@@ -113,14 +122,13 @@ impl Compared {
         second: impl FnOnce(&mut Queue) -> Result<T, u64>,
     ) -> Result<T, u64> {
         let before = self.room.clone();
-        let table = case.bytes.to_vec();
         let waiting = self.queue.waiting.clone();
         let expected = if lent < case.least {
             Err(NO_LINE)
         } else {
             second(&mut self.queue)
         };
-        let answer = library(&table, &mut self.room[..lent]);
+        let answer = case.ask(&mut self.room[..lent], library);
         assert_eq!(
             answer,
             expected,
@@ -133,7 +141,6 @@ impl Compared {
             before[stays..],
             "{what:?}: bytes that stay"
         );
-        assert_eq!(table, case.bytes, "{what:?}: the table's bytes");
         answer
     }
 
@@ -148,15 +155,29 @@ impl Compared {
 pub fn drain(case: &Case, room: &[u8]) -> Result<Vec<u64>, u64> {
     let mut room = room.to_vec();
     let mut waiting = Vec::new();
-    while let Some(entry) = library::pop(case.bytes, &mut room)? {
+    while let Some(entry) = case.ask(&mut room, library::pop)? {
         waiting.push(entry);
         assert!(waiting.len() <= case.count(), "{waiting:?} wait");
     }
     // Nothing waits, and asking again changes nothing.
     let before = room.clone();
-    assert_eq!(library::pop(case.bytes, &mut room), Ok(None));
+    assert_eq!(case.ask(&mut room, library::pop), Ok(None));
     assert_eq!(room, before);
     Ok(waiting)
+}
+
+/// Every call with a bad table: the table's refusal, whatever room and minute are, and no byte of the room changes.
+pub fn refused(table: &[u8], number: u64, room: &[u8], minute: u64) {
+    let lent = Guarded::read_only(table);
+    let refused = |refusal: &dyn Fn(&mut [u8]) -> Option<u64>| {
+        let mut after = room.to_vec();
+        let shown = table.escape_ascii();
+        assert_eq!(Guarded::lend(&mut after, refusal), Some(number), "{shown}");
+        assert_eq!(after, room, "{shown}");
+    };
+    refused(&|room| library::init(&lent, room).err());
+    refused(&|room| library::tick(&lent, room, minute).err());
+    refused(&|room| library::pop(&lent, room).err());
 }
 
 /// A room with any bytes: no line, or else some line, and then every call says the same of it.
@@ -164,14 +185,14 @@ pub fn judge(case: &Case, room: &[u8], minute: u64) -> bool {
     const OFF_CALENDAR: u64 = u64::MAX;
     let tick = |minute: u64| {
         let mut room = room.to_vec();
-        let answer = library::tick(case.bytes, &mut room, minute);
-        (answer, room)
+        let call = |table: &[u8], room: &mut [u8]| library::tick(table, room, minute);
+        (case.ask(&mut room, call), room)
     };
     match drain(case, room) {
         Err(refusal) => {
             assert_eq!(refusal, NO_LINE);
             let mut popped = room.to_vec();
-            assert_eq!(library::pop(case.bytes, &mut popped), Err(NO_LINE));
+            assert_eq!(case.ask(&mut popped, library::pop), Err(NO_LINE));
             assert_eq!(popped, room);
             for minute in [minute, OFF_CALENDAR] {
                 assert_eq!(tick(minute), (Err(NO_LINE), room.to_vec()));

@@ -2,25 +2,26 @@
 //! brings the archive. How a line is kept in its room is the library's own affair.
 
 pub mod compare;
+pub mod samples;
 
 use eremothyn::{Answer, REFUSED};
 
 // The pointers are only read and written within the lengths beside them. Nothing is required of the bytes or numbers.
 unsafe extern "C" {
-    fn eremothyn_queue_init(
+    pub fn eremothyn_queue_init(
         table: *const u8,
         table_length: u64,
         room: *mut u8,
         room_length: u64,
     ) -> u64;
-    fn eremothyn_queue_tick(
+    pub fn eremothyn_queue_tick(
         table: *const u8,
         table_length: u64,
         room: *mut u8,
         room_length: u64,
         minute: u64,
     ) -> u64;
-    fn eremothyn_queue_pop(
+    pub fn eremothyn_queue_pop(
         table: *const u8,
         table_length: u64,
         room: *mut u8,

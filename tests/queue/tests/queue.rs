@@ -1,6 +1,7 @@
 //! The run queue of the library against the second program's list.
 
-use queue::compare::{drain, filled, judge, Case, Compared};
+use queue::compare::{drain, filled, judge, refused, Case, Compared};
+use queue::samples::{busy_table, damage};
 use second::calendar::LAST_MINUTE;
 use second::queue::Queue;
 use second::random::Random;
@@ -15,41 +16,6 @@ const OFF_CALENDAR: [u64; 6] = [
     1 << 63,
     u64::MAX,
 ];
-
-/// A table of so many entries, some that boot, and some that fire often.
-fn busy_table(random: &mut Random, entries: u64) -> Vec<u8> {
-    let often = [
-        "* * * * *",
-        "*/2 * * * *",
-        "1-59/2 * * * *",
-        "*/5 * * * *",
-        "0 * * * *",
-        "* 0 * * *",
-        "@hourly",
-        "@daily",
-        "@reboot",
-        "* * 1,15 * 5",
-        "0 0 29 2 *",
-        "0 0 30 2 *",
-        "* * * * 7",
-        "59 23 31 12 *",
-    ];
-    let mut table = Vec::new();
-    for _ in 0..entries {
-        match random.below(10) {
-            0 => table.extend(b"# comment\n"),
-            1 => table.extend(b"A=b\n"),
-            _ => {}
-        }
-        let line = match random.below(8) {
-            0 => format!("{} a", samples::fields(random).join(" ")),
-            _ => format!("{} a%b", random.pick(&often)),
-        };
-        table.extend(line.bytes());
-        table.push(b'\n');
-    }
-    table
-}
 
 /// A table of so many entries, each written as given.
 fn alike(entry: &str, entries: usize) -> Vec<u8> {
@@ -189,8 +155,6 @@ fn bytes_behind_what_a_fresh_line_writes_stay() {
 
 #[test]
 fn refusals_in_their_order() {
-    let mut room = filled(200);
-    let before = room.clone();
     // The table first: also where the room is too short, no line, and the minute off the calendar.
     let tables: [(&[u8], u64); 5] = [
         (b"60 * * * * a", 6),
@@ -201,14 +165,10 @@ fn refusals_in_their_order() {
     ];
     for (table, number) in tables {
         for length in [0, 1, 200] {
-            let room = &mut room[..length];
-            assert_eq!(queue::init(table, room), Err(number));
-            assert_eq!(queue::pop(table, room), Err(number));
             for minute in [0, u64::MAX] {
-                assert_eq!(queue::tick(table, room, minute), Err(number));
+                refused(table, number, &filled(length), minute);
             }
         }
-        assert_eq!(room, before);
     }
     // Then 28, then 14.
     let case = Case::of(b"* * * * * a\n@reboot b\n");
@@ -366,16 +326,7 @@ fn damaged_rooms() {
         }
         for _ in 0..10 {
             let mut room = line.room.clone();
-            for _ in 0..1 + random.below(3) {
-                let at = random.below(case.least as u64) as usize;
-                room[at] = match random.below(5) {
-                    0 => random.number() as u8,
-                    1 => random.below(entries + 2) as u8,
-                    2 => room[random.below(case.least as u64) as usize],
-                    3 => room[at] ^ 1 << random.below(8),
-                    _ => room[at].wrapping_add(1),
-                };
-            }
+            damage(&mut random, &mut room[..case.least], entries);
             let minute = random.below(3_000);
             match judge(&case, &room, minute) {
                 true => lines += 1,

@@ -1,17 +1,13 @@
 //! A table lent to the library, and the same table read by the second program. Every call is compared with the second
-//! program's answer, and the lent bytes are held against what they were.
+//! program's answer. The lent bytes end at guard pages, and the table's are read-only.
 
 use crate as library;
 use eremothyn::Answer;
+use guard::Guarded;
 use second::random::Random;
 use second::schedule::samples;
 use second::table::calls::Calls;
 use second::table::{Fault, Setting};
-use std::hint::black_box;
-
-/// What stands before and behind the table. Whoever reads it goes wrong.
-const BEFORE: &[u8] = b"60 * * * * \"\\";
-const BEHIND: &[u8] = b"%\\\"' a\n* * * * * b\nc=d\n\0\n60\n";
 
 /// Entry and line numbers that no table has.
 const WILD: [u64; 9] = [
@@ -33,7 +29,7 @@ const STARTS: usize = 2;
 
 pub struct Compared<'a> {
     bytes: &'a [u8],
-    lent: Vec<u8>,
+    lent: Guarded,
     second: Calls<'a>,
 }
 
@@ -42,7 +38,7 @@ impl<'a> Compared<'a> {
     pub fn of(bytes: &'a [u8]) -> Compared<'a> {
         let compared = Compared {
             bytes,
-            lent: [BEFORE, bytes, BEHIND].concat(),
+            lent: Guarded::read_only(bytes),
             second: Calls::of(bytes),
         };
         let _ = compared.agree("check", library::check, compared.second.check());
@@ -95,24 +91,24 @@ impl<'a> Compared<'a> {
         second
     }
 
-    /// Splits a command into two buffers of given lengths. Every byte of both, and around them, is compared.
+    /// Splits a command into two buffers of given lengths. Every byte of both is compared.
     pub fn split_command(&self, entry: u64, lengths: [usize; 2]) -> Answer {
-        const AROUND: usize = 5;
         let filled = |length: usize| -> Vec<u8> {
             let byte = |at: usize| (at * 29 + 7) as u8;
-            (0..length + 2 * AROUND).map(byte).collect()
+            (0..length).map(byte).collect()
         };
         let run = |split: &dyn Fn(&mut [u8], &mut [u8]) -> Answer| {
             let [mut shell, mut input] = lengths.map(filled);
-            let answer = split(
-                &mut shell[AROUND..AROUND + lengths[0]],
-                &mut input[AROUND..AROUND + lengths[1]],
-            );
+            let answer = split(&mut shell, &mut input);
             (answer, shell, input)
         };
         let second = run(&|shell, input| self.second.split_command(entry, shell, input));
         let library = run(&|shell, input| {
-            self.ask(|table| library::split_command(table, entry, shell, input))
+            Guarded::lend(shell, |shell| {
+                let split =
+                    |input: &mut [u8]| library::split_command(&self.lent, entry, shell, input);
+                Guarded::lend(input, split)
+            })
         });
         assert_eq!(
             library,
@@ -123,12 +119,17 @@ impl<'a> Compared<'a> {
         library.0
     }
 
-    /// The same into buffers that are just long enough, longer, and too short.
-    pub fn split_into_all(&self, entry: u64) {
+    /// The lengths of a command's shell line and input; 1 and 1 if there is no such entry.
+    pub fn needed(&self, entry: u64) -> [usize; 2] {
         let command = self.second.command(entry);
-        let (shell, input) = command.map_or((1, 1), |command| {
-            (command.shell.len(), command.input.unwrap_or_default().len())
-        });
+        command.map_or([1, 1], |command| {
+            [command.shell.len(), command.input.unwrap_or_default().len()]
+        })
+    }
+
+    /// Splits into buffers that are just long enough, longer, and too short.
+    pub fn split_into_all(&self, entry: u64) {
+        let [shell, input] = self.needed(entry);
         let short = |length: usize| length.saturating_sub(1);
         let lengths = [
             [shell, input],
@@ -203,25 +204,13 @@ impl<'a> Compared<'a> {
         call: impl FnOnce(&[u8]) -> T,
         expected: T,
     ) -> T {
-        let library = self.ask(call);
+        let library = call(&self.lent);
         assert!(
             library == expected,
             "{what:?} of {}: library {library:?}, second program {expected:?}",
             self.shown()
         );
         library
-    }
-
-    fn ask<T>(&self, call: impl FnOnce(&[u8]) -> T) -> T {
-        let table = BEFORE.len()..BEFORE.len() + self.bytes.len();
-        let answer = call(&black_box(&self.lent)[table.clone()]);
-        let lent = black_box(&self.lent);
-        assert!(
-            lent.starts_with(BEFORE) && lent.ends_with(BEHIND) && lent[table] == *self.bytes,
-            "the call wrote into {}",
-            self.shown()
-        );
-        answer
     }
 
     fn shown(&self) -> String {

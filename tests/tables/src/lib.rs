@@ -7,12 +7,12 @@ use eremothyn::{Answer, REFUSED};
 
 // The pointers are only read and written within the lengths beside them. Nothing is required of the bytes or numbers.
 unsafe extern "C" {
-    fn eremothyn_check(table: *const u8, table_length: u64) -> u64;
-    fn eremothyn_fault_line(table: *const u8, table_length: u64) -> u64;
-    fn eremothyn_fault_column(table: *const u8, table_length: u64) -> u64;
-    fn eremothyn_due(table: *const u8, table_length: u64, entry: u64, minute: u64) -> u64;
-    fn eremothyn_next(table: *const u8, table_length: u64, entry: u64, minute: u64) -> u64;
-    fn eremothyn_split_command(
+    pub fn eremothyn_check(table: *const u8, table_length: u64) -> u64;
+    pub fn eremothyn_fault_line(table: *const u8, table_length: u64) -> u64;
+    pub fn eremothyn_fault_column(table: *const u8, table_length: u64) -> u64;
+    pub fn eremothyn_due(table: *const u8, table_length: u64, entry: u64, minute: u64) -> u64;
+    pub fn eremothyn_next(table: *const u8, table_length: u64, entry: u64, minute: u64) -> u64;
+    pub fn eremothyn_split_command(
         table: *const u8,
         table_length: u64,
         entry: u64,
@@ -21,11 +21,11 @@ unsafe extern "C" {
         input: *mut u8,
         input_length: u64,
     ) -> u64;
-    fn eremothyn_stdin_length(table: *const u8, table_length: u64, entry: u64) -> u64;
-    fn eremothyn_setting_name_offset(table: *const u8, table_length: u64, line: u64) -> u64;
-    fn eremothyn_setting_name_length(table: *const u8, table_length: u64, line: u64) -> u64;
-    fn eremothyn_setting_value_offset(table: *const u8, table_length: u64, line: u64) -> u64;
-    fn eremothyn_setting_value_length(table: *const u8, table_length: u64, line: u64) -> u64;
+    pub fn eremothyn_stdin_length(table: *const u8, table_length: u64, entry: u64) -> u64;
+    pub fn eremothyn_setting_name_offset(table: *const u8, table_length: u64, line: u64) -> u64;
+    pub fn eremothyn_setting_name_length(table: *const u8, table_length: u64, line: u64) -> u64;
+    pub fn eremothyn_setting_value_offset(table: *const u8, table_length: u64, line: u64) -> u64;
+    pub fn eremothyn_setting_value_length(table: *const u8, table_length: u64, line: u64) -> u64;
 }
 
 /// How many entries there are.
@@ -74,14 +74,16 @@ pub fn stdin_length(table: &[u8], entry: u64) -> Result<Option<u64>, u64> {
 
 /// Name offset, name length, value offset and value length of a line's setting.
 pub fn setting(table: &[u8], line: u64) -> [Answer; 4] {
-    [
-        eremothyn_setting_name_offset,
-        eremothyn_setting_name_length,
-        eremothyn_setting_value_offset,
-        eremothyn_setting_value_length,
-    ]
-    .map(|part| answer(unsafe { part(table.as_ptr(), length(table), line) }))
+    SETTING.map(|part| answer(unsafe { part(table.as_ptr(), length(table), line) }))
 }
+
+/// The four functions for a setting, in the same order.
+pub const SETTING: [unsafe extern "C" fn(*const u8, u64, u64) -> u64; 4] = [
+    eremothyn_setting_name_offset,
+    eremothyn_setting_name_length,
+    eremothyn_setting_value_offset,
+    eremothyn_setting_value_length,
+];
 
 /// Loses nothing: `Err(n)` stands for `REFUSED + n` and for no other answer.
 fn answer(raw: u64) -> Answer {
