@@ -7,7 +7,8 @@
  * A run of bytes is a pointer to them and their number; every other parameter and every answer is a uint64_t. Any values
  * and any bytes may be passed: what has no answer is refused. A refusal is EREMOTHYN_REFUSED plus its number; no other
  * answer is above EREMOTHYN_REFUSED. A refused call changes no byte. A table's bytes are never changed. Runs of bytes that
- * are lent to one call must not overlap. No call keeps a pointer, and calls on other bytes may run at the same time.
+ * are lent to one call must not overlap. A pointer may be NULL where its length is 0. No call keeps a pointer or takes memory
+ * from the heap; some 30 KB of stack are enough. Calls on other bytes may run at the same time.
  *
  *     uint64_t minute = eremothyn_minute_of_date(2000, 2, 29, 0, 0);
  *     if (EREMOTHYN_IS_REFUSED(minute))
