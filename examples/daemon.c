@@ -1,13 +1,18 @@
 /*
  * A daemon's life with a crontab, in fast motion: each minute is announced, and so many requests take the jobs that have
- * waited longest. A real daemon sleeps until the next minute and starts what this one shows.
+ * waited longest.
  *
  *     daemon FILE PACE FROM TO [FROM TO]...
  *
  * PACE is how many jobs may start in a minute. FROM and TO are dates such as 1970-01-01T00:00. With more than one pair the
- * clock jumps, and the line of waiting jobs goes on as it stands.
+ * clock jumps, and the queue of waiting jobs goes on as it stands.
+ *
+ * A real daemon has the minute from the clock, time(NULL) / 60, which is UTC; it sleeps until the next one, announces those
+ * that it slept through as well, in their order, and starts what this one only shows. When its crontab changes, it makes
+ * a new queue: the numbers in the old one mean other entries.
  */
 
+#include <errno.h>
 #include <inttypes.h>
 #include <stdbool.h>
 #include <stdint.h>
@@ -18,16 +23,19 @@
 #include "eremothyn.h"
 #include "table_file.h"
 
-enum { DONE = 0, REFUSED = 1, MISUSED = 2 };
+enum { DONE = 0, REFUSED = 1, FAILED = 2 };
 
-/* A crontab, and the line of its waiting jobs. */
+/* A crontab, and the queue of its waiting jobs. */
 struct site {
     struct table_file table;
-    uint8_t line[EREMOTHYN_ROOM(EREMOTHYN_MAX_ENTRIES)];
+    uint8_t queue[EREMOTHYN_ROOM(EREMOTHYN_MAX_ENTRIES)];
     uint64_t waiting;
 };
 
-/* An answer that isn't a refusal; a refusal ends the program. */
+/*
+ * An answer that isn't a refusal. None is expected here, since the table and the dates were checked before, and so one ends
+ * this program. A real daemon writes it to its log and goes on; for EREMOTHYN_NOT_A_QUEUE it makes a new queue.
+ */
 static uint64_t answered(const char *call, uint64_t answer)
 {
     if (EREMOTHYN_IS_REFUSED(answer)) {
@@ -47,19 +55,41 @@ static void print_date(uint64_t minute)
            answered("minute_of_hour", eremothyn_minute_of_hour(minute)));
 }
 
-/* A text between bars; what a terminal would not show as itself is written \xHH. */
+/* A text between bars: a newline as \n, a backslash as \\, and what a terminal would not show as itself as \xHH. */
 static void print_text(const uint8_t *text, uint64_t length)
 {
     putchar('|');
     for (uint64_t i = 0; i < length; i++) {
         if (text[i] == '\n')
             fputs("\\n", stdout);
+        else if (text[i] == '\\')
+            fputs("\\\\", stdout);
         else if (text[i] < ' ' || text[i] > '~')
             printf("\\x%02x", (unsigned)text[i]);
         else
             putchar(text[i]);
     }
-    puts("|");
+    putchar('|');
+}
+
+/* The settings of a table, by the numbers of its lines: a line that has none is refused, and that is no fault. */
+static void print_settings(const uint8_t *table, uint64_t length)
+{
+    uint64_t lines = 1;
+    for (uint64_t i = 0; i < length; i++)
+        lines += table[i] == '\n';
+    for (uint64_t line = 1; line <= lines; line++) {
+        uint64_t name = eremothyn_setting_name_offset(table, length, line);
+        if (name == EREMOTHYN_REFUSED + EREMOTHYN_NO_SETTING)
+            continue;
+        uint64_t value = answered("setting", eremothyn_setting_value_offset(table, length, line));
+        fputs("setting   ", stdout);
+        print_text(table + answered("setting", name),
+                   answered("setting", eremothyn_setting_name_length(table, length, line)));
+        fputs(" = ", stdout);
+        print_text(table + value, answered("setting", eremothyn_setting_value_length(table, length, line)));
+        putchar('\n');
+    }
 }
 
 /* When an entry fires next; that it fires at boot only, never or no more is an answer, too. */
@@ -92,17 +122,19 @@ static void start(const struct site *site, uint64_t entry, uint64_t minute)
     print_date(minute);
     printf("  start entry %2" PRIu64 "  ", entry);
     print_text(shell, shell_length);
+    putchar('\n');
     if (input_length != EREMOTHYN_NO_INPUT) {
         printf("%38s  ", "standard input");
         print_text(input, input_length);
+        putchar('\n');
     }
 }
 
-/* One minute: whoever is due joins the line, then whoever has waited longest is taken, as often as the pace allows. */
+/* One minute: whoever is due joins the queue, then whoever has waited longest is taken, as often as the pace allows. */
 static void live(struct site *site, uint64_t minute, uint64_t pace)
 {
-    uint64_t joined = answered("queue_tick", eremothyn_queue_tick(site->table.bytes, site->table.length, site->line,
-                                                                  sizeof site->line, minute));
+    uint64_t joined = answered("queue_tick", eremothyn_queue_tick(site->table.bytes, site->table.length, site->queue,
+                                                                  sizeof site->queue, minute));
     site->waiting += joined;
     if (joined != 0) {
         print_date(minute);
@@ -110,7 +142,7 @@ static void live(struct site *site, uint64_t minute, uint64_t pace)
     }
     for (uint64_t taken = 0; taken < pace; taken++) {
         uint64_t entry = answered(
-            "queue_pop", eremothyn_queue_pop(site->table.bytes, site->table.length, site->line, sizeof site->line));
+            "queue_pop", eremothyn_queue_pop(site->table.bytes, site->table.length, site->queue, sizeof site->queue));
         if (entry == EREMOTHYN_NOTHING_WAITS)
             return;
         site->waiting--;
@@ -118,10 +150,29 @@ static void live(struct site *site, uint64_t minute, uint64_t pace)
     }
 }
 
-static int usage(void)
+/* Reads the crontab, shows its settings and when its entries fire next, and makes the queue. */
+static int boot(struct site *site, const char *name, uint64_t first)
 {
-    fputs("usage: daemon FILE PACE FROM TO [FROM TO]..., dates as 1970-01-01T00:00\n", stderr);
-    return MISUSED;
+    if (!read_table(name, &site->table)) {
+        fprintf(stderr, "daemon: %s: %s\n", name, strerror(errno));
+        return FAILED;
+    }
+    const uint8_t *table = site->table.bytes;
+    uint64_t length = site->table.length;
+    uint64_t entries = eremothyn_check(table, length);
+    if (EREMOTHYN_IS_REFUSED(entries)) {
+        fprintf(stderr, "%s:%" PRIu64 ":%" PRIu64 ": refused %" PRIu64 ": %s\n", name, eremothyn_fault_line(table, length),
+                eremothyn_fault_column(table, length), EREMOTHYN_REFUSAL(entries),
+                eremothyn_words(EREMOTHYN_REFUSAL(entries)));
+        return REFUSED;
+    }
+    print_settings(table, length);
+    for (uint64_t entry = 0; entry < entries; entry++)
+        print_next(site, entry, first);
+    site->waiting = answered("queue_init", eremothyn_queue_init(table, length, site->queue, sizeof site->queue));
+    print_date(first);
+    printf("  boot, %" PRIu64 " wait\n", site->waiting);
+    return DONE;
 }
 
 /* Whether a text has digits where a form has 0, and elsewhere what the form has. */
@@ -145,53 +196,45 @@ static bool read_date(const char *text, uint64_t *minute)
     return true;
 }
 
+/* At most three digits: no table has more entries than 999. */
 static bool read_pace(const char *text, uint64_t *pace)
 {
-    char *rest;
-    *pace = strtoull(text, &rest, 10);
-    return *text >= '0' && *text <= '9' && *rest == '\0';
+    *pace = strtoull(text, NULL, 10);
+    return has_form(text, "0") || has_form(text, "00") || has_form(text, "000");
 }
 
-/* Reads the crontab, shows when its entries fire next, and makes the line. */
-static int boot(struct site *site, const char *name, uint64_t first)
+/* The minutes of a pair of dates, if the first isn't after the second. */
+static bool read_span(char **pair, uint64_t *first, uint64_t *last)
 {
-    if (!read_table(name, &site->table)) {
-        fprintf(stderr, "daemon: %s: %s\n", name, strerror(errno));
-        return MISUSED;
-    }
-    const uint8_t *table = site->table.bytes;
-    uint64_t length = site->table.length;
-    uint64_t entries = eremothyn_check(table, length);
-    if (EREMOTHYN_IS_REFUSED(entries)) {
-        fprintf(stderr, "%s:%" PRIu64 ":%" PRIu64 ": refused %" PRIu64 ": %s\n", name, eremothyn_fault_line(table, length),
-                eremothyn_fault_column(table, length), EREMOTHYN_REFUSAL(entries),
-                eremothyn_words(EREMOTHYN_REFUSAL(entries)));
-        return REFUSED;
-    }
-    for (uint64_t entry = 0; entry < entries; entry++)
-        print_next(site, entry, first);
-    site->waiting = answered("queue_init", eremothyn_queue_init(table, length, site->line, sizeof site->line));
-    print_date(first);
-    printf("  boot, %" PRIu64 " wait\n", site->waiting);
-    return DONE;
+    return read_date(pair[0], first) && read_date(pair[1], last) && *first <= *last;
+}
+
+static int usage(void)
+{
+    fputs("usage: daemon FILE PACE FROM TO [FROM TO]..., a PACE below 1000, dates as 1970-01-01T00:00, FROM not after TO\n",
+          stderr);
+    return FAILED;
 }
 
 int main(int argc, char **argv)
 {
     static struct site site;
-    uint64_t pace, first = 0, last = 0;
+    uint64_t pace, first, last;
     if (argc < 5 || argc % 2 == 0 || !read_pace(argv[2], &pace))
         return usage();
-    /* Backwards, so that the first date is read last. */
-    for (int i = argc - 1; i >= 3; i--)
-        if (!read_date(argv[i], &first))
+    for (int i = 3; i < argc; i += 2)
+        if (!read_span(argv + i, &first, &last))
             return usage();
+    read_date(argv[3], &first);
     int status = boot(&site, argv[1], first);
     for (int i = 3; status == DONE && i < argc; i += 2) {
-        read_date(argv[i], &first);
-        read_date(argv[i + 1], &last);
+        read_span(argv + i, &first, &last);
         for (uint64_t minute = first; minute <= last; minute++)
             live(&site, minute, pace);
     }
-    return fflush(stdout) == 0 ? status : MISUSED;
+    if (fflush(stdout) != 0 || ferror(stdout)) {
+        fputs("daemon: standard output can't be written\n", stderr);
+        return FAILED;
+    }
+    return status;
 }

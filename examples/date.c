@@ -99,12 +99,20 @@ int main(int argc, char **argv)
         if (!read_number(argv[i + 1], &numbers[i]))
             return usage();
 
+    int status;
     switch (count) {
     case 0:
-        return print_known();
+        status = print_known();
+        break;
     case 1:
-        return print_date(numbers[0]);
+        status = print_date(numbers[0]);
+        break;
     default:
-        return print_minute(numbers[0], numbers[1], numbers[2], numbers[3], numbers[4]);
+        status = print_minute(numbers[0], numbers[1], numbers[2], numbers[3], numbers[4]);
     }
+    if (fflush(stdout) != 0 || ferror(stdout)) {
+        fputs("date: standard output can't be written\n", stderr);
+        return MISUSED;
+    }
+    return status;
 }

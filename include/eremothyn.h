@@ -8,7 +8,7 @@
  * and any bytes may be passed: what has no answer is refused. A refusal is EREMOTHYN_REFUSED plus its number; no other
  * answer is above EREMOTHYN_REFUSED. A refused call changes no byte. A table's bytes are never changed. Runs of bytes that
  * are lent to one call must not overlap. A pointer may be NULL where its length is 0. No call keeps a pointer or takes memory
- * from the heap; some 30 KB of stack are enough. Calls on other bytes may run at the same time.
+ * from the heap; some 30 KB of stack are enough. Threads may share a table; a buffer or a room is lent to one call at a time.
  *
  *     uint64_t minute = eremothyn_minute_of_date(2000, 2, 29, 0, 0);
  *     if (EREMOTHYN_IS_REFUSED(minute))
@@ -23,6 +23,8 @@
 #ifdef __cplusplus
 extern "C" {
 #endif
+
+#define EREMOTHYN_VERSION "1.0.0"
 
 /* The last minute of the calendar, 9999-12-31 23:59. */
 #define EREMOTHYN_LAST_MINUTE UINT64_C(4223371679)
@@ -60,7 +62,7 @@ extern "C" {
 #define EREMOTHYN_BAD_SETTING UINT64_C(11)      /* setting not of the form; the first non-blank byte */
 #define EREMOTHYN_TOO_MANY_ENTRIES UINT64_C(12) /* the 129th entry; column 1 */
 
-/* Refusals of one entry, one minute, one setting and one line of waiting jobs. */
+/* Refusals of one entry, one minute, one setting and one queue of waiting jobs. */
 #define EREMOTHYN_NO_SUCH_ENTRY UINT64_C(13)   /* no entry of that number */
 #define EREMOTHYN_NOT_ON_CALENDAR UINT64_C(14) /* the minute or the date is not on the calendar */
 #define EREMOTHYN_AT_BOOT_ONLY UINT64_C(15)    /* next firing of an @reboot entry */
@@ -68,7 +70,7 @@ extern "C" {
 #define EREMOTHYN_PAST_THE_END UINT64_C(17)    /* would fire, but not before the calendar ends */
 #define EREMOTHYN_TOO_SHORT UINT64_C(18)       /* a lent buffer is too short for the text */
 #define EREMOTHYN_NO_SETTING UINT64_C(19)      /* the line asked for is no setting, or isn't there */
-#define EREMOTHYN_NOT_A_QUEUE UINT64_C(28)     /* not a waiting line of this table, or not room for all its entries */
+#define EREMOTHYN_NOT_A_QUEUE UINT64_C(28)     /* not a queue of this table's entries, or not room for all of them */
 
 /* A refusal in plain words, for a message; the one place that has them. */
 static inline const char *eremothyn_words(uint64_t refusal)
@@ -90,13 +92,13 @@ static inline const char *eremothyn_words(uint64_t refusal)
     case EREMOTHYN_BAD_SETTING: return "neither an entry nor a setting, which is name=value";
     case EREMOTHYN_TOO_MANY_ENTRIES: return "more than 128 entries";
     case EREMOTHYN_NO_SUCH_ENTRY: return "the table has no entry of this number";
-    case EREMOTHYN_NOT_ON_CALENDAR: return "not on the calendar, 1970-01-01 00:00 to 9999-12-31 23:59";
+    case EREMOTHYN_NOT_ON_CALENDAR: return "no such minute or date from 1970-01-01 00:00 to 9999-12-31 23:59";
     case EREMOTHYN_AT_BOOT_ONLY: return "fires at boot only";
     case EREMOTHYN_NEVER: return "never fires";
     case EREMOTHYN_PAST_THE_END: return "fires no more before the year 10000";
     case EREMOTHYN_TOO_SHORT: return "a buffer is too short for the text";
     case EREMOTHYN_NO_SETTING: return "no setting on this line";
-    case EREMOTHYN_NOT_A_QUEUE: return "not a waiting line of this table, or room for too few entries";
+    case EREMOTHYN_NOT_A_QUEUE: return "not a queue of this table's entries, or room for too few of them";
     default: return "no refusal has this number";
     }
 }
@@ -131,8 +133,9 @@ uint64_t eremothyn_minute_of_hour(uint64_t minute);
 uint64_t eremothyn_weekday(uint64_t minute);
 
 /*
- * Tables. A table is the bytes of a crontab; its entries have the numbers 0, 1 and on, in file order. Every call reads the
- * table anew and refuses it as eremothyn_check does, before anything else.
+ * Tables. A table is the bytes of a crontab; its entries have the numbers 0, 1 and on, in file order. Every call that takes
+ * one reads it anew, and all but the two that say where a fault is refuse a bad one as eremothyn_check does, before anything
+ * else.
  */
 
 /* How many entries the table has. */
@@ -170,8 +173,9 @@ uint64_t eremothyn_split_command(const uint8_t *table, uint64_t table_length, ui
 uint64_t eremothyn_stdin_length(const uint8_t *table, uint64_t table_length, uint64_t entry);
 
 /*
- * The name and the value of the setting on a line, as parts of the table: where each starts, counted from 0, and its
- * length, without quotes. Refused with EREMOTHYN_NO_SETTING if the line is none, or isn't there.
+ * The name and the value of the setting on a line, counted from 1, as parts of the table: where each starts, counted from 0,
+ * and its length, without quotes. Refused with EREMOTHYN_NO_SETTING if the line is none, or isn't there: a table has no more
+ * lines than newlines and one.
  */
 uint64_t eremothyn_setting_name_offset(const uint8_t *table, uint64_t table_length, uint64_t line);
 uint64_t eremothyn_setting_name_length(const uint8_t *table, uint64_t table_length, uint64_t line);
@@ -179,27 +183,28 @@ uint64_t eremothyn_setting_value_offset(const uint8_t *table, uint64_t table_len
 uint64_t eremothyn_setting_value_length(const uint8_t *table, uint64_t table_length, uint64_t line);
 
 /*
- * The run queue: the line of a table's waiting jobs, kept in a room of bytes that the caller lends. An entry stands in the
- * line at most once, and whoever has stood longest goes next. EREMOTHYN_ROOM(entries) bytes are always room enough; what
- * they hold is the library's. Each is refused with EREMOTHYN_NOT_A_QUEUE for room that can't hold all of the table's
- * entries.
+ * The run queue: a table's waiting jobs, in a room of bytes that the caller lends. An entry stands in the
+ * queue at most once, and whoever has stood longest goes next. EREMOTHYN_ROOM(entries) bytes are always room enough; what
+ * they hold is the library's. Each call is refused with EREMOTHYN_NOT_A_QUEUE for room that can't hold all of the table's
+ * entries. A queue keeps the numbers of entries: one that another table left is taken if its numbers fit, so make a fresh
+ * one when the table changes.
  */
 #define EREMOTHYN_ROOM(entries) (8 * (entries) + 64)
 
-/* Makes a fresh line, whatever the room held: the @reboot entries in file order. Answers how many wait. */
+/* Makes a fresh queue, whatever the room held: the @reboot entries in file order. Answers how many wait. */
 uint64_t eremothyn_queue_init(const uint8_t *table, uint64_t table_length, uint8_t *room, uint64_t room_length);
 
 /*
  * Announces a minute: each time-based entry that matches it and isn't waiting joins at the back, in file order. Answers
- * how many joined. Refused with EREMOTHYN_NOT_A_QUEUE for bytes that are no line of this table, then
- * EREMOTHYN_NOT_ON_CALENDAR. Minutes may repeat or go back.
+ * how many joined. Refused with EREMOTHYN_NOT_A_QUEUE for bytes that name an entry which the table doesn't have, or one
+ * twice, then EREMOTHYN_NOT_ON_CALENDAR. Minutes may repeat or go back.
  */
 uint64_t eremothyn_queue_tick(const uint8_t *table, uint64_t table_length, uint8_t *room, uint64_t room_length,
                               uint64_t minute);
 
 /*
  * Requests the next job: removes the front entry and answers its number, or EREMOTHYN_NOTHING_WAITS. Refused with
- * EREMOTHYN_NOT_A_QUEUE for bytes that are no line of this table.
+ * EREMOTHYN_NOT_A_QUEUE as eremothyn_queue_tick is.
  */
 uint64_t eremothyn_queue_pop(const uint8_t *table, uint64_t table_length, uint8_t *room, uint64_t room_length);
 

@@ -7,6 +7,7 @@
  * There are no options, so that every argument is a file's name.
  */
 
+#include <errno.h>
 #include <inttypes.h>
 #include <stdio.h>
 #include <string.h>
@@ -22,20 +23,26 @@ static int fail(const char *what)
     return FAILED;
 }
 
+/* The status for what printf answered. */
+static int written(int count, int status)
+{
+    return count < 0 || fflush(stdout) != 0 ? fail("standard output") : status;
+}
+
 static int check(const char *name)
 {
     static struct table_file table;
     if (!read_table(name, &table))
         return fail(name);
     uint64_t entries = eremothyn_check(table.bytes, table.length);
-    if (!EREMOTHYN_IS_REFUSED(entries)) {
-        printf("%s: %" PRIu64 " entries\n", name, entries);
-        return TAKEN;
-    }
-    printf("%s:%" PRIu64 ":%" PRIu64 ": refused %" PRIu64 ": %s\n", name, eremothyn_fault_line(table.bytes, table.length),
-           eremothyn_fault_column(table.bytes, table.length), EREMOTHYN_REFUSAL(entries),
-           eremothyn_words(EREMOTHYN_REFUSAL(entries)));
-    return REFUSED;
+    if (!EREMOTHYN_IS_REFUSED(entries))
+        return written(printf("%s: %" PRIu64 " entries\n", name, entries), TAKEN);
+    uint64_t line = eremothyn_fault_line(table.bytes, table.length);
+    uint64_t column = eremothyn_fault_column(table.bytes, table.length);
+    uint64_t refusal = EREMOTHYN_REFUSAL(entries);
+    return written(printf("%s:%" PRIu64 ":%" PRIu64 ": refused %" PRIu64 ": %s\n", name, line, column, refusal,
+                          eremothyn_words(refusal)),
+                   REFUSED);
 }
 
 int main(int argc, char **argv)
@@ -50,7 +57,5 @@ int main(int argc, char **argv)
         if (worst < status)
             worst = status;
     }
-    if (fflush(stdout) != 0 || ferror(stdout))
-        return fail("standard output");
     return worst;
 }

@@ -51,7 +51,7 @@ pub fn build(source: &str, folder: &Path) -> PathBuf {
         "-std=c99",
         &[
             "-Iinclude",
-            "-Iprograms",
+            "-Iexamples",
             "-o",
             word(&program),
             source,

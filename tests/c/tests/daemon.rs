@@ -4,7 +4,7 @@ use c::{build, root, run, scratch, told, word};
 use second::calendar::{date_of, minute_of};
 use second::command::split;
 use second::queue::Queue;
-use second::table::{calls::Calls, read};
+use second::table::{calls::Calls, read, Part};
 use std::fmt::Write;
 use std::fs;
 
@@ -24,6 +24,11 @@ fn log(bytes: &[u8], pace: u64, spans: &[(u64, u64)]) -> String {
     let mut queue = Queue::fresh(&table);
     let mut log = String::new();
     let first = spans[0].0;
+    let text = |part: Part| shown(&bytes[part.offset..part.offset + part.length]);
+    for (_, setting) in &table.settings {
+        let (name, value) = (text(setting.name), text(setting.value));
+        writeln!(log, "setting   |{name}| = |{value}|").expect("a string");
+    }
     for entry in 0..table.entries.len() as u64 {
         let next = match calls.next(entry, first) {
             Ok(minute) => format!("next {}", date(minute)),
@@ -70,6 +75,7 @@ fn log(bytes: &[u8], pace: u64, spans: &[(u64, u64)]) -> String {
 fn shown(text: &[u8]) -> String {
     let byte = |&byte: &u8| match byte {
         b'\n' => "\\n".to_string(),
+        b'\\' => "\\\\".to_string(),
         b' '..=b'~' => (byte as char).to_string(),
         _ => format!("\\x{byte:02x}"),
     };
@@ -91,18 +97,18 @@ fn the_log_is_the_second_programs() {
     let tables: [&[u8]; 4] = [
         &observatory,
         b"* * * * * a\n@reboot b\n0 * * * * c\n",
-        b"0 0 30 2 * never\n0 0 1 1 * last\n* * * * * tab\there%\xff%\n",
+        b"a = \n0 0 30 2 * never\n'b c'=\"d\" \n0 0 1 1 * last\n* * * * * tab\there\\n%\xff%\n",
         b"",
     ];
     let spans: [&[(u64, u64)]; 4] = [
         &[(0, 20), (evening, evening + 60)],
         &[(59, 61)],
         &[(4_223_371_600, 4_223_371_679)],
-        &[(evening, evening), (0, 0), (5, 4)],
+        &[(evening, evening), (0, 0), (5, 5)],
     ];
     for table in tables {
         for spans in spans {
-            for pace in [0, 1, 3, 200] {
+            for pace in [0, 1, 3, 999] {
                 let path = folder.join("table");
                 fs::write(&path, table).expect("the table is written");
                 let mut arguments = vec![word(&path).to_string(), pace.to_string()];
@@ -148,7 +154,7 @@ fn refusals_and_wrong_arguments_are_said() {
     fs::write(&path, "# one\n0 0 * * mon,fri b\n").expect("the table is written");
     let bad = word(&path);
     let fault = format!("{bad}:2:9: refused 5: ");
-    let rows: [(&[&str], i32, &str); 7] = [
+    let rows: [(&[&str], i32, &str); 9] = [
         (
             &[bad, "1", "1970-01-01T00:00", "1970-01-01T00:00"],
             1,
@@ -175,6 +181,16 @@ fn refusals_and_wrong_arguments_are_said() {
             "usage: ",
         ),
         (&[bad, "1", "1970-01-01T00:00"], 2, "usage: "),
+        (
+            &[bad, "1000", "1970-01-01T00:00", "1970-01-01T00:00"],
+            2,
+            "usage: ",
+        ),
+        (
+            &[bad, "1", "1970-01-01T00:01", "1970-01-01T00:00"],
+            2,
+            "usage: ",
+        ),
         (&[], 2, "usage: "),
     ];
     for (arguments, status, start) in rows {

@@ -29,6 +29,15 @@ fn make_example_prints_what_is_shown() {
     assert!(shown().contains(&text), "the README doesn't show:\n{text}");
 }
 
+#[test]
+fn crontab_check_prints_what_is_shown() {
+    run("make", &["all"]);
+    let files = ["examples/observatory.crontab", "examples/broken.crontab"];
+    let (text, status) = told(&run(root().join("target/c/crontab_check"), &files));
+    assert_eq!(status, Some(1));
+    assert!(shown().contains(&text), "the README doesn't show:\n{text}");
+}
+
 /// Every word of the code, the definitions and the proofs in a folder, and the names of the edits.
 fn words(folder: &Path, found: &mut HashSet<String>) {
     for entry in fs::read_dir(folder).expect("a folder") {

@@ -39,6 +39,20 @@ fn flags(folder: &Path, question: &[&str]) -> Vec<String> {
     text.split_whitespace().map(str::to_string).collect()
 }
 
+/// Compiles a program with what pkg-config says of the tree below a folder.
+fn compile_installed(folder: &Path, compiler: &str, standard: &str, source: &str, program: &Path) {
+    let cflags = flags(folder, &["--cflags"]);
+    let libs = flags(folder, &["--libs"]);
+    let output = [
+        "-o".to_string(),
+        word(program).to_string(),
+        source.to_string(),
+    ];
+    let arguments = [&cflags[..], &output, &libs].concat();
+    let arguments: Vec<&str> = arguments.iter().map(String::as_str).collect();
+    compile(compiler, standard, &arguments);
+}
+
 /// The C program that the README shows first.
 fn readme_program() -> String {
     let readme = fs::read_to_string(root().join("README.md")).expect("the README");
@@ -51,8 +65,6 @@ fn readme_program() -> String {
 fn a_c_and_a_cpp_program_compile_against_the_installed_tree() {
     let folder = scratch("install-programs");
     install(&folder);
-    let cflags = flags(&folder, &["--cflags"]);
-    let libs = flags(&folder, &["--libs"]);
     for (compiler, standard, source) in [
         ("cc", "-std=c99", "first.c"),
         ("c++", "-std=c++17", "first.cpp"),
@@ -60,14 +72,23 @@ fn a_c_and_a_cpp_program_compile_against_the_installed_tree() {
         let path = folder.join(source);
         fs::write(&path, readme_program()).expect("the program is written");
         let program = folder.join("first");
-        let mut arguments: Vec<&str> = cflags.iter().map(String::as_str).collect();
-        arguments.extend(["-o", word(&program), word(&path)]);
-        arguments.extend(libs.iter().map(String::as_str));
-        compile(compiler, standard, &arguments);
+        compile_installed(&folder, compiler, standard, word(&path), &program);
         assert_eq!(
             told(&run::<&str>(&program, &[])),
             ("fires next at minute 5\n".to_string(), Some(0))
         );
+    }
+}
+
+/// What stands in the installed examples is all that one needs to build them.
+#[test]
+fn the_installed_examples_build() {
+    let folder = scratch("install-examples");
+    install(&folder);
+    let examples = format!("{}{PREFIX}/share/doc/eremothyn/examples", word(&folder));
+    for name in ["daemon", "date"] {
+        let source = format!("{examples}/{name}.c");
+        compile_installed(&folder, "cc", "-std=c99", &source, &folder.join(name));
     }
 }
 
@@ -83,9 +104,9 @@ fn the_installed_checker_runs_and_the_version_is_told() {
             Some(0)
         )
     );
-    let makefile = fs::read_to_string(root().join("Makefile")).expect("the Makefile");
+    let header = fs::read_to_string(root().join("include/eremothyn.h")).expect("the header");
     let version = flags(&folder, &["--modversion"]);
-    assert!(makefile.contains(&format!("VERSION = {}\n", version[0])));
+    assert!(header.contains(&format!("EREMOTHYN_VERSION \"{}\"\n", version[0])));
 }
 
 /// Every function, refusal and limit of the header is in the manual, and `man FUNCTION` finds the page.
@@ -132,7 +153,7 @@ fn the_manual_has_all_of_the_header() {
 
 #[test]
 fn uninstall_leaves_nothing() {
-    let folder = scratch("install-removed");
+    let folder = scratch("install removed");
     install(&folder);
     let below = format!("DESTDIR={}", word(&folder));
     make(&["uninstall", &below, &format!("PREFIX={PREFIX}")]);

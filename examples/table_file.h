@@ -25,7 +25,7 @@ static inline bool read_table(const char *name, struct table_file *table)
     errno = 0;
     table->length = fread(table->bytes, 1, sizeof table->bytes, file);
     bool whole = !ferror(file);
-    int why = errno;
+    int why = errno != 0 ? errno : EIO;
     fclose(file);
     errno = why;
     return whole;
