@@ -3,23 +3,23 @@
 use c::{compile, root, run, scratch, told, word};
 use std::fs;
 use std::path::Path;
-use std::sync::Once;
+use std::sync::{Mutex, PoisonError};
 
 const PREFIX: &str = "/opt/engine";
 
-static BUILT: Once = Once::new();
+/// Tests run side by side, and what `make` builds in between is one tree.
+static MAKING: Mutex<()> = Mutex::new(());
 
-/// `make` at the root.
-fn make(arguments: &[&str]) {
-    let output = run("make", arguments);
+/// `make` at the root, for a tree below a folder.
+fn make(target: &str, folder: &Path) {
+    let _alone = MAKING.lock().unwrap_or_else(PoisonError::into_inner);
+    let below = format!("DESTDIR={}", word(folder));
+    let output = run("make", &[target, &below, &format!("PREFIX={PREFIX}")]);
     assert!(output.status.success(), "{output:?}");
 }
 
-/// `make install` below a folder. What it installs is built only once, however many tests run side by side.
 fn install(folder: &Path) {
-    BUILT.call_once(|| make(&["all"]));
-    let below = format!("DESTDIR={}", word(folder));
-    make(&["install", &below, &format!("PREFIX={PREFIX}")]);
+    make("install", folder);
 }
 
 /// What pkg-config answers for the tree below a folder.
@@ -155,8 +155,7 @@ fn the_manual_has_all_of_the_header() {
 fn uninstall_leaves_nothing() {
     let folder = scratch("install removed");
     install(&folder);
-    let below = format!("DESTDIR={}", word(&folder));
-    make(&["uninstall", &below, &format!("PREFIX={PREFIX}")]);
+    make("uninstall", &folder);
     let left = run("find", &[word(&folder), "-type", "f"]);
     assert_eq!(told(&left), (String::new(), Some(0)));
 }
