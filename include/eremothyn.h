@@ -81,7 +81,7 @@ static inline const char *eremothyn_words(uint64_t refusal)
     case EREMOTHYN_NUL_BYTE: return "the line has a byte 0";
     case EREMOTHYN_TOO_FEW_FIELDS: return "fewer than five time fields";
     case EREMOTHYN_FIELD_MALFORMED:
-        return "not a time field: *, */step, or a list of n, n-m and n-m/step; the name of a month or weekday stands alone";
+        return "not a time field: *, */step, or a list of n, n-m and n-m/step, with names for months and weekdays";
     case EREMOTHYN_OUT_OF_LIMITS:
         return "a number outside its limits: minute 0-59, hour 0-23, day 1-31, month 1-12, weekday 0-7";
     case EREMOTHYN_RANGE_REVERSED: return "a range from high to low";

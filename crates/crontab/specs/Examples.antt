@@ -2,16 +2,18 @@
 -- Assumes nothing.
 use Prim.Native.Nat.{ℕ}
 use mathlib.Core.Path.{_≡_, refl}
+use mathlib.Core.Bool.{true, false}
 use mathlib.Core.List.{List, [], _∷_}
 use Rattle.crontab.specs.declared.When.the-variants.{Reboot, Timed}
 use Rattle.crontab.specs.declared.line.Line.the-variants.{Ignored, Setting, Entry, Refused}
+use Rattle.schedule.specs.declared.Schedule.{Schedule}
 use Rattle.field.specs.Parts.{until, has, before, after, afterEach, split}
 use Rattle.field.specs.Numbers.{isDigit, areDigits, valueFrom, numberOf}
-use Rattle.field.specs.Elements.{isElement, ranging, afterDash, elementOf}
-use Rattle.field.specs.Names.{lower, alike, named, monthNames, weekdayNames, nameOf}
+use Rattle.field.specs.Elements.{isElement, ranging, numberOr, endOf, upperOf, afterDash, elementOf}
+use Rattle.field.specs.Names.{lower, alike, named, monthNames, weekdayNames, nameOf, isSunday}
 use Rattle.field.specs.Values.{everyStep, valuesOf, bitOf, including}
 use Rattle.field.specs.Judgement.{outside, judged}
-use Rattle.field.specs.Fields.{areElements, judgedAll, nameElement, listField, starElement, isEmpty, starField, readField}
+use Rattle.field.specs.Fields.{areElements, judgedAll, listField, starElement, isEmpty, starField, readField}
 use Rattle.schedule.specs.Sets.{withBit, put}
 use Rattle.crontab.specs.Bytes.{isBlank, isQuote, ofClass, run, skipped, trimmed, between}
 use Rattle.crontab.specs.Assignments.{quotedAt, nonEmpty, nameAt, closed, valueAt, afterEquals, afterName, settingLine}
@@ -25,11 +27,18 @@ use Rattle.crontab.specs.Tables.{noEntries, refusedTable, emptyTable, wi
 fault : List ℕ → List ℕ
 fault s = let t = tableOf s in t .refusal ∷ t .line ∷ t .column ∷ t .count ∷ []
 
+-- `0 0 * * mon-fri`
+weekdays5 : Schedule
+weekdays5 =
+    record { minutes = 1; hours = 1; days = 4294967294; months = 8190; weekdays = 62; restricted = record { days = false; weekdays = true } }
+
 examples :
     -- `60 0 * * * x`: 6 at the first field
     (readLine (54 ∷ 48 ∷ 32 ∷ 48 ∷ 32 ∷ 42 ∷ 32 ∷ 42 ∷ 32 ∷ 42 ∷ 32 ∷ 120 ∷ []) ≡ Refused (record { number = 6; column = 1 }))
-    -- `0 0 * * mon-fri x`: 5 at the fifth
-    × (readLine (48 ∷ 32 ∷ 48 ∷ 32 ∷ 42 ∷ 32 ∷ 42 ∷ 32 ∷ 109 ∷ 111 ∷ 110 ∷ 45 ∷ 102 ∷ 114 ∷ 105 ∷ 32 ∷ 120 ∷ []) ≡ Refused (record { number = 5; column = 9 }))
+    -- `0 0 * * mon-fri x`: Monday to Friday; `0 0 * * fri-mon x`: 7, and `0 0 * * jan x`: 5, at the fifth field
+    × (readLine (48 ∷ 32 ∷ 48 ∷ 32 ∷ 42 ∷ 32 ∷ 42 ∷ 32 ∷ 109 ∷ 111 ∷ 110 ∷ 45 ∷ 102 ∷ 114 ∷ 105 ∷ 32 ∷ 120 ∷ []) ≡ Entry (record { when = Timed weekdays5; start = 16; end = 17 }))
+    × (readLine (48 ∷ 32 ∷ 48 ∷ 32 ∷ 42 ∷ 32 ∷ 42 ∷ 32 ∷ 102 ∷ 114 ∷ 105 ∷ 45 ∷ 109 ∷ 111 ∷ 110 ∷ 32 ∷ 120 ∷ []) ≡ Refused (record { number = 7; column = 9 }))
+    × (readLine (48 ∷ 32 ∷ 48 ∷ 32 ∷ 42 ∷ 32 ∷ 42 ∷ 32 ∷ 106 ∷ 97 ∷ 110 ∷ 32 ∷ 120 ∷ []) ≡ Refused (record { number = 5; column = 9 }))
     -- `0 0 * * * ` without a command: 9 after the last byte
     × (readLine (48 ∷ 32 ∷ 48 ∷ 32 ∷ 42 ∷ 32 ∷ 42 ∷ 32 ∷ 42 ∷ 32 ∷ []) ≡ Refused (record { number = 9; column = 11 }))
     -- `5 5`: 4 after the last byte, but a bad field before it comes first
@@ -81,5 +90,5 @@ examples :
     × (fault (42 ∷ 32 ∷ 42 ∷ 32 ∷ 42 ∷ 32 ∷ 42 ∷ 32 ∷ 42 ∷ 32 ∷ 97 ∷ 10 ∷ 64 ∷ 114 ∷ 101 ∷ 98 ∷ 111 ∷ 111 ∷ 116 ∷ 32 ∷ 98 ∷ 10 ∷ 48 ∷ 32 ∷ 42 ∷ 32 ∷ 42 ∷ 32 ∷ 42 ∷ 32 ∷ 42 ∷ 32 ∷ 99 ∷ []) ≡ 0 ∷ 0 ∷ 0 ∷ 3 ∷ [])
     -- the first bad line, and no entry
     × (fault (64 ∷ 114 ∷ 101 ∷ 98 ∷ 111 ∷ 111 ∷ 116 ∷ 32 ∷ 98 ∷ 10 ∷ 10 ∷ 54 ∷ 48 ∷ 32 ∷ 42 ∷ 32 ∷ 42 ∷ 32 ∷ 42 ∷ 32 ∷ 42 ∷ 32 ∷ 97 ∷ 10 ∷ 65 ∷ 10 ∷ []) ≡ 6 ∷ 3 ∷ 1 ∷ 0 ∷ [])
-unfolding until has before after afterEach split isDigit areDigits valueFrom numberOf isElement ranging afterDash elementOf lower alike named monthNames weekdayNames nameOf everyStep valuesOf bitOf put including outside judged areElements judgedAll nameElement listField starElement isEmpty starField readField withBit isBlank isQuote ofClass run skipped trimmed between quotedAt nonEmpty nameAt closed valueAt afterEquals afterName settingLine same meanings meaningIn wordOf withCommand afterWord wordEntry answered fieldAt afterWeekday afterMonth afterDay afterHour afterMinute timedEntry startsFields contentFrom contentOf readLine onto linesOf noEntries refusedTable emptyTable withEntry afterLine withLines tableOf fault
-examples = (refl, refl, refl, refl, refl, refl, refl, refl, refl, refl, refl, refl, refl, refl, refl, refl, refl, refl, refl, refl, refl, refl, refl, refl, refl, refl, refl, refl, refl, refl, refl, refl, refl, refl, refl)
+unfolding weekdays5 until has before after afterEach split isDigit areDigits valueFrom numberOf isElement ranging numberOr endOf upperOf afterDash elementOf lower alike named monthNames weekdayNames nameOf isSunday everyStep valuesOf bitOf put including outside judged areElements judgedAll listField starElement isEmpty starField readField withBit isBlank isQuote ofClass run skipped trimmed between quotedAt nonEmpty nameAt closed valueAt afterEquals afterName settingLine same meanings meaningIn wordOf withCommand afterWord wordEntry answered fieldAt afterWeekday afterMonth afterDay afterHour afterMinute timedEntry startsFields contentFrom contentOf readLine onto linesOf noEntries refusedTable emptyTable withEntry afterLine withLines tableOf fault
+examples = (refl, refl, refl, refl, refl, refl, refl, refl, refl, refl, refl, refl, refl, refl, refl, refl, refl, refl, refl, refl, refl, refl, refl, refl, refl, refl, refl, refl, refl, refl, refl, refl, refl, refl, refl, refl, refl)

@@ -13,11 +13,11 @@ use Rattle.schedule.specs.Examples.{leapDay, fridays, february30, mondays30, la
 use Rattle.schedule.proofs.KnownDays as firings
 use Rattle.field.specs.Parts.{until, has, before, after, afterEach, split}
 use Rattle.field.specs.Numbers.{isDigit, areDigits, valueFrom, numberOf}
-use Rattle.field.specs.Elements.{isElement, ranging, afterDash, elementOf}
-use Rattle.field.specs.Names.{lower, alike, named, monthNames, weekdayNames, nameOf}
+use Rattle.field.specs.Elements.{isElement, ranging, numberOr, endOf, upperOf, afterDash, elementOf}
+use Rattle.field.specs.Names.{lower, alike, named, monthNames, weekdayNames, nameOf, isSunday}
 use Rattle.field.specs.Values.{everyStep, valuesOf, bitOf, including}
 use Rattle.field.specs.Judgement.{outside, judged}
-use Rattle.field.specs.Fields.{areElements, judgedAll, nameElement, listField, starElement, isEmpty, starField, readField}
+use Rattle.field.specs.Fields.{areElements, judgedAll, listField, starElement, isEmpty, starField, readField}
 use Rattle.crontab.specs.declared.When.the-variants.{Timed}
 use Rattle.crontab.specs.declared.EntryAnswer.the-variants.{Found}
 use Rattle.crontab.specs.Bytes.{isBlank, isQuote, ofClass, run, skipped, trimmed, between}
@@ -49,17 +49,17 @@ entries :
 unfolding leapDay fridays february30 mondays30 lastDay isBlank isQuote ofClass run skipped trimmed between withCommand answered
     fieldAt afterWeekday afterMonth afterDay afterHour afterMinute timedEntry startsFields contentFrom contentOf readLine onto
     linesOf noEntries refusedTable emptyTable withEntry afterLine withLines tableOf entryIn entryOf until has before after
-    afterEach split isDigit areDigits valueFrom numberOf isElement ranging afterDash elementOf lower alike named monthNames
-    weekdayNames nameOf everyStep valuesOf bitOf put including outside judged areElements judgedAll nameElement listField
-    starElement isEmpty starField readField withBit
+    afterEach split isDigit areDigits valueFrom numberOf isElement ranging numberOr endOf upperOf afterDash elementOf lower
+    alike named monthNames weekdayNames nameOf isSunday everyStep valuesOf bitOf put including outside judged areElements
+    judgedAll listField starElement isEmpty starField readField withBit
 entries = (refl, refl, refl, refl, refl)
 
 pub known-days : KnownDays
 unfolding nextFound dateOf dateAt yearOf monthOf weekdayOf walk yearDays leap monthDays monthLength monthTable noDate minuteOf
     minuteAt daysBefore exists span until has before after afterEach split isDigit areDigits valueFrom numberOf isElement
-    ranging afterDash elementOf lower alike named monthNames weekdayNames nameOf everyStep valuesOf bitOf put including outside
-    judged areElements judgedAll nameElement listField starElement isEmpty starField readField withBit alone paired pieces
-    byteOf bytesOf upToPercent restOf shellLine inputOf
+    ranging numberOr endOf upperOf afterDash elementOf lower alike named monthNames weekdayNames nameOf isSunday everyStep
+    valuesOf bitOf put including outside judged areElements judgedAll listField starElement isEmpty starField readField withBit
+    alone paired pieces byteOf bytesOf upToPercent restOf shellLine inputOf
 known-days = (
   refl,
   refl,

@@ -19,7 +19,7 @@ use Rattle.field.specs.Parts.{split}
 use Rattle.field.specs.Elements.{elementOf}
 use Rattle.field.specs.Values.{valuesOf, including}
 use Rattle.field.specs.Judgement.{outside, judged}
-use Rattle.field.specs.Fields.{areElements, judgedAll, nameElement, listField, starElement, isEmpty, starField, readField}
+use Rattle.field.specs.Fields.{areElements, judgedAll, listField, starElement, isEmpty, starField, readField}
 use Rattle.field.specs.Members.{isStar, elementsOf}
 
 pub record Accepted (l : Limits) (low high step : ℕ) : Type 0 where
@@ -94,19 +94,19 @@ module _ (l : Limits) where
 
   all-values : (column : ℕ) (ps : List (List ℕ)) (set : ℕ) (star : Bool) {set' : ℕ} {star' : Bool}
       → judgedAll l column (Values set star) ps ≡ Values set' star'
-      → Gathered l set star (map elementOf ps) set' star'
+      → Gathered l set star (map (elementOf (l .names)) ps) set' star'
   unfolding judgedAll
   all-values column [] set star q = record { accepted = tt; sets = cc; flag = cc }
   all-values column (p ∷ ps) set star {set'} {star'} q =
-      go (judged l column (Values set star) (elementOf p)) refl q (λ s t k. all-values (column + length p + 1) ps s t k)
+      go (judged l column (Values set star) (elementOf (l .names) p)) refl q (λ s t k. all-values (column + length p + 1) ps s t k)
     where
-      go : (a : Answer) → judged l column (Values set star) (elementOf p) ≡ a → judgedAll l (column + length p + 1) a ps ≡ Values set' star'
-          → ((s : ℕ) (t : Bool) → judgedAll l (column + length p + 1) (Values s t) ps ≡ Values set' star' → Gathered l s t (map elementOf ps) set' star')
-          → Gathered l set star (elementOf p ∷ map elementOf ps) set' star'
+      go : (a : Answer) → judged l column (Values set star) (elementOf (l .names) p) ≡ a → judgedAll l (column + length p + 1) a ps ≡ Values set' star'
+          → ((s : ℕ) (t : Bool) → judgedAll l (column + length p + 1) (Values s t) ps ≡ Values set' star' → Gathered l s t (map (elementOf (l .names)) ps) set' star')
+          → Gathered l set star (elementOf (l .names) p ∷ map (elementOf (l .names)) ps) set' star'
       go (Refused number at) e q later =
           absurd (clash (sym (all-refused _ ps number at) ∙ q))
       go (Values s t) e q later =
-          let g = judged-values column set star (elementOf p) e in
+          let g = judged-values column set star (elementOf (l .names) p) e in
           let h = later s t q in
           record { accepted = (g .accepted .0, h .accepted); sets = h .sets ∙ rw (g .sets); flag = h .flag ∙ g .flag }
 
@@ -115,12 +115,12 @@ module _ (l : Limits) where
       → Gathered l 0 (isStar s) (elementsOf l s) set star
   unfolding readField elementsOf isStar starField listField
   read-values column [] q = absurd (clash q)
-  read-values column (b ∷ s) {set} {star} q = go (eqb b 42) (areElements (split 44 (b ∷ s))) q
+  read-values column (b ∷ s) {set} {star} q = go (eqb b 42) (areElements (l .names) (split 44 (b ∷ s))) q
     where
       go : (t u : Bool)
-          → cond t (judged l column (Values 0 (isEmpty s)) (starElement l s)) (cond u (judgedAll l column (Values 0 false) (split 44 (b ∷ s))) (judged l column (Values 0 false) (nameElement l (b ∷ s))))
+          → cond t (judged l column (Values 0 (isEmpty s)) (starElement l s)) (cond u (judgedAll l column (Values 0 false) (split 44 (b ∷ s))) (Refused 5 column))
           ≡ Values set star
-          → Gathered l 0 (t && isEmpty s) (cond t (starElement l s ∷ []) (cond u (map elementOf (split 44 (b ∷ s))) (nameElement l (b ∷ s) ∷ []))) set star
+          → Gathered l 0 (t && isEmpty s) (cond t (starElement l s ∷ []) (map (elementOf (l .names)) (split 44 (b ∷ s)))) set star
       go true u q = judged-values column 0 (isEmpty s) (starElement l s) q
       go false true q = all-values column (split 44 (b ∷ s)) 0 false q
-      go false false q = judged-values column 0 false (nameElement l (b ∷ s)) q
+      go false false q = absurd (clash q)

@@ -8,16 +8,17 @@ use native.Mathlib.Omega.{arith}
 use lib.ListN.{length, take, drop, length-drop}
 use lib.Seq.{take-all, drop-drop}
 use borrow.Author.Tests.{lt-ltb, le-ltb}
+use Rattle.field.specs.declared.Names.{Names}
 use Rattle.field.specs.declared.number.Number.the-variants.{Value}
 use Rattle.field.specs.Parts.{until, has, before, after}
 use Rattle.field.specs.Numbers.{numberOf}
-use Rattle.field.specs.Elements.{ranging, afterDash, elementOf}
+use Rattle.field.specs.Elements.{ranging, endOf, upperOf, afterDash, elementOf}
 
-module _ (s : List ℕ) (d : ℕ) (at-dash : d ≡ 0 + until 45 (drop 0 s)) where
+module _ (names : Names) (s : List ℕ) (d : ℕ) (at-dash : d ≡ 0 + until 45 (drop 0 s)) where
   place : until 45 s ≡ d
   place = omega arith
 
-  pub element-number : d ≡ length s → elementOf s ≡ ranging (numberOf (take d s)) (numberOf (take d s)) (Value 1)
+  pub element-number : d ≡ length s → elementOf names s ≡ ranging (endOf names (take d s)) (endOf names (take d s)) (Value 1)
   unfolding elementOf has
   element-number e = rw (place, le-ltb d (length s) (omega arith), take-all d s (omega arith))
 
@@ -28,7 +29,8 @@ module _ (s : List ℕ) (d : ℕ) (at-dash : d ≡ 0 + until 45 (drop 0 s)) wher
     rest-length : length (drop (suc d) s) ≡ length s - suc d
     rest-length = length-drop (suc d) s
 
-    pub element-range : e ≡ length s → elementOf s ≡ ranging (numberOf (take d s)) (numberOf (take (e - (d + 1)) (drop (d + 1) s))) (Value 1)
+    pub element-range : e ≡ length s
+        → elementOf names s ≡ ranging (endOf names (take d s)) (upperOf names (take d s) (take (e - (d + 1)) (drop (d + 1) s))) (Value 1)
     unfolding elementOf afterDash has before after
     element-range k =
         rw
@@ -36,8 +38,9 @@ module _ (s : List ℕ) (d : ℕ) (at-dash : d ≡ 0 + until 45 (drop 0 s)) wher
         (rw (take-all (e - suc d) (drop (suc d) s) (omega (arith, rest-length))))
 
     pub element-step : e < length s
-        → elementOf s
-        ≡ ranging (numberOf (take d s)) (numberOf (take (e - (d + 1)) (drop (d + 1) s))) (numberOf (take (length s - (e + 1)) (drop (e + 1) s)))
+        → elementOf names s
+        ≡ ranging (endOf names (take d s)) (upperOf names (take d s) (take (e - (d + 1)) (drop (d + 1) s)))
+        (numberOf (take (length s - (e + 1)) (drop (e + 1) s)))
     unfolding elementOf afterDash has before after
     element-step k =
         let t : suc d + suc (e - suc d) ≡ suc e = omega arith in

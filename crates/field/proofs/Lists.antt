@@ -11,23 +11,23 @@ use lib.Seq.{length-take-le, drop-drop}
 use borrow.Author.Tests.{lt-ltb, le-ltb}
 use Rattle.field.specs.declared.Limits.{Limits}
 use Rattle.field.specs.declared.Answer.{Answer}
-use Rattle.field.specs.declared.Answer.the-variants.{Values}
+use Rattle.field.specs.declared.Answer.the-variants.{Values, Refused}
 use Rattle.field.specs.Parts.{until, has, before, after, split}
 use Rattle.field.specs.Elements.{isElement, elementOf}
 use Rattle.field.specs.Judgement.{judged}
-use Rattle.field.specs.Fields.{areElements, judgedAll, nameElement, listField}
+use Rattle.field.specs.Fields.{areElements, judgedAll, listField}
 use Rattle.field.proofs.Parts.{split-first}
 
 -- the answer once every part is known to be an element, and otherwise
 whole : Limits → ℕ → Answer → List (List ℕ) → Answer → Answer
-whole l column answer parts other = cond (areElements parts) (judgedAll l column answer parts) other
+whole l column answer parts other = cond (areElements (l .names) parts) (judgedAll l column answer parts) other
 
-whole-next : (l : Limits) (column : ℕ) (answer : Answer) (p : List ℕ) (ps : List (List ℕ)) (other : Answer) → isElement (elementOf p) ≡ true
-    → whole l column answer (p ∷ ps) other ≡ whole l (column + length p + 1) (judged l column answer (elementOf p)) ps other
+whole-next : (l : Limits) (column : ℕ) (answer : Answer) (p : List ℕ) (ps : List (List ℕ)) (other : Answer) → isElement (elementOf (l .names) p) ≡ true
+    → whole l column answer (p ∷ ps) other ≡ whole l (column + length p + 1) (judged l column answer (elementOf (l .names) p)) ps other
 unfolding whole areElements judgedAll
 whole-next l column answer p ps other e = rw e
 
-whole-other : (l : Limits) (column : ℕ) (answer : Answer) (p : List ℕ) (ps : List (List ℕ)) (other : Answer) → isElement (elementOf p) ≡ false
+whole-other : (l : Limits) (column : ℕ) (answer : Answer) (p : List ℕ) (ps : List (List ℕ)) (other : Answer) → isElement (elementOf (l .names) p) ≡ false
     → whole l column answer (p ∷ ps) other ≡ other
 unfolding whole areElements
 whole-other l column answer p ps other e = rw e
@@ -39,7 +39,7 @@ whole-none l column answer other = refl
 module _ (l : Limits) (column : ℕ) (s : List ℕ) where
   -- the list from `at` on, with the answer so far
   pub reading : ℕ → Answer → Answer
-  reading at answer = whole l (column + at) answer (split 44 (drop at s)) (judged l column (Values 0 false) (nameElement l s))
+  reading at answer = whole l (column + at) answer (split 44 (drop at s)) (Refused 5 column)
 
   pub reading-starts : reading 0 (Values 0 false) ≡ listField l column s
   unfolding reading whole listField
@@ -56,18 +56,18 @@ module _ (l : Limits) (column : ℕ) (s : List ℕ) where
     parts : split 44 (drop at s) ≡ part ∷ cond (has 44 (drop at s)) (split 44 (after 44 (drop at s))) []
     parts = split-first 44 (drop at s) ∙ rw here
 
-    pub reading-other : isElement (elementOf part) ≡ false → reading at answer ≡ judged l column (Values 0 false) (nameElement l s)
+    pub reading-other : isElement (elementOf (l .names) part) ≡ false → reading at answer ≡ Refused 5 column
     unfolding reading
     reading-other e = rw parts (whole-other _ _ _ _ _ _ e)
 
-    module _ (e : isElement (elementOf part) ≡ true) where
-      pub reading-last : end ≡ length s → reading at answer ≡ judged l (column + at) answer (elementOf part)
+    module _ (e : isElement (elementOf (l .names) part) ≡ true) where
+      pub reading-last : end ≡ length s → reading at answer ≡ judged l (column + at) answer (elementOf (l .names) part)
       unfolding reading has
       reading-last k =
           rw (parts, le-ltb (until 44 (drop at s)) (length (drop at s)) (omega (arith, length-drop at s)))
           (whole-next _ _ _ _ _ _ e ∙ whole-none _ _ _ _)
 
-      pub reading-next : end < length s → reading at answer ≡ reading (end + 1) (judged l (column + at) answer (elementOf part))
+      pub reading-next : end < length s → reading at answer ≡ reading (end + 1) (judged l (column + at) answer (elementOf (l .names) part))
       unfolding reading has after
       reading-next k =
           let p : length part ≡ end - at = length-take-le (end - at) (drop at s) (omega (arith, length-drop at s)) in

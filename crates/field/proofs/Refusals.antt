@@ -15,7 +15,7 @@ use Rattle.field.specs.Parts.{split}
 use Rattle.field.specs.Elements.{elementOf}
 use Rattle.field.specs.Values.{valuesOf, including}
 use Rattle.field.specs.Judgement.{outside, judged}
-use Rattle.field.specs.Fields.{areElements, judgedAll, nameElement, listField, starElement, isEmpty, starField, readField}
+use Rattle.field.specs.Fields.{areElements, judgedAll, listField, starElement, isEmpty, starField, readField}
 
 abbrev pub FieldNumber : Answer → Type 0
 FieldNumber (Values set star) = Unit {0}
@@ -38,15 +38,15 @@ module _ (l : Limits) where
   all-number : (column : ℕ) (a : Answer) (ps : List (List ℕ)) → FieldNumber a → FieldNumber (judgedAll l column a ps)
   unfolding judgedAll
   all-number column a [] h = h
-  all-number column a (p ∷ ps) h = all-number (column + length p + 1) _ ps (judged-number column a (elementOf p) h)
+  all-number column a (p ∷ ps) h = all-number (column + length p + 1) _ ps (judged-number column a (elementOf (l .names) p) h)
 
   pub field-number : (column : ℕ) (s : List ℕ) → FieldNumber (readField l column s)
   unfolding readField starField listField
   field-number column [] = omega arith
-  field-number column (b ∷ s) = go (eqb b 42) (areElements (split 44 (b ∷ s)))
+  field-number column (b ∷ s) = go (eqb b 42) (areElements (l .names) (split 44 (b ∷ s)))
     where
       go : (t u : Bool)
-          → FieldNumber (cond t (judged l column (Values 0 (isEmpty s)) (starElement l s)) (cond u (judgedAll l column (Values 0 false) (split 44 (b ∷ s))) (judged l column (Values 0 false) (nameElement l (b ∷ s)))))
+          → FieldNumber (cond t (judged l column (Values 0 (isEmpty s)) (starElement l s)) (cond u (judgedAll l column (Values 0 false) (split 44 (b ∷ s))) (Refused 5 column)))
       go true u = judged-number column (Values 0 (isEmpty s)) (starElement l s) tt
       go false true = all-number column (Values 0 false) (split 44 (b ∷ s)) tt
-      go false false = judged-number column (Values 0 false) (nameElement l (b ∷ s)) tt
+      go false false = omega arith

@@ -1,8 +1,9 @@
 -- Paper 01: the elements of a field's list are `n`, `n-m` and `n-m/step`. `n` is the range from n to n, and where no step is
--- written it is 1.
+-- written it is 1. Ticket 2026-01: n and m may be names, a step may not; "`sun` is 0, but 7 as the upper end of a range whose lower
+-- end isn't `sun`", by how the two are written.
 -- Assumes nothing.
 use Prim.Native.Nat.{ℕ}
-use mathlib.Core.Bool.{Bool, true, false, cond}
+use mathlib.Core.Bool.{Bool, true, false, not, cond, _&&_}
 use mathlib.Core.List.{List}
 use Rattle.field.specs.declared.number.Number.{Number}
 use Rattle.field.specs.declared.number.Number.the-variants.{Value}
@@ -10,7 +11,9 @@ use Rattle.field.specs.declared.number.Number.the-variants as number
 use Rattle.field.specs.declared.element.Element.{Element}
 use Rattle.field.specs.declared.element.Element.the-variants.{Range, Malformed}
 use Rattle.field.specs.Parts.{has, before, after}
+use Rattle.field.specs.declared.Names.{Names}
 use Rattle.field.specs.Numbers.{numberOf}
+use Rattle.field.specs.Names.{nameOf, isSunday}
 
 -- bytes that were read as an element
 unfoldable pub isElement : Element → Bool
@@ -30,15 +33,31 @@ dash = 45
 abbrev pub slash : ℕ
 slash = 47
 
--- what follows the dash: `m`, or `m/step`
-unfoldable pub afterDash : Number → List ℕ → Element
-afterDash low s =
-    cond (has slash s)
-    (ranging low (numberOf (before slash s)) (numberOf (after slash s)))
-    (ranging low (numberOf s) (Value 1))
+-- ---- the ends of a range
 
-unfoldable pub elementOf : List ℕ → Element
-elementOf s =
+-- a number, and where it is none, a name
+unfoldable pub numberOr : Number → Number → Number
+numberOr (Value n) name = Value n
+numberOr number.Malformed name = name
+
+unfoldable pub endOf : Names → List ℕ → Number
+endOf names s = numberOr (numberOf s) (nameOf names s)
+
+-- the upper end, by the bytes of both
+unfoldable pub upperOf : Names → List ℕ → List ℕ → Number
+upperOf names low high = cond (isSunday names high && not (isSunday names low)) (Value 7) (endOf names high)
+
+-- ---- an element
+
+-- what follows the dash: `m`, or `m/step`
+unfoldable pub afterDash : Names → List ℕ → List ℕ → Element
+afterDash names low s =
+    cond (has slash s)
+    (ranging (endOf names low) (upperOf names low (before slash s)) (numberOf (after slash s)))
+    (ranging (endOf names low) (upperOf names low s) (Value 1))
+
+unfoldable pub elementOf : Names → List ℕ → Element
+elementOf names s =
     cond (has dash s)
-    (afterDash (numberOf (before dash s)) (after dash s))
-    (ranging (numberOf s) (numberOf s) (Value 1))
+    (afterDash names (before dash s) (after dash s))
+    (ranging (endOf names s) (endOf names s) (Value 1))

@@ -10,12 +10,12 @@ use Rattle.field.specs.declared.Answer.the-variants.{Values, Refused}
 use Rattle.schedule.specs.Sets.{withBit, put}
 use Rattle.field.specs.Parts.{until, has, before, after, afterEach, split}
 use Rattle.field.specs.Numbers.{isDigit, areDigits, valueFrom, numberOf}
-use Rattle.field.specs.Elements.{isElement, ranging, afterDash, elementOf}
-use Rattle.field.specs.Names.{lower, alike, monthNames, weekdayNames, named, nameOf}
+use Rattle.field.specs.Elements.{isElement, ranging, numberOr, endOf, upperOf, afterDash, elementOf}
+use Rattle.field.specs.Names.{lower, alike, monthNames, weekdayNames, named, nameOf, isSunday}
 use Rattle.field.specs.Values.{everyStep, valuesOf, bitOf, including}
 use Rattle.field.specs.Limits.{minuteLimits, hourLimits, dayLimits, monthLimits, weekdayLimits}
 use Rattle.field.specs.Judgement.{outside, judged}
-use Rattle.field.specs.Fields.{areElements, judgedAll, nameElement, listField, starElement, isEmpty, starField, readField}
+use Rattle.field.specs.Fields.{areElements, judgedAll, listField, starElement, isEmpty, starField, readField}
 
 -- the field of a line's first column
 read : Limits → List ℕ → Answer
@@ -44,8 +44,6 @@ examples :
     × (read minuteLimits (42 ∷ 47 ∷ 48 ∷ []) ≡ Refused 8 1)
     -- `Mon` as weekday is Monday
     × (read weekdayLimits (77 ∷ 111 ∷ 110 ∷ []) ≡ Values 2 false)
-    -- `mon-fri` is refused with 5
-    × (read weekdayLimits (109 ∷ 111 ∷ 110 ∷ 45 ∷ 102 ∷ 114 ∷ 105 ∷ []) ≡ Refused 5 1)
     -- `0000` is 0, `00000` is no number
     × (read hourLimits (48 ∷ 48 ∷ 48 ∷ 48 ∷ []) ≡ Values 1 false)
     × (read hourLimits (48 ∷ 48 ∷ 48 ∷ 48 ∷ 48 ∷ []) ≡ Refused 5 1)
@@ -69,8 +67,37 @@ examples :
     × (read minuteLimits (54 ∷ 49 ∷ 45 ∷ 54 ∷ 48 ∷ 47 ∷ 48 ∷ []) ≡ Refused 6 1)
     × (read minuteLimits (49 ∷ 48 ∷ 45 ∷ 57 ∷ 47 ∷ 48 ∷ []) ≡ Refused 7 1)
     × (read minuteLimits (55 ∷ 48 ∷ 44 ∷ 49 ∷ 48 ∷ 45 ∷ 57 ∷ []) ≡ Refused 6 1)
-unfolding read readField judged judgedAll areElements listField starField nameElement starElement isEmpty isElement ranging elementOf afterDash split afterEach until has before after numberOf areDigits isDigit valueFrom nameOf named alike lower monthNames weekdayNames outside including put bitOf valuesOf everyStep withBit
-examples = (refl, refl, refl, refl, refl, refl, refl, refl, refl, refl, refl, refl, refl, refl, refl, refl, refl, refl, refl, refl, refl, refl, refl, refl, refl, refl, refl, refl, refl)
+unfolding read readField judged judgedAll areElements listField starField starElement isEmpty isElement ranging elementOf numberOr endOf upperOf isSunday afterDash split afterEach until has before after numberOf areDigits isDigit valueFrom nameOf named alike lower monthNames weekdayNames outside including put bitOf valuesOf everyStep withBit
+examples = (refl, refl, refl, refl, refl, refl, refl, refl, refl, refl, refl, refl, refl, refl, refl, refl, refl, refl, refl, refl, refl, refl, refl, refl, refl, refl, refl, refl)
+
+-- Ticket 2026-01: names wherever numbers stand.
+names :
+    -- `mon-fri` is Monday to Friday, `jan,jul` two months, `FRI-Sun` 5 to 7, `sun-sun` Sunday alone
+    (read weekdayLimits (109 ∷ 111 ∷ 110 ∷ 45 ∷ 102 ∷ 114 ∷ 105 ∷ []) ≡ Values 62 false)
+    × (read monthLimits (106 ∷ 97 ∷ 110 ∷ 44 ∷ 106 ∷ 117 ∷ 108 ∷ []) ≡ Values 130 false)
+    × (read weekdayLimits (70 ∷ 82 ∷ 73 ∷ 45 ∷ 83 ∷ 117 ∷ 110 ∷ []) ≡ Values 97 false)
+    × (read weekdayLimits (115 ∷ 117 ∷ 110 ∷ 45 ∷ 115 ∷ 117 ∷ 110 ∷ []) ≡ Values 1 false)
+    -- `fri-mon` is refused with 7, `mon,sat-tue` at its second element
+    × (read weekdayLimits (102 ∷ 114 ∷ 105 ∷ 45 ∷ 109 ∷ 111 ∷ 110 ∷ []) ≡ Refused 7 1)
+    × (read weekdayLimits (109 ∷ 111 ∷ 110 ∷ 44 ∷ 115 ∷ 97 ∷ 116 ∷ 45 ∷ 116 ∷ 117 ∷ 101 ∷ []) ≡ Refused 7 5)
+    -- mixed: `1-fri`, `mon,3`, `mon-5/2`
+    × (read weekdayLimits (49 ∷ 45 ∷ 102 ∷ 114 ∷ 105 ∷ []) ≡ Values 62 false)
+    × (read weekdayLimits (109 ∷ 111 ∷ 110 ∷ 44 ∷ 51 ∷ []) ≡ Values 10 false)
+    × (read weekdayLimits (109 ∷ 111 ∷ 110 ∷ 45 ∷ 53 ∷ 47 ∷ 50 ∷ []) ≡ Values 42 false)
+    -- `sun` goes by how the ends are written: `0-sun` and `sun-7` are every day, `7-sun` and `sun-0` Sunday, `mon-0` is refused with 7
+    × (read weekdayLimits (48 ∷ 45 ∷ 115 ∷ 117 ∷ 110 ∷ []) ≡ Values 127 false)
+    × (read weekdayLimits (115 ∷ 117 ∷ 110 ∷ 45 ∷ 55 ∷ []) ≡ Values 127 false)
+    × (read weekdayLimits (55 ∷ 45 ∷ 115 ∷ 117 ∷ 110 ∷ []) ≡ Values 1 false)
+    × (read weekdayLimits (115 ∷ 117 ∷ 110 ∷ 45 ∷ 48 ∷ []) ≡ Values 1 false)
+    × (read weekdayLimits (109 ∷ 111 ∷ 110 ∷ 45 ∷ 48 ∷ []) ≡ Refused 7 1)
+    -- no name as a step, and none of the other field: `mon/2`, `*/mon`, `1-5/mon`, `jan` as weekday, `1-sun` as month are refused with 5
+    × (read weekdayLimits (109 ∷ 111 ∷ 110 ∷ 47 ∷ 50 ∷ []) ≡ Refused 5 1)
+    × (read weekdayLimits (42 ∷ 47 ∷ 109 ∷ 111 ∷ 110 ∷ []) ≡ Refused 5 1)
+    × (read weekdayLimits (49 ∷ 45 ∷ 53 ∷ 47 ∷ 109 ∷ 111 ∷ 110 ∷ []) ≡ Refused 5 1)
+    × (read weekdayLimits (106 ∷ 97 ∷ 110 ∷ []) ≡ Refused 5 1)
+    × (read monthLimits (49 ∷ 45 ∷ 115 ∷ 117 ∷ 110 ∷ []) ≡ Refused 5 1)
+unfolding read readField judged judgedAll areElements listField starField starElement isEmpty isElement ranging elementOf numberOr endOf upperOf isSunday afterDash split afterEach until has before after numberOf areDigits isDigit valueFrom nameOf named alike lower monthNames weekdayNames outside including put bitOf valuesOf everyStep withBit
+names = (refl, refl, refl, refl, refl, refl, refl, refl, refl, refl, refl, refl, refl, refl, refl, refl, refl, refl, refl)
 
 -- each name alone is the one value that it names
 eachSet : Limits → List (List ℕ) → List Answer
@@ -81,12 +108,12 @@ month-names :
     eachSet monthLimits
     ((106 ∷ 97 ∷ 110 ∷ []) ∷ (102 ∷ 101 ∷ 98 ∷ []) ∷ (109 ∷ 97 ∷ 114 ∷ []) ∷ (97 ∷ 112 ∷ 114 ∷ []) ∷ (109 ∷ 97 ∷ 121 ∷ []) ∷ (106 ∷ 117 ∷ 110 ∷ []) ∷ (106 ∷ 117 ∷ 108 ∷ []) ∷ (97 ∷ 117 ∷ 103 ∷ []) ∷ (115 ∷ 101 ∷ 112 ∷ []) ∷ (111 ∷ 99 ∷ 116 ∷ []) ∷ (110 ∷ 111 ∷ 118 ∷ []) ∷ (100 ∷ 101 ∷ 99 ∷ []) ∷ [])
     ≡ Values 2 false ∷ Values 4 false ∷ Values 8 false ∷ Values 16 false ∷ Values 32 false ∷ Values 64 false ∷ Values 128 false ∷ Values 256 false ∷ Values 512 false ∷ Values 1024 false ∷ Values 2048 false ∷ Values 4096 false ∷ []
-unfolding eachSet read readField judged judgedAll areElements listField nameElement isElement ranging elementOf split afterEach until has before after numberOf areDigits isDigit valueFrom nameOf named alike lower monthNames weekdayNames outside including put bitOf valuesOf everyStep withBit
+unfolding eachSet read readField judged judgedAll areElements listField isElement ranging elementOf numberOr endOf split afterEach until has before after numberOf areDigits isDigit valueFrom nameOf named alike lower monthNames weekdayNames outside including put bitOf valuesOf everyStep withBit
 month-names = refl
 
 weekday-names :
     eachSet weekdayLimits
     ((115 ∷ 117 ∷ 110 ∷ []) ∷ (109 ∷ 111 ∷ 110 ∷ []) ∷ (116 ∷ 117 ∷ 101 ∷ []) ∷ (119 ∷ 101 ∷ 100 ∷ []) ∷ (116 ∷ 104 ∷ 117 ∷ []) ∷ (102 ∷ 114 ∷ 105 ∷ []) ∷ (115 ∷ 97 ∷ 116 ∷ []) ∷ [])
     ≡ Values 1 false ∷ Values 2 false ∷ Values 4 false ∷ Values 8 false ∷ Values 16 false ∷ Values 32 false ∷ Values 64 false ∷ []
-unfolding eachSet read readField judged judgedAll areElements listField nameElement isElement ranging elementOf split afterEach until has before after numberOf areDigits isDigit valueFrom nameOf named alike lower monthNames weekdayNames outside including put bitOf valuesOf everyStep withBit
+unfolding eachSet read readField judged judgedAll areElements listField isElement ranging elementOf numberOr endOf split afterEach until has before after numberOf areDigits isDigit valueFrom nameOf named alike lower monthNames weekdayNames outside including put bitOf valuesOf everyStep withBit
 weekday-names = refl

@@ -1,11 +1,11 @@
--- Paper 01, "Fields": a field is `*`, or `*/step`, or a comma list of `n`, `n-m`, `n-m/step`, or one name alone. Its form is judged
--- before its elements. A column is that of the field's first byte.
+-- Paper 01, "Fields": a field is `*`, or `*/step`, or a comma list of `n`, `n-m`, `n-m/step`. Its form is judged before its elements. A column is that of the field's first byte.
 -- Assumes nothing.
 use Prim.Native.Nat.{ℕ, _+_}
 use mathlib.Core.Bool.{Bool, true, false, cond, _&&_}
 use mathlib.Core.List.{List, [], _∷_}
 use lib.ListN.{length}
 use lib.Dec.{eqb}
+use Rattle.field.specs.declared.Names.{Names}
 use Rattle.field.specs.declared.Limits.{Limits}
 use Rattle.field.specs.declared.Answer.{Answer}
 use Rattle.field.specs.declared.Answer.the-variants.{Values, Refused}
@@ -15,7 +15,6 @@ use Rattle.field.specs.declared.element.Element.the-variants.{Range, Mal
 use Rattle.field.specs.Parts.{split}
 use Rattle.field.specs.Numbers.{numberOf}
 use Rattle.field.specs.Elements.{ranging, isElement, elementOf, slash}
-use Rattle.field.specs.Names.{nameOf}
 use Rattle.field.specs.Judgement.{malformed, judged}
 
 abbrev pub comma : ℕ
@@ -26,24 +25,18 @@ asterisk = 42
 
 -- ---- a comma list
 
-unfoldable pub areElements : List (List ℕ) → Bool
-areElements [] = true
-areElements (p ∷ ps) = isElement (elementOf p) && areElements ps
+unfoldable pub areElements : Names → List (List ℕ) → Bool
+areElements names [] = true
+areElements names (p ∷ ps) = isElement (elementOf names p) && areElements names ps
 
 -- element by element from the left; the next one starts a comma after this one
 unfoldable pub judgedAll : Limits → ℕ → Answer → List (List ℕ) → Answer
 judgedAll l column so-far [] = so-far
-judgedAll l column so-far (p ∷ ps) = judgedAll l (column + length p + 1) (judged l column so-far (elementOf p)) ps
-
--- one name alone: the range from its number to its number
-unfoldable pub nameElement : Limits → List ℕ → Element
-nameElement l s = ranging (nameOf (l .names) s) (nameOf (l .names) s) (Value 1)
+judgedAll l column so-far (p ∷ ps) = judgedAll l (column + length p + 1) (judged l column so-far (elementOf (l .names) p)) ps
 
 unfoldable pub listField : Limits → ℕ → List ℕ → Answer
 listField l column s =
-    cond (areElements (split comma s))
-    (judgedAll l column (Values 0 false) (split comma s))
-    (judged l column (Values 0 false) (nameElement l s))
+    cond (areElements (l .names) (split comma s)) (judgedAll l column (Values 0 false) (split comma s)) (Refused malformed column)
 
 -- ---- an asterisk, by what follows it: nothing, or a slash and a step. It stands for first to last.
 

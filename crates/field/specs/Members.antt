@@ -12,7 +12,7 @@ use Rattle.field.specs.declared.element.Element.the-variants.{Range, Mal
 use Rattle.field.specs.Parts.{split}
 use Rattle.field.specs.Elements.{elementOf}
 use Rattle.field.specs.Values.{valuesOf, bitOf}
-use Rattle.field.specs.Fields.{comma, asterisk, areElements, nameElement, starElement, isEmpty}
+use Rattle.field.specs.Fields.{comma, asterisk, starElement, isEmpty}
 
 unfoldable pub isIn : ℕ → List ℕ → Bool
 isIn n [] = false
@@ -30,10 +30,7 @@ isStar (b ∷ s) = eqb b asterisk && isEmpty s
 -- the elements of a field, whatever its form
 unfoldable pub elementsOf : Limits → List ℕ → List Element
 elementsOf l [] = []
-elementsOf l (b ∷ s) =
-    cond (eqb b asterisk)
-    (starElement l s ∷ [])
-    (cond (areElements (split comma (b ∷ s))) (map elementOf (split comma (b ∷ s))) (nameElement l (b ∷ s) ∷ []))
+elementsOf l (b ∷ s) = cond (eqb b asterisk) (starElement l s ∷ []) (map (elementOf (l .names)) (split comma (b ∷ s)))
 
 -- the bits of all the values of elements
 unfoldable pub elementBits : Names → Element → List ℕ

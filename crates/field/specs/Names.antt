@@ -1,4 +1,4 @@
--- Paper 01: "one three-letter English name, any letter case", in the month and weekday fields only.
+-- Ticket 2026-01: in the month and weekday fields a three-letter English name, in any letter case, stands where a number stands.
 -- Assumes nothing.
 use Prim.Native.Nat.{ℕ, suc, _+_}
 use mathlib.Core.Bool.{Bool, true, false, cond, _&&_}
@@ -37,10 +37,14 @@ monthNames =
     ∷ (100 ∷ 101 ∷ 99 ∷ [])
     ∷ []
 
+-- sun
+abbrev pub sunday : List ℕ
+sunday = 115 ∷ 117 ∷ 110 ∷ []
+
 -- sun, mon, tue, wed, thu, fri, sat
 unfoldable pub weekdayNames : List (List ℕ)
 weekdayNames =
-    (115 ∷ 117 ∷ 110 ∷ [])
+    sunday
     ∷ (109 ∷ 111 ∷ 110 ∷ [])
     ∷ (116 ∷ 117 ∷ 101 ∷ [])
     ∷ (119 ∷ 101 ∷ 100 ∷ [])
@@ -58,3 +62,9 @@ unfoldable pub nameOf : Names → List ℕ → Number
 nameOf None s = Malformed
 nameOf Months s = named 1 monthNames s
 nameOf Weekdays s = named 0 weekdayNames s
+
+-- the name of Sunday, which has two numbers
+unfoldable pub isSunday : Names → List ℕ → Bool
+isSunday None s = false
+isSunday Months s = false
+isSunday Weekdays s = alike s sunday

@@ -1,6 +1,8 @@
-// One element of a comma list: `n`, `n-m` or `n-m/step`.
+// One element of a comma list: `n`, `n-m` or `n-m/step`, in which n and m may be names.
 ghost use mathlib.Core.Path.{_≡_};
-ghost use Rattle.field.specs.Elements.{isElement, ranging, elementOf};
+ghost use Rattle.field.specs.Elements.{isElement, ranging, endOf, upperOf, elementOf};
+use crate::Names;
+use crate::name;
 use crate::number;
 use crate::number::Number;
 use crate::part::find;
@@ -41,17 +43,38 @@ pub(crate) fn range(low: Number, high: Number, step: Number) -> Element
     Element::Range { low, high, step }
 }
 
+// A number, or a name in its place.
+fn end(s: &[u8], names: Names) -> Number
+    ensures { λ r. ⌜ r ≡ endOf names (now (s .entry)) ⌝ }
+{
+    let n = number::read(s);
+    match n {
+        Number::Value(_) => n,
+        Number::Malformed => name::read(s, names),
+    }
+}
+
+// The upper end of a range: Sunday's name is 7 there, unless the lower end is that name too.
+fn upper(low: &[u8], high: &[u8], names: Names) -> Number
+    ensures { λ r. ⌜ r ≡ upperOf names (now (low .entry)) (now (high .entry)) ⌝ }
+{
+    if name::is_sunday(high, names) & !name::is_sunday(low, names) {
+        return Number::Value(7);
+    }
+    end(high, names)
+}
+
 // A dash parts n from what follows, and there a slash parts m from the step; with no step it is 1.
-pub(crate) fn read(s: &[u8]) -> Element
-    ensures { λ r. ⌜ r ≡ elementOf (now (s .entry)) ⌝ }
+pub(crate) fn read(s: &[u8], names: Names) -> Element
+    ensures { λ r. ⌜ r ≡ elementOf names (now (s .entry)) ⌝ }
 {
     let dash = find(s, 0, b'-');
-    let low = number::read(&s[..dash]);
+    let low = end(&s[..dash], names);
     if dash == s.len() {
         return range(low, low, Number::Value(1));
     }
     let slash = find(s, dash + 1, b'/');
-    let high = number::read(&s[dash + 1..slash]);
+    let high = upper(&s[..dash], &s[dash + 1..slash], names);
     if slash == s.len() {
         return range(low, high, Number::Value(1));
     }

@@ -20,7 +20,7 @@ pub const REVERSED: u8 = 7;
 
 pub const STEP_ZERO: u8 = 8;
 
-// Which names a field may be, instead of numbers.
+// Which names a field has, to stand for numbers.
 pub enum Names {
     None,
     Months,

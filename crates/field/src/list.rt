@@ -1,24 +1,13 @@
-// A comma list of elements, or one name alone.
+// A comma list of elements.
 ghost use mathlib.Core.Path.{_≡_};
 ghost use Prim.Native.Nat.{_^_, _<_};
-ghost use Rattle.field.specs.Fields.{nameElement, listField};
+ghost use Rattle.field.specs.Fields.{listField};
 use crate::Answer;
 use crate::Limits;
+use crate::MALFORMED;
 use crate::element;
-use crate::element::Element;
-use crate::name;
-use crate::number::Number;
 use crate::part::find;
 use crate::values::judge;
-
-// One name alone, as the range from its number to its number.
-fn name_alone(s: &[u8], limits: Limits) -> Element
-    ensures { λ r. ⌜ r ≡ nameElement limits (now (s .entry)) ⌝ }
-{
-    let names = limits.names;
-    let n = name::read(s, names);
-    element::range(n, n, Number::Value(1))
-}
 
 // The elements one after the other. A refusal of an element only counts once all the others are found to be elements.
 pub(crate) fn read(s: &[u8], column: u64, limits: Limits) -> Answer
@@ -29,15 +18,19 @@ pub(crate) fn read(s: &[u8], column: u64, limits: Limits) -> Answer
         set: 0,
         star: false,
     };
+    let names = limits.names;
     let mut answer = start;
     let mut at = 0;
     loop {
         let end = find(s, at, b',');
-        let element = element::read(&s[at..end]);
+        let element = element::read(&s[at..end], names);
         if element::is_element(element) {
             answer = judge(limits, column + at as u64, answer, element);
         } else {
-            return judge(limits, column, start, name_alone(s, limits));
+            return Answer::Refused {
+                number: MALFORMED,
+                column,
+            };
         }
         if end == s.len() {
             return answer;

@@ -1,7 +1,7 @@
 // The three-letter English names of months and weekdays, in any letter case.
 ghost use mathlib.Core.Path.{_≡_};
 ghost use mathlib.Core.Bool.{cond};
-ghost use Rattle.field.specs.Names.{lower, alike, named, monthNames, weekdayNames, nameOf};
+ghost use Rattle.field.specs.Names.{lower, alike, named, monthNames, weekdayNames, nameOf, isSunday};
 ghost use Rattle.field.specs.declared.number.Number.the-variants.{Value};
 use crate::Names;
 use crate::number::Number;
@@ -79,5 +79,16 @@ pub(crate) fn read(s: &[u8], names: Names) -> Number
         Names::None => Number::Malformed,
         Names::Months => month(s),
         Names::Weekdays => weekday(s),
+    }
+}
+
+// Whether s is the name of Sunday in a field with such names.
+pub(crate) fn is_sunday(s: &[u8], names: Names) -> bool
+    ensures { λ r. ⌜ r ≡ isSunday names (now (s .entry)) ⌝ }
+{
+    match names {
+        Names::None => false,
+        Names::Months => false,
+        Names::Weekdays => is_name(s, b"sun"),
     }
 }

@@ -9,7 +9,7 @@ use std::path::Path;
 const FAULTS: [(u64, &str, &str, &str); 9] = [
     (3, "1:1", "\0", "the line has a byte 0"),
     (4, "1:4", "5 5", "fewer than five time fields"),
-    (5, "2:3", "#\n0 5/2 * * * x", "not a time field: *, */step, or a list of n, n-m and n-m/step; the name of a month or weekday stands alone"),
+    (5, "2:3", "#\n0 5/2 * * * x", "not a time field: *, */step, or a list of n, n-m and n-m/step, with names for months and weekdays"),
     (6, "1:1", "60 0 * * * x", "a number outside its limits: minute 0-59, hour 0-23, day 1-31, month 1-12, weekday 0-7"),
     (7, "1:3", "0 10-9 * * * x", "a range from high to low"),
     (8, "1:1", "*/0 0 * * * x", "a step of 0"),

@@ -151,7 +151,7 @@ fn refusals_and_wrong_arguments_are_said() {
     let folder = scratch("daemon-refused");
     let program = build("examples/daemon.c", &folder);
     let path = folder.join("table");
-    fs::write(&path, "# one\n0 0 * * mon,fri b\n").expect("the table is written");
+    fs::write(&path, "# one\n0 0 * * mon/2 b\n").expect("the table is written");
     let bad = word(&path);
     let fault = format!("{bad}:2:9: refused 5: ");
     let rows: [(&[&str], i32, &str); 9] = [

@@ -290,9 +290,6 @@ fn schedule<'a>(
 
 /// The values of a field as bits. A bad form anywhere comes before the first bad element.
 fn set(limits: &Limits, text: &[u8]) -> Result<u64, Bad> {
-    if let Some(value) = named(limits, text) {
-        return Ok(1 << value);
-    }
     if let Some(after_star) = text.strip_prefix(b"*") {
         let whole = Element {
             low: limits.first,
@@ -308,7 +305,9 @@ fn set(limits: &Limits, text: &[u8]) -> Result<u64, Bad> {
     let mut answer = Ok(0);
     let mut at = 0;
     for part in text.split(|&byte| byte == b',') {
-        let values = element(part).ok_or(Bad(BAD_FORM, 0))?.values(limits);
+        let values = element(limits, part)
+            .ok_or(Bad(BAD_FORM, 0))?
+            .values(limits);
         answer = match (answer, values) {
             (Ok(set), Ok(more)) => Ok(set | more),
             (Ok(_), Err(number)) => Err(Bad(number, at)),
@@ -332,11 +331,11 @@ struct Element {
     step: u64,
 }
 
-/// An element of a list: `n`, `n-m` or `n-m/step`.
-fn element(text: &[u8]) -> Option<Element> {
+/// An element of a list: `n`, `n-m` or `n-m/step`, where n and m may be names.
+fn element(limits: &Limits, text: &[u8]) -> Option<Element> {
     match cut(text, b'-') {
         (low, None) => {
-            let low = number(low)?;
+            let low = end(limits, low)?;
             Some(Element {
                 low,
                 high: low,
@@ -346,12 +345,24 @@ fn element(text: &[u8]) -> Option<Element> {
         (low, Some(rest)) => {
             let (high, step) = cut(rest, b'/');
             Some(Element {
-                low: number(low)?,
-                high: number(high)?,
+                low: end(limits, low)?,
+                high: match names_sunday(limits, high) && !names_sunday(limits, low) {
+                    true => limits.last,
+                    false => end(limits, high)?,
+                },
                 step: step.map_or(Some(1), number)?,
             })
         }
     }
+}
+
+fn end(limits: &Limits, text: &[u8]) -> Option<u64> {
+    number(text).or_else(|| named(limits, text))
+}
+
+/// `sun`, in the field that has it.
+fn names_sunday(limits: &Limits, text: &[u8]) -> bool {
+    limits.names.first() == Some(&"sun") && named(limits, text) == Some(0)
 }
 
 impl Element {

@@ -109,7 +109,7 @@ fn lists_have_the_values_of_their_elements() {
         let which = round % 5;
         let texts: Vec<String> = (0..1 + random.below(6))
             .map(|_| samples::field(&mut random, which))
-            .filter(|text| text.as_bytes()[0].is_ascii_digit())
+            .filter(|text| !text.starts_with('*'))
             .collect();
         if texts.is_empty() {
             continue;
@@ -131,7 +131,7 @@ const NAMES: [(usize, &str, &str); 2] = [
 ];
 
 #[test]
-fn names_in_any_letter_case_alone_in_their_own_field() {
+fn names_in_any_letter_case_in_their_own_field() {
     for (own, names, kind) in NAMES {
         for (place, name) in names.as_bytes().chunks(3).enumerate() {
             for cases in 0..8 {
@@ -146,13 +146,14 @@ fn names_in_any_letter_case_alone_in_their_own_field() {
                 for which in (1..5).filter(|&which| which != own) {
                     assert_eq!(values(which, &name), Err(5), "{name}");
                 }
+                assert_eq!(values(own, &format!("{name}-{name}")), values(own, &name));
                 let others = [
-                    format!("{name},1"),
-                    format!("1,{name}"),
-                    format!("{name}-{name}"),
-                    format!("1-{name}"),
                     format!("{name}/1"),
                     format!("*/{name}"),
+                    format!("1-2/{name}"),
+                    format!("{name},"),
+                    format!("{name}-"),
+                    format!("-{name}"),
                     format!("{name}{name}"),
                     format!("{name}."),
                     name[..2].to_string(),
@@ -161,6 +162,53 @@ fn names_in_any_letter_case_alone_in_their_own_field() {
                 for text in others {
                     assert_eq!(values(own, &text), Err(5), "{text}");
                 }
+            }
+        }
+    }
+}
+
+/// What a name or a number stands for as the end of a range: `sun` is 0, but 7 as the upper end where the lower one isn't `sun`.
+fn meant(own: usize, low: &str, high: &str) -> [u64; 2] {
+    let (_, names, _) = NAMES[own - 3];
+    let value = |text: &str| match names.find(&text.to_lowercase()) {
+        Some(place) => LIMITS[own].0 + place as u64 / 3,
+        None => text.parse().expect("a number"),
+    };
+    match high == "sun" && low != "sun" {
+        true => [value(low), 7],
+        false => [value(low), value(high)],
+    }
+}
+
+#[test]
+fn every_pair_of_names_and_numbers_as_a_range() {
+    for (own, names, _) in NAMES {
+        let (first, last) = LIMITS[own];
+        let numbers = (0..=last + 1).map(|number| number.to_string());
+        let named = (0..names.len())
+            .step_by(3)
+            .map(|at| names[at..at + 3].to_string());
+        let ends: Vec<String> = numbers.chain(named).collect();
+        for low in &ends {
+            for high in &ends {
+                let [from, to] = meant(own, low, high);
+                for step in 1..=4 {
+                    let inside = (first..=last).contains(&from) && (first..=last).contains(&to);
+                    let expected = match (inside, from <= to) {
+                        (false, _) => Err(6),
+                        (true, false) => Err(7),
+                        (true, true) => Ok(stepped(own, from, to, step)),
+                    };
+                    let range = format!("{low}-{high}/{step}");
+                    assert_eq!(values(own, &range), expected, "{range}");
+                    assert_eq!(values(own, &range.to_uppercase()), expected, "{range}");
+                    if step == 1 {
+                        assert_eq!(values(own, &format!("{low}-{high}")), expected, "{range}");
+                    }
+                }
+                let both = values(own, low).and_then(|_| values(own, high));
+                let list = values(own, &format!("{low},{high}"));
+                assert_eq!(list.map(|_| ()), both.map(|_| ()), "{low},{high}");
             }
         }
     }

@@ -39,7 +39,10 @@ fn known_days() {
         ("@reboot a", u64::MAX, Err(14)),
         ("60 0 * * * a", 0, Err(6)),
         ("60 0 * * * a", u64::MAX, Err(6)),
-        ("0 0 * * mon-fri a", 0, Err(5)),
+        // ticket 2026-01; minute 0 is a Thursday
+        ("0 0 * * mon-fri a", 0, Ok(1_440)),
+        ("0 0 * * mon-fri a", 1_440, Ok(5_760)),
+        ("0 0 * * fri-mon a", 0, Err(7)),
         ("0 0 * * *", 0, Err(9)),
         ("10-9 0 * * * a", 0, Err(7)),
         ("10-10 0 * * * a", 0, Ok(10)),

@@ -52,7 +52,7 @@ fn bad_fields() -> [Vec<(String, u64, usize)>; 5] {
                 ("00001".into(), 5, 0),
                 (format!("{over},9-8,1-2/0,x"), 5, 0),
                 ("1-2,1-2/0,*".into(), 5, 0),
-                (format!("1,{name}"), 5, 0),
+                (format!("1,{name}x"), 5, 0),
                 (format!("1-{name}x"), 5, 0),
                 (format!("*/{name}"), 5, 0),
                 (format!("{over}"), 6, 0),

@@ -136,11 +136,11 @@ const BAD_FORMS: [&str; 33] = [
     "5x",
     "x",
     "5.",
-    "mon-fri",
-    "jan,feb",
+    "mon-fry",
+    "jan,febr",
     "sund",
     "su",
-    "5,mon",
+    "mon/2",
     "*/mon",
     "5-6/x",
     "5\r",
@@ -195,7 +195,6 @@ pub fn fields(random: &mut Random) -> [String; 5] {
 
 /// A good field.
 pub fn field(random: &mut Random, which: usize) -> String {
-    let (first, last) = LIMITS[which];
     match random.below(8) {
         0..=2 => "*".into(),
         3 => {
@@ -205,16 +204,17 @@ pub fn field(random: &mut Random, which: usize) -> String {
         4 if !NAMES[which].is_empty() => random.pick(NAMES[which]).into(),
         _ => {
             let count = 1 + random.below(3);
-            let elements: Vec<String> = (0..count).map(|_| element(random, first, last)).collect();
+            let elements: Vec<String> = (0..count).map(|_| element(random, which)).collect();
             elements.join(",")
         }
     }
 }
 
-fn element(random: &mut Random, first: u64, last: u64) -> String {
+fn element(random: &mut Random, which: usize) -> String {
+    let (first, last) = LIMITS[which];
     let mut ends = [(); 2].map(|_| first + random.below(last - first + 1));
     ends.sort();
-    let [low, high] = ends.map(|end| digits(random, end));
+    let [low, high] = ends.map(|end| written(random, which, end));
     match random.below(4) {
         0 | 1 => low,
         2 => format!("{low}-{high}"),
@@ -231,6 +231,16 @@ fn step(random: &mut Random) -> String {
         _ => 1 + random.below(12),
     };
     digits(random, step)
+}
+
+/// A value of a field, as a number or by its name. Whichever ends of a good range are names, it is good.
+fn written(random: &mut Random, which: usize, value: u64) -> String {
+    let names = NAMES[which];
+    if names.is_empty() || random.below(2) == 0 {
+        return digits(random, value);
+    }
+    let place = (value - LIMITS[which].0) as usize;
+    names[place % names.len()].into()
 }
 
 /// A number, perhaps with zeros before it, in one to four digits.
@@ -333,7 +343,7 @@ pub fn bad_field(random: &mut Random, which: usize) -> (String, u64, usize) {
     let (first, last) = LIMITS[which];
     let mut text = String::new();
     for _ in 0..random.below(3) {
-        text += &element(random, first, last);
+        text += &element(random, which);
         text.push(',');
     }
     let offset = text.len();

@@ -11,26 +11,54 @@ use Rattle.field.proofs.element.read.Tie as tie
 find-requires : tie.Need-find-requires
 find-requires c κs = search needs
 
-slice-aggregate-read : tie.Need-slice-aggregate-read
-slice-aggregate-read c = sym (length-take-le _ _ (c .before .find .ensures .1))
+slice-aggregate-end : tie.Need-slice-aggregate-end
+slice-aggregate-end c = sym (length-take-le _ _ (c .before .find .ensures .1))
 
-read-requires : tie.Need-read-requires
-read-requires c κs = tt
+end-requires : tie.Need-end-requires
+end-requires c κs = search needs
 
 range-requires : tie.Need-range-requires
-range-requires c κs = tt
+range-requires c κs = search needs
 
 returns : tie.Need-returns
 returns c =
     c .range .ensures
-    ∙ rw (c .before .before .read .ensures)
-    (sym (element-number _ _ (c .before .before .before .before .find .ensures .0) (c .before .if1 .taken)))
+    ∙ rw (c .before .before .end .ensures)
+    (sym (element-number _ _ _ (c .before .before .before .before .find .ensures .0) (c .before .if1 .taken)))
 
 add-find : tie.Need-add-find
 add-find c = search needs
 
 find-requires-2 : tie.Need-find-requires-2
 find-requires-2 c κs = search needs
+
+slice-aggregate-upper : tie.Need-slice-aggregate-upper
+slice-aggregate-upper c = sym (length-take-le _ _ (c .before .before .before .before .before .find .ensures .1))
+
+add-upper : tie.Need-add-upper
+add-upper c = search needs
+
+sub-upper : tie.Need-sub-upper
+sub-upper c = search needs
+
+part-upper-start : tie.Need-part-upper-start
+part-upper-start c = search needs
+
+part-upper-end : tie.Need-part-upper-end
+part-upper-end c = search needs
+
+upper-requires : tie.Need-upper-requires
+upper-requires c κs = search needs
+
+range-requires-2 : tie.Need-range-requires-2
+range-requires-2 c κs = search needs
+
+returns-2 : tie.Need-returns-2
+returns-2 c =
+    let k = c .before .before .before .before .before in
+    c .range2 .ensures
+    ∙ rw (k .before .before .end .ensures, c .before .before .upper .ensures)
+    (sym (element-range _ _ _ (k .before .before .before .before .find .ensures .0) (omega arith) _ (k .find2 .ensures .0) (c .before .if2 .taken)))
 
 add-read : tie.Need-add-read
 add-read c = search needs
@@ -44,66 +72,42 @@ part-read-start c = search needs
 part-read-end : tie.Need-part-read-end
 part-read-end c = search needs
 
-read-requires-2 : tie.Need-read-requires-2
-read-requires-2 c κs = tt
-
-range-requires-2 : tie.Need-range-requires-2
-range-requires-2 c κs = tt
-
-returns-2 : tie.Need-returns-2
-returns-2 c =
-    let k = c .before .before .before .before in
-    c .range2 .ensures
-    ∙ rw (k .before .before .read .ensures, c .before .before .read2 .ensures)
-    (sym (element-range _ _ (k .before .before .before .before .find .ensures .0) (omega arith) _ (k .find2 .ensures .0) (c .before .if2 .taken)))
-
-add-read-2 : tie.Need-add-read-2
-add-read-2 c = search needs
-
-sub-read-2 : tie.Need-sub-read-2
-sub-read-2 c = search needs
-
-part-read-start-2 : tie.Need-part-read-start-2
-part-read-start-2 c = search needs
-
-part-read-end-2 : tie.Need-part-read-end-2
-part-read-end-2 c = search needs
-
-read-requires-3 : tie.Need-read-requires-3
-read-requires-3 c κs = tt
+read-requires : tie.Need-read-requires
+read-requires c κs = search needs
 
 range-requires-3 : tie.Need-range-requires-3
-range-requires-3 c κs = tt
+range-requires-3 c κs = search needs
 
 returns-3 : tie.Need-returns-3
 returns-3 c =
-    let k = c .before .before .before .before .before .before in
+    let k = c .before .before .before .before .before .before .before in
     c .range3 .ensures
-    ∙ rw (k .before .before .read .ensures, c .before .before .before .before .read2 .ensures, c .before .read3 .ensures)
-    (sym (element-step _ _ (k .before .before .before .before .find .ensures .0) (omega arith) _ (k .find2 .ensures .0) (omega arith)))
+    ∙ rw (k .before .before .end .ensures, c .before .before .before .before .upper .ensures, c .before .read .ensures)
+    (sym (element-step _ _ _ (k .before .before .before .before .find .ensures .0) (omega arith) _ (k .find2 .ensures .0) (omega arith)))
 
 pub read-spec : {M : Type 1} → statement M
 read-spec =
     tie.close
     (tie.spec
     find-requires
-    slice-aggregate-read
-    read-requires
+    slice-aggregate-end
+    end-requires
     range-requires
     returns
     add-find
     find-requires-2
+    slice-aggregate-upper
+    add-upper
+    sub-upper
+    part-upper-start
+    part-upper-end
+    upper-requires
+    range-requires-2
+    returns-2
     add-read
     sub-read
     part-read-start
     part-read-end
-    read-requires-2
-    range-requires-2
-    returns-2
-    add-read-2
-    sub-read-2
-    part-read-start-2
-    part-read-end-2
-    read-requires-3
+    read-requires
     range-requires-3
     returns-3)

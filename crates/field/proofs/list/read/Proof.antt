@@ -43,20 +43,12 @@ add-judge c = omega arith
 judge-requires : tie.Need-judge-requires Inv-loop μ-loop
 judge-requires c κs = tt
 
-name-alone-requires : tie.Need-name-alone-requires Inv-loop μ-loop
-name-alone-requires c κs = tt
-
-judge-requires-2 : tie.Need-judge-requires-2 Inv-loop μ-loop
-judge-requires-2 c κs = tt
-
 returns : tie.Need-returns Inv-loop μ-loop
 returns c =
-    let e = c .before .before .before in
+    let e = c .before in
     let f = e .before .before .before in
-    c .judge2 .ensures
-    ∙ rw (c .before .name-alone .ensures)
-    (sym (reading-other _ _ _ _ _ _ (f .find .ensures .0) (rw (e .before .read .ensures) at (sym (e .is-element .ensures) ∙ c .before .before .if1 .left)))
-    ∙ f .before .loop .inv .0)
+    sym (reading-other _ _ _ _ _ _ (f .find .ensures .0) (rw (e .before .read .ensures) at (sym (e .is-element .ensures) ∙ c .if1 .left)))
+    ∙ f .before .loop .inv .0
 
 returns-2 : tie.Need-returns-2 Inv-loop μ-loop
 returns-2 c =
@@ -98,8 +90,6 @@ read-spec =
     is-element-requires
     add-judge
     judge-requires
-    name-alone-requires
-    judge-requires-2
     returns
     returns-2
     add-at
