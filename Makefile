@@ -68,7 +68,7 @@ uninstall:
 test:
 	.ci/run
 
-bench: $(LIBRARY) target/staticlib/libschedule_calls.a
+bench: $(LIBRARY) target/staticlib/libcalendar_calls.a target/staticlib/libschedule_calls.a
 	cargo run --offline --release --manifest-path tests/Cargo.toml -p bench
 
 clean:

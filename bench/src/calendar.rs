@@ -1,56 +1,102 @@
-//! A minute's date in all six parts, and a date's minute: the library, the second program, and glibc's `gmtime_r` and
-//! `timegm`. The library is asked as a C caller asks it, by a call for each part.
+//! A minute's date in all six parts, and a date's minute. First as a C caller asks for it, by a call for each part, beside
+//! the second program and glibc. Then a whole date in one call, beside the walk year by year, glibc, and the plain Rust
+//! versions of two well-known algorithms, which check nothing.
 
-use crate::measure::{nanoseconds, print_head, print_row};
+use crate::glibc;
+use crate::measure::{in_turn, print_head, print_row, round};
+use crate::plain;
+use ::calendar::{
+    calendar_date, calendar_date_by_walk, calendar_minute, calendar_minute_by_walk, packed, Parts,
+};
 use second::calendar::{date_of, minute_of, LAST_MINUTE};
 use second::random::Random;
-use std::ffi::{c_char, c_int, c_long};
 
 const COUNT: u64 = 100_000;
 
 /// 2024-01-01 00:00, where the run of consecutive minutes starts.
 const RUN_START: u64 = 28_401_120;
 
-/// Year, month, day, hour, minute, weekday.
-type Parts = [u64; 6];
-
 pub fn run() {
     let mut random = Random::new(1);
     let drawn: Vec<u64> = (0..COUNT).map(|_| random.below(LAST_MINUTE + 1)).collect();
     let consecutive: Vec<u64> = (RUN_START..RUN_START + COUNT).collect();
 
-    print_head("calendar", &["second program", "glibc"]);
-    compare("random minutes", &drawn);
-    compare("consecutive minutes", &consecutive);
+    print_head(
+        "calendar, a call for each part",
+        &["second program", "glibc"],
+    );
+    by_parts("random minutes", &drawn);
+    by_parts("consecutive minutes", &consecutive);
+
+    print_head(
+        "calendar, a whole date in one call",
+        &["walk", "glibc", "Hinnant", "Neri, Schneider"],
+    );
+    whole("random minutes", &drawn);
+    whole("consecutive minutes", &consecutive);
+    println!("goals for a date: glibc at least 5, Neri and Schneider at least 0.667");
 }
 
-fn compare(which: &str, minutes: &[u64]) {
+fn by_parts(which: &str, minutes: &[u64]) {
     let dates: Vec<Parts> = minutes.iter().map(|&minute| library_date(minute)).collect();
     for (&minute, &date) in minutes.iter().zip(&dates) {
-        for other in [second_date, glibc_date] {
+        for other in [second_date, glibc::date] {
             assert_eq!(other(minute), date, "minute {minute}");
         }
-        for back in [library_minute, second_minute, glibc_minute] {
+        for back in [library_minute, second_minute, glibc::minute] {
             assert_eq!(back(date), minute, "{date:?}");
         }
     }
 
-    print_row(
-        &format!("{which}: date"),
-        nanoseconds(minutes, library_date),
-        &[
-            nanoseconds(minutes, second_date),
-            nanoseconds(minutes, glibc_date),
-        ],
-    );
-    print_row(
-        &format!("{which}: and back"),
-        nanoseconds(&dates, library_minute),
-        &[
-            nanoseconds(&dates, second_minute),
-            nanoseconds(&dates, glibc_minute),
-        ],
-    );
+    let there = in_turn(&[
+        &|| round(minutes, library_date),
+        &|| round(minutes, second_date),
+        &|| round(minutes, glibc::date),
+    ]);
+    let back = in_turn(&[
+        &|| round(&dates, library_minute),
+        &|| round(&dates, second_minute),
+        &|| round(&dates, glibc::minute),
+    ]);
+    print_row(&format!("{which}: date"), there[0], &there[1..]);
+    print_row(&format!("{which}: and back"), back[0], &back[1..]);
+}
+
+fn whole(which: &str, minutes: &[u64]) {
+    let dates: Vec<Parts> = minutes.iter().map(|&minute| glibc::date(minute)).collect();
+    for (&minute, &date) in minutes.iter().zip(&dates) {
+        for number in [calendar_date, calendar_date_by_walk] {
+            assert_eq!(number(minute), packed(date), "minute {minute}");
+        }
+        for number in [plain::hinnant_date, plain::neri_schneider_date] {
+            assert_eq!(number(minute), packed(date), "minute {minute}");
+        }
+        for back in [
+            direct_minute,
+            walked_minute,
+            plain::hinnant_minute,
+            plain::neri_schneider_minute,
+        ] {
+            assert_eq!(back(date), minute, "{date:?}");
+        }
+    }
+
+    let there = in_turn(&[
+        &|| round(minutes, |minute| calendar_date(minute)),
+        &|| round(minutes, |minute| calendar_date_by_walk(minute)),
+        &|| round(minutes, glibc::broken_down),
+        &|| round(minutes, plain::hinnant_date),
+        &|| round(minutes, plain::neri_schneider_date),
+    ]);
+    let back = in_turn(&[
+        &|| round(&dates, direct_minute),
+        &|| round(&dates, walked_minute),
+        &|| round(&dates, glibc::minute),
+        &|| round(&dates, plain::hinnant_minute),
+        &|| round(&dates, plain::neri_schneider_minute),
+    ]);
+    print_row(&format!("{which}: date"), there[0], &there[1..]);
+    print_row(&format!("{which}: and back"), back[0], &back[1..]);
 }
 
 const OFF: &str = "only minutes of the calendar are measured";
@@ -79,71 +125,10 @@ fn second_minute([year, month, day, hour, minute, _]: Parts) -> u64 {
     minute_of(year, month, day, hour, minute).expect(OFF)
 }
 
-fn glibc_date(minute: u64) -> Parts {
-    let mut tm = Tm::ZERO;
-    let seconds = minute as i64 * 60;
-    // SAFETY: both pointers are to live values of glibc's types.
-    let answer = unsafe { gmtime_r(&seconds, &mut tm) };
-    assert!(!answer.is_null());
-    [
-        tm.tm_year + 1900,
-        tm.tm_mon + 1,
-        tm.tm_mday,
-        tm.tm_hour,
-        tm.tm_min,
-        tm.tm_wday,
-    ]
-    .map(|part| part as u64)
+fn direct_minute([year, month, day, hour, minute, _]: Parts) -> u64 {
+    calendar_minute(year, month, day, hour, minute)
 }
 
-fn glibc_minute([year, month, day, hour, minute, _]: Parts) -> u64 {
-    let mut tm = Tm {
-        tm_year: year as c_int - 1900,
-        tm_mon: month as c_int - 1,
-        tm_mday: day as c_int,
-        tm_hour: hour as c_int,
-        tm_min: minute as c_int,
-        ..Tm::ZERO
-    };
-    // SAFETY: the pointer is to a live value of glibc's type.
-    let seconds = unsafe { timegm(&mut tm) };
-    seconds as u64 / 60
-}
-
-/// `struct tm` of glibc.
-#[repr(C)]
-struct Tm {
-    tm_sec: c_int,
-    tm_min: c_int,
-    tm_hour: c_int,
-    tm_mday: c_int,
-    tm_mon: c_int,
-    tm_year: c_int,
-    tm_wday: c_int,
-    tm_yday: c_int,
-    tm_isdst: c_int,
-    tm_gmtoff: c_long,
-    tm_zone: *const c_char,
-}
-
-impl Tm {
-    const ZERO: Tm = Tm {
-        tm_sec: 0,
-        tm_min: 0,
-        tm_hour: 0,
-        tm_mday: 0,
-        tm_mon: 0,
-        tm_year: 0,
-        tm_wday: 0,
-        tm_yday: 0,
-        tm_isdst: 0,
-        tm_gmtoff: 0,
-        tm_zone: std::ptr::null(),
-    };
-}
-
-// `time_t` is an i64 on the 64-bit machines that glibc knows.
-extern "C" {
-    fn gmtime_r(time: *const i64, result: *mut Tm) -> *mut Tm;
-    fn timegm(tm: *mut Tm) -> i64;
+fn walked_minute([year, month, day, hour, minute, _]: Parts) -> u64 {
+    calendar_minute_by_walk(year, month, day, hour, minute)
 }

@@ -1,7 +1,9 @@
 //! Benchmarks of the library. Without an argument all of them run, with a name that one alone.
 
 mod calendar;
+mod glibc;
 mod measure;
+mod plain;
 mod queue;
 mod schedule;
 mod table;

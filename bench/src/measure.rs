@@ -3,19 +3,32 @@
 use std::hint::black_box;
 use std::time::Instant;
 
-const ROUNDS: usize = 5;
+const ROUNDS: usize = 15;
 
 /// Nanoseconds that `work` takes for one input, in the quickest of the rounds over all inputs. What disturbs a round
 /// only ever makes it slower, so the least is the nearest to the truth.
 pub fn nanoseconds<I: Copy, O>(inputs: &[I], work: impl Fn(I) -> O) -> f64 {
-    let round = |_| {
-        let start = Instant::now();
-        for &input in inputs {
-            black_box(work(black_box(input)));
+    in_turn(&[&|| round(inputs, &work)])[0]
+}
+
+/// The least of each one's rounds, which are run in turn: what disturbs the machine for a while disturbs them all.
+pub fn in_turn(works: &[&dyn Fn() -> f64]) -> Vec<f64> {
+    let mut least = vec![f64::INFINITY; works.len()];
+    for _ in 0..ROUNDS {
+        for (least, round) in least.iter_mut().zip(works) {
+            *least = least.min(round());
         }
-        start.elapsed().as_nanos() as f64 / inputs.len() as f64
-    };
-    (0..ROUNDS).map(round).fold(f64::INFINITY, f64::min)
+    }
+    least
+}
+
+/// One round: nanoseconds for each input.
+pub fn round<I: Copy, O>(inputs: &[I], work: impl Fn(I) -> O) -> f64 {
+    let start = Instant::now();
+    for &input in inputs {
+        black_box(work(black_box(input)));
+    }
+    start.elapsed().as_nanos() as f64 / inputs.len() as f64
 }
 
 /// The table's head. The library is the first column; each of the others has its ratio to it.

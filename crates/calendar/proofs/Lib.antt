@@ -2,6 +2,7 @@ pub mod Tests
 pub mod Spans
 pub mod Years
 pub mod YearStarts
+pub mod DirectDates
 pub mod Dates
 pub mod Minutes
 pub mod Months

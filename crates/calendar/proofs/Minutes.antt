@@ -6,9 +6,10 @@ use mathlib.Core.List.{List, [], _∷_}
 use Prim.Native.Nat.{ℕ, _+_, _-_, _*_, _/_, _%_, _≤_, _<_}
 use native.Mathlib.Omega.{arith}
 use lib.ListN.{getD}
-use borrow.Author.Tests.{le-leb}
+use borrow.Author.Tests.{le-leb, lt-leb}
 use Rattle.calendar.specs.Gregorian.{yearDays, monthDays}
-use Rattle.calendar.specs.Dates.{calendarDays, lastMinute, weekdayOf, yearOf, monthOf, dateAt, dateOf, daysBefore, minuteAt}
+use Rattle.calendar.specs.Dates.{calendarDays, lastMinute, notOnCalendar, weekdayOf, yearOf, monthOf}
+use Rattle.calendar.specs.Dates.{dateAt, noDate, dateOf, daysBefore, minuteAt}
 use Rattle.calendar.specs.Order.{parts, Earlier}
 use Rattle.calendar.proofs.Spans.{Falls, falls-walk, falls-order}
 use Rattle.calendar.proofs.Dates.{OnCalendar, year-falls, month-falls, date-in-month, date-in-year, daysBefore-small}
@@ -53,6 +54,11 @@ minuteAt-dateAt m h = omega (arith, daysBefore-dateAt m h, time-of-day m)
 pub dateOf-on : (m : ℕ) → m ≤ lastMinute → dateOf m ≡ record { refusal = 0; date = dateAt m }
 unfolding dateOf
 dateOf-on m h = rw (le-leb m lastMinute h)
+
+-- and past the calendar there is no date
+pub dateOf-off : (m : ℕ) → lastMinute < m → record { refusal = notOnCalendar; date = noDate } ≡ dateOf m
+unfolding dateOf
+dateOf-off m h = rw (lt-leb m lastMinute h)
 
 -- ---- from a date to its minute
 

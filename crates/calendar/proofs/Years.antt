@@ -4,9 +4,12 @@ use mathlib.Core.Path.{_≡_, refl, sym, ap, _∙_, fun-ext}
 use mathlib.Core.Bool.{Bool, true, false, cond}
 use Prim.Native.Nat.{ℕ, zero, suc, _+_, _-_, _*_, _/_, _%_, _≤_, _<_}
 use native.Mathlib.Omega.{arith}
+use lib.Dec.{ltb, ltb→lt}
+use lib.ListN.{getD}
 use Rattle.calendar.specs.Gregorian.{leap, yearDays, monthTable, monthLength, monthDays}
 use Rattle.calendar.specs.Walk.{span, walk}
 use Rattle.calendar.specs.Dates.{calendarDays}
+use Rattle.calendar.proofs.Tests.{at-each}
 use Rattle.calendar.proofs.Spans.{Falls, Going, going-ends, span-none, span-append, span-mono, span-turn}
 
 -- the cycle: 400 years are 146,097 days
@@ -59,6 +62,14 @@ years-small n h = rw calendar-days at (span-mono yearDays 1970 h)
 pub years-going : (day : ℕ) → day < calendarDays → Going yearDays 1970 8030 day (1970 + day / 146097 * 400) (day % 146097)
 years-going day h =
     record { from = omega arith; sum = omega (arith, after-cycles (day / 146097)); within = rw calendar-days h }
+
+length-small : ℕ → Bool
+unfolding monthTable
+length-small k = ltb (getD monthTable k 0) 32
+
+pub lengths-small : (k : ℕ) → k < 12 → getD monthTable k 0 < 32
+unfolding length-small
+lengths-small k h = ltb→lt _ _ (at-each length-small 12 tt k h)
 
 -- the twelve months are the year, leap or not
 pub monthLength-days : (b : Bool) → span (monthLength b) 1 12 ≡ cond b 366 365

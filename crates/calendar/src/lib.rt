@@ -1,15 +1,20 @@
 // The calendar of paper 01: minute 0 is 1970-01-01 00:00, a Thursday, and the last minute is 9999-12-31 23:59; proleptic
 // Gregorian. `date_of` gives the date of a minute and `minute_of` the minute of a date, for any numbers whatever.
+mod direct;
 pub mod gregorian;
-mod walk;
+pub mod walk;
 
 ghost use mathlib.Core.Path.{_≡_};
-ghost use Rattle.calendar.specs.Dates.{dateOf, exists, minuteOf};
+ghost use mathlib.Core.Bool.{true, _&&_};
+ghost use Prim.Native.Nat.{_-_};
+ghost use lib.Dec.{leb};
+ghost use Rattle.calendar.specs.Gregorian.{yearDays};
+ghost use Rattle.calendar.specs.Walk.{span};
+ghost use Rattle.calendar.specs.Dates.{firstYear, lastYear, notOnCalendar, noDate, dateOf, exists, minuteOf};
+use direct::date_at;
+use direct::days_before_month;
+use direct::days_before_year;
 use gregorian::month_days;
-use walk::days_before_month;
-use walk::days_before_year;
-use walk::month_of;
-use walk::year_of;
 
 const FIRST_YEAR: u64 = 1970;
 
@@ -53,31 +58,28 @@ pub fn date_of(minute: u64) -> DateAnswer
     ensures { λ r. ⌜ r ≡ dateOf minute ⌝ }
 {
     if LAST_MINUTE < minute {
-        let none = Date {
-            year: 0,
-            month: 0,
-            day: 0,
-            hour: 0,
-            minute: 0,
-            weekday: 0,
-        };
-        return DateAnswer {
-            refusal: NOT_ON_CALENDAR,
-            date: none,
-        };
+        return no_date();
     }
-    let day = minute / DAY_MINUTES;
-    let year = year_of(day);
-    let month = month_of(year.at, year.rest);
-    let date = Date {
-        year: year.at,
-        month: month.at,
-        day: month.rest + 1,
-        hour: minute % DAY_MINUTES / 60,
-        minute: minute % 60,
-        weekday: (day + 4) % 7,
-    };
+    let date = date_at(minute);
     DateAnswer { refusal: 0, date }
+}
+
+// The answer for a minute that isn't on the calendar.
+pub(crate) fn no_date() -> DateAnswer
+    ensures { λ r. ⌜ r ≡ record { refusal = notOnCalendar; date = noDate } ⌝ }
+{
+    let date = Date {
+        year: 0,
+        month: 0,
+        day: 0,
+        hour: 0,
+        minute: 0,
+        weekday: 0,
+    };
+    DateAnswer {
+        refusal: NOT_ON_CALENDAR,
+        date,
+    }
 }
 
 // Whether there is such a date, in any year.
@@ -87,19 +89,43 @@ fn is_date(year: u64, month: u64, day: u64, hour: u64, minute: u64) -> bool
     (1 <= day) & (day <= month_days(year, month)) & (hour < 24) & (minute < 60)
 }
 
+// Whether there is such a date, and its year is on the calendar.
+pub(crate) fn on_calendar(year: u64, month: u64, day: u64, hour: u64, minute: u64) -> bool
+    ensures { λ r. ⌜ r ≡ (exists year month day hour minute && leb firstYear year && leb year lastYear) ⌝ }
+{
+    is_date(year, month, day, hour, minute) & (FIRST_YEAR <= year) & (year <= LAST_YEAR)
+}
+
 // The minute of a date.
 pub fn minute_of(year: u64, month: u64, day: u64, hour: u64, minute: u64) -> MinuteAnswer
     ensures { λ r. ⌜ r ≡ minuteOf year month day hour minute ⌝ }
 {
-    if is_date(year, month, day, hour, minute) & (FIRST_YEAR <= year) & (year <= LAST_YEAR) {
-        let days = days_before_year(year) + days_before_month(year, month) + (day - 1);
-        return MinuteAnswer {
-            refusal: 0,
-            minute: days * DAY_MINUTES + hour * 60 + minute,
-        };
+    if on_calendar(year, month, day, hour, minute) {
+        let start = days_before_year(year);
+        return minute_in(start, year, month, day, hour, minute);
     }
     MinuteAnswer {
         refusal: NOT_ON_CALENDAR,
         minute: 0,
+    }
+}
+
+// The minute of a date of the calendar, from the days before its year, however they were counted.
+pub(crate) fn minute_in(
+    start: u64,
+    year: u64,
+    month: u64,
+    day: u64,
+    hour: u64,
+    minute: u64,
+) -> MinuteAnswer
+    requires { ⌜ start ≡ span yearDays 1970 (year - 1970) ⌝ }
+    requires { ⌜ (exists year month day hour minute && leb firstYear year && leb year lastYear) ≡ true ⌝ }
+    ensures { λ r. ⌜ r ≡ minuteOf year month day hour minute ⌝ }
+{
+    let days = start + days_before_month(year, month) + (day - 1);
+    MinuteAnswer {
+        refusal: 0,
+        minute: days * DAY_MINUTES + hour * 60 + minute,
     }
 }

@@ -1,23 +1,64 @@
-// Years and months laid one after the other: where a day falls, and how many days come before one of them.
+// The same dates and minutes by walking year by year and month by month, as the definitions do. Only tests and benchmarks
+// call this; everything else goes the direct way.
 ghost use mathlib.Core.Path.{_≡_};
 ghost use Prim.Native.Nat.{_-_, _≤_, _<_};
 ghost use Rattle.calendar.specs.Gregorian.{yearDays, monthDays};
 ghost use Rattle.calendar.specs.Walk.{span};
-ghost use Rattle.calendar.specs.Dates.{calendarDays, yearOf, monthOf};
+ghost use Rattle.calendar.specs.Dates.{calendarDays, yearOf, monthOf, dateOf, minuteOf};
+use crate::DAY_MINUTES;
+use crate::Date;
+use crate::DateAnswer;
 use crate::FIRST_YEAR;
-use crate::gregorian::is_leap;
+use crate::LAST_MINUTE;
+use crate::MinuteAnswer;
+use crate::NOT_ON_CALENDAR;
+use crate::gregorian::CYCLE_DAYS;
+use crate::gregorian::CYCLE_YEARS;
 use crate::gregorian::month_days;
 use crate::gregorian::year_days;
-
-// The Gregorian cycle: 400 years are always as many days.
-const CYCLE_YEARS: u64 = 400;
-
-const CYCLE_DAYS: u64 = 146_097;
+use crate::minute_in;
+use crate::no_date;
+use crate::on_calendar;
 
 // Where a day falls: the year, or the month, and the days of it that are over.
 pub(crate) struct Place {
     pub(crate) at: u64,
     pub(crate) rest: u64,
+}
+
+// The date of a minute, by the walk.
+pub fn date_by_walk(minute: u64) -> DateAnswer
+    ensures { λ r. ⌜ r ≡ dateOf minute ⌝ }
+{
+    if LAST_MINUTE < minute {
+        return no_date();
+    }
+    let day = minute / DAY_MINUTES;
+    let year = year_of(day);
+    let month = month_of(year.at, year.rest);
+    let date = Date {
+        year: year.at,
+        month: month.at,
+        day: month.rest + 1,
+        hour: minute % DAY_MINUTES / 60,
+        minute: minute % 60,
+        weekday: (day + 4) % 7,
+    };
+    DateAnswer { refusal: 0, date }
+}
+
+// The minute of a date, by the walk.
+pub fn minute_by_walk(year: u64, month: u64, day: u64, hour: u64, minute: u64) -> MinuteAnswer
+    ensures { λ r. ⌜ r ≡ minuteOf year month day hour minute ⌝ }
+{
+    if on_calendar(year, month, day, hour, minute) {
+        let start = days_before_year(year);
+        return minute_in(start, year, month, day, hour, minute);
+    }
+    MinuteAnswer {
+        refusal: NOT_ON_CALENDAR,
+        minute: 0,
+    }
 }
 
 // Whole cycles of 400 years at once, then year by year to the year of a day.
@@ -67,19 +108,4 @@ pub(crate) fn days_before_year(year: u64) -> u64
         at += 1;
     }
     days
-}
-
-// The days of the year before January to December, where it isn't leap.
-const DAYS_BEFORE_MONTH: [u64; 12] = [0, 31, 59, 90, 120, 151, 181, 212, 243, 273, 304, 334];
-
-pub(crate) fn days_before_month(year: u64, month: u64) -> u64
-    requires { ⌜ (1 ≤ month) × (month ≤ 12) ⌝ }
-    ensures { λ r. ⌜ r ≡ span (monthDays year) 1 (month - 1) ⌝ }
-{
-    let days = DAYS_BEFORE_MONTH[(month - 1) as usize];
-    if is_leap(year) & (2 < month) {
-        days + 1
-    } else {
-        days
-    }
 }

@@ -1,45 +1,25 @@
--- `calendar::date_of` meets its contract: the day falls in the year and the month that the two walks find.
+-- `calendar::date_of` meets its contract: off the calendar there is no date, and on it there is.
 -- Assumes nothing.
-use Prim.Native.Nat.{_/_}
-use native.Mathlib.Omega.{arith}
+use mathlib.Core.Path.{_∙_}
+use borrow.Author.Tests.{le-leb}
 use borrow.Author.Needs.{needs}
-use borrow.Author.Tests.{le-leb, lt-leb}
-use Rattle.calendar.specs.Gregorian.{yearDays, monthDays}
-use Rattle.calendar.specs.Dates.{lastMinute, weekdayOf, dateAt, noDate, dateOf}
-use Rattle.calendar.proofs.Spans.{Falls}
-use Rattle.calendar.proofs.Dates.{year-falls, month-falls}
+use Rattle.calendar.specs.Dates.{lastMinute, dateOf}
+use Rattle.calendar.proofs.Minutes.{dateOf-off}
 use Rattle.calendar.proofs.date_of.Statement.{statement}
 use Rattle.calendar.proofs.date_of.Tie as tie
 
+no-date-requires : tie.Need-no-date-requires
+no-date-requires c κs = search needs
+
 returns : tie.Need-returns
-unfolding dateOf dateAt weekdayOf noDate
-returns c = rw (lt-leb _ _ (c .if1 .taken))
+returns c = c .no-date .ensures ∙ dateOf-off _ (c .before .if1 .taken)
 
-year-of-requires : tie.Need-year-of-requires
-year-of-requires c κs = search needs
-
-in-year : (c : tie.After-year-of) → Falls yearDays 1970 8030 (c .before .before .args .minute / 1440) (c .year-of .result)
-in-year c = rw (c .year-of .ensures) (year-falls _ (omega arith))
-
-in-month : (c : tie.After-month-of)
-    → Falls (monthDays (c .before .year-of .result .at)) 1 12 (c .before .year-of .result .rest) (c .month-of .result)
-in-month c = rw (c .month-of .ensures) (month-falls _ _ (in-year (c .before) .inside))
-
-month-of-requires : tie.Need-month-of-requires
-month-of-requires c κs = in-year c .inside
-
-add-t8 : tie.Need-add-t8
-add-t8 c = omega (arith, in-year (c .before .before) .sum, in-month (c .before) .sum)
-
-add-t12 : tie.Need-add-t12
-add-t12 c = search needs
+date-at-requires : tie.Need-date-at-requires
+date-at-requires c κs = search needs
 
 returns-2 : tie.Need-returns-2
-unfolding dateOf dateAt weekdayOf noDate
-returns-2 c =
-    rw (le-leb (c .before .before .before .before .args .minute) lastMinute (c .before .before .before .if1 .left))
-    (simp (c .before .month-of .ensures, c .before .before .year-of .ensures))
+unfolding dateOf
+returns-2 c = rw (le-leb _ lastMinute (c .before .if1 .left), c .date-at .ensures)
 
 pub date-of-spec : {M : Type 1} → statement M
-date-of-spec =
-    tie.close (tie.spec returns year-of-requires month-of-requires add-t8 add-t12 returns-2)
+date-of-spec = tie.close (tie.spec no-date-requires returns date-at-requires returns-2)

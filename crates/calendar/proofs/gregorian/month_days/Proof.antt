@@ -1,8 +1,11 @@
 -- `calendar::gregorian::month_days` meets its contract: each return is a case of the definition.
 -- Assumes nothing.
+use Prim.Native.Nat.{_-_}
+use native.Mathlib.Omega.{arith}
 use borrow.Author.Needs.{needs}
 use borrow.Author.Tests.{le-leb, lt-leb}
 use Rattle.calendar.specs.Gregorian.{monthTable, monthLength, monthDays}
+use Rattle.calendar.proofs.Years.{lengths-small}
 use Rattle.calendar.proofs.gregorian.month_days.Statement.{statement}
 use Rattle.calendar.proofs.gregorian.month_days.Tie as tie
 
@@ -23,11 +26,12 @@ returns-3 c =
     simp (le-leb 1 _ (c .before .before .before .if1 .left), le-leb _ 12 (c .before .before .if2 .left))
     (rw (← (c .before .is-leap .ensures), c .if3 .taken))
 
-mul-result : tie.Need-mul-result
-mul-result c = search needs
-
 array-read-result : tie.Need-array-read-result
 array-read-result c = search needs
+
+cast-result : tie.Need-cast-result
+unfolding monthTable
+cast-result c = omega (arith, lengths-small (c .before .before .before .before .args .month - 1) (omega arith))
 
 returns-4 : tie.Need-returns-4
 unfolding monthDays monthLength monthTable
@@ -38,4 +42,4 @@ returns-4 c =
 pub month-days-spec : {M : Type 1} → statement M
 month-days-spec =
     tie.close
-    (tie.spec returns returns-2 is-leap-requires returns-3 mul-result array-read-result returns-4)
+    (tie.spec returns returns-2 is-leap-requires returns-3 array-read-result cast-result returns-4)

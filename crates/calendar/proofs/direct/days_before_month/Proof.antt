@@ -1,11 +1,11 @@
--- `calendar::walk::days_before_month` meets its contract, by the law of the table (`month-start`).
+-- `calendar::direct::days_before_month` meets its contract, by the law of the table (`month-start`).
 -- Assumes nothing.
 use Prim.Native.Nat.{_-_}
 use native.Mathlib.Omega.{arith}
 use borrow.Author.Needs.{needs}
 use Rattle.calendar.proofs.Dates.{monthStarts, startOf, starts-small, month-start}
-use Rattle.calendar.proofs.walk.days_before_month.Statement.{statement}
-use Rattle.calendar.proofs.walk.days_before_month.Tie as tie
+use Rattle.calendar.proofs.direct.days_before_month.Statement.{statement}
+use Rattle.calendar.proofs.direct.days_before_month.Tie as tie
 
 sub-days : tie.Need-sub-days
 sub-days c = search needs
@@ -15,6 +15,10 @@ mul-days c = search needs
 
 array-read-days : tie.Need-array-read-days
 array-read-days c = search needs
+
+cast-days : tie.Need-cast-days
+unfolding monthStarts
+cast-days c = omega (arith, starts-small (c .args .month - 1) (omega arith))
 
 is-leap-requires : tie.Need-is-leap-requires
 is-leap-requires c κs = search needs
@@ -38,4 +42,4 @@ returns-2 c =
 pub days-before-month-spec : {M : Type 1} → statement M
 days-before-month-spec =
     tie.close
-    (tie.spec sub-days mul-days array-read-days is-leap-requires add-result returns returns-2)
+    (tie.spec sub-days mul-days array-read-days cast-days is-leap-requires add-result returns returns-2)

@@ -1,0 +1,13 @@
+-- `calendar::no_date` meets its contract: it is the definition.
+-- Assumes nothing.
+use mathlib.Core.Path.{refl}
+use Rattle.calendar.specs.Dates.{noDate}
+use Rattle.calendar.proofs.no_date.Statement.{statement}
+use Rattle.calendar.proofs.no_date.Tie as tie
+
+returns : tie.Need-returns
+unfolding noDate
+returns c = refl
+
+pub no-date-spec : {M : Type 1} → statement M
+no-date-spec = tie.close (tie.spec returns)
