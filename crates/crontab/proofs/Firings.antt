@@ -1,6 +1,6 @@
--- The gap for tables: a next firing that is told is at most 4,206,240 minutes ahead.
+-- The gap for tables: a next firing that is told is at most 21,036,960 minutes ahead.
 -- Assumes nothing.
-use mathlib.Core.Path.{_≡_, refl}
+use mathlib.Core.Path.{_≡_}
 use mathlib.Core.List.{List}
 use Prim.Native.Nat.{ℕ, _+_, _≤_}
 use native.Mathlib.Omega.{arith}
@@ -18,8 +18,6 @@ use Rattle.crontab.specs.declared.EntryAnswer.{EntryAnswer}
 use Rattle.crontab.specs.declared.EntryAnswer.the-variants as entry
 use Rattle.crontab.specs.declared.NextAnswer.the-variants as firing
 use Rattle.crontab.specs.Answers.{entryOf, nextFound, nextAt, nextIn, nextOf}
-use Rattle.crontab.proofs.Proper.{WholeTimes}
-use Rattle.crontab.proofs.Theorems.{entry-sound}
 
 -- only a firing that is found is told as one
 found : (x : Next) (n : ℕ) → nextFound x ≡ firing.At n → x ≡ next.At n
@@ -29,19 +27,19 @@ found next.Never n e = absurd (let z : _≡_ {A = ℕ} 0 1 = cc in omega arith)
 found next.PastEnd n e = absurd (let z : _≡_ {A = ℕ} 0 1 = cc in omega arith)
 found next.NotOnCalendar n e = absurd (let z : _≡_ {A = ℕ} 0 1 = cc in omega arith)
 
-at-within : (when : When) → WholeTimes when → (m n : ℕ) → nextAt when m ≡ firing.At n → n ≤ m + gap
+at-within : (when : When) (m n : ℕ) → nextAt when m ≡ firing.At n → n ≤ m + gap
 unfolding nextAt
-at-within Reboot w m n e = go (leb m lastMinute) e
+at-within Reboot m n e = go (leb m lastMinute) e
   where
     go : (t : Bool) → cond t (firing.Refused 15) (firing.Refused 14) ≡ firing.At n → n ≤ m + gap
     go true e = absurd (let z : _≡_ {A = ℕ} 0 1 = cc in omega arith)
     go false e = absurd (let z : _≡_ {A = ℕ} 0 1 = cc in omega arith)
-at-within (Timed times) w m n e = next-within times w m n (found (nextAfter times m) n e)
+at-within (Timed times) m n e = next-within times m n (found (nextAfter times m) n e)
 
 pub next-in-gap : (s : List ℕ) (i m n : ℕ) → nextOf s i m ≡ firing.At n → n ≤ m + gap
 unfolding nextOf nextIn
-next-in-gap s i m n e = go (entryOf s i) refl e
+next-in-gap s i m n e = go (entryOf s i) e
   where
-    go : (x : EntryAnswer) → entryOf s i ≡ x → nextIn x m ≡ firing.At n → n ≤ m + gap
-    go (entry.Found f) p e = at-within (f .when) (entry-sound s i p .times) m n e
-    go (entry.Refused number) p e = absurd (let z : _≡_ {A = ℕ} 0 1 = cc in omega arith)
+    go : (x : EntryAnswer) → nextIn x m ≡ firing.At n → n ≤ m + gap
+    go (entry.Found f) e = at-within (f .when) m n e
+    go (entry.Refused number) e = absurd (let z : _≡_ {A = ℕ} 0 1 = cc in omega arith)

@@ -1,26 +1,21 @@
--- What holds of each line that is read. An entry's command is some bytes of the line, and its unrestricted day fields have every
--- value; a setting's name and value are parts of the line; a refusal has its number in paper 01.
+-- What holds of each line that is read. An entry's command is some bytes of the line; a setting's name and value are parts of it; a
+-- refusal has its number in paper 01.
 -- Assumes nothing.
-use mathlib.Core.Path.{_≡_, refl, sym, ap, _∙_}
-use mathlib.Core.Bool.{Bool, true, false, cond, not, _||_, true≢false}
-use mathlib.Core.List.{List, [], _∷_}
+use mathlib.Core.Path.{_≡_, refl}
+use mathlib.Core.Bool.{Bool, true, false, cond}
+use mathlib.Core.List.{List}
 use Prim.Native.Nat.{ℕ, _+_, _≤_, _<_}
 use native.Mathlib.Omega.{arith}
 use lib.ListN.{length, drop, getD, length-drop}
-use lib.Dec.{T, eqb, leb, ltb}
-use borrow.Author.Tests.{ltb-true, ltb-false, eqb-true, ne-eqb}
-use Rattle.calendar.proofs.Tests.{at-each}
+use lib.Dec.{eqb, leb, ltb}
+use borrow.Author.Tests.{ltb-true, ltb-false, eqb-true}
 use Rattle.field.specs.declared.Limits.{Limits}
 use Rattle.field.specs.declared.Answer.{Answer}
 use Rattle.field.specs.declared.Answer.the-variants as answer
 use Rattle.field.specs.Limits.{minuteLimits, hourLimits, dayLimits, monthLimits, weekdayLimits}
 use Rattle.field.specs.Fields.{readField}
-use Rattle.field.proofs.Theorems.{day-full, weekday-full}
-use Rattle.schedule.specs.declared.Schedule.{Schedule}
-use Rattle.schedule.specs.Sets.{hasBit}
-use Rattle.schedule.specs.Gap.{Whole}
 use Rattle.crontab.specs.declared.When.{When}
-use Rattle.crontab.specs.declared.When.the-variants.{Reboot, Timed}
+use Rattle.crontab.specs.declared.When.the-variants.{Timed}
 use Rattle.crontab.specs.declared.class.Class.the-variants.{Blank, Solid, Name, Not}
 use Rattle.crontab.specs.declared.Entry.{Entry}
 use Rattle.crontab.specs.declared.Part.{Part}
@@ -36,24 +31,19 @@ use Rattle.crontab.specs.declared.line.Line.{Line}
 use Rattle.crontab.specs.declared.line.Line.the-variants as line
 use Rattle.crontab.specs.Limits.{maxLine}
 use Rattle.crontab.specs.Bytes.{isQuote, skipped, trimmed, between}
-use Rattle.crontab.specs.Words.{same, Meaning, meanings, meaningIn, wordOf}
+use Rattle.crontab.specs.Words.{wordOf}
 use Rattle.crontab.specs.Entries.{withCommand, afterWord, wordEntry}
 use Rattle.crontab.specs.Times.{answered, fieldAt, afterMinute, afterHour, afterDay, afterMonth, afterWeekday, timedEntry}
 use Rattle.crontab.specs.Assignments.{quotedAt, nonEmpty, nameAt, closed, valueAt, afterEquals, afterName, settingLine}
 use Rattle.crontab.specs.Lines.{startsFields, contentFrom, contentOf, readLine}
 use Rattle.crontab.proofs.Runs.{skipped-from, skipped-within, byte-within, trimmed-le}
 use Rattle.field.proofs.Refusals.{FieldNumber, field-number}
-use Rattle.crontab.proofs.Times.{fieldBytes, field-values}
-
-abbrev pub WholeTimes : When → Type 0
-WholeTimes Reboot = Unit {0}
-WholeTimes (Timed s) = Whole s
+use Rattle.crontab.proofs.Times.{fieldBytes}
 
 -- an entry of n bytes
 pub record Sound (n : ℕ) (e : Entry) : Type 0 where
   pub some : e .start < e .end
   pub within : e .end ≤ n
-  pub times : WholeTimes (e .when)
 
 -- a part of n bytes
 pub record Inside (n : ℕ) (p : Part) : Type 0 where
@@ -72,75 +62,7 @@ Proper n (line.Setting name value) = (n ≤ maxLine) × (Inside n name) × (Insi
 Proper n (line.Entry e) = (n ≤ maxLine) × (Sound n e)
 Proper n (line.Refused fault) = Numbered (fault .number)
 
--- ---- an `@` word
-
-is-true : (b : Bool) → T b → b ≡ true
-is-true true t = refl
-is-true false t = absurd t
-
--- the sets of `*`
-all-days : (d : ℕ) → 1 ≤ d → d ≤ 31 → hasBit 4294967294 d ≡ true
-unfolding hasBit
-all-days d h k =
-    rw (ne-eqb d 0 (λ e. omega (arith, e))) at (is-true (test d) (at-each test 32 tt d (omega arith)))
-  where
-    test : ℕ → Bool
-    test d = eqb d 0 || hasBit 4294967294 d
-
-all-weekdays : (w : ℕ) → w < 7 → hasBit 127 w ≡ true
-unfolding hasBit
-all-weekdays w h = is-true (hasBit 127 w) (at-each (hasBit 127) 7 tt w h)
-
-AllWhole : List Meaning → Type 0
-AllWhole [] = Unit {0}
-AllWhole (m ∷ ms) = WholeTimes (m .when) × AllWhole ms
-
-some-days : (s : Schedule) → s .restricted .days ≡ true → s .weekdays ≡ 127 → Whole s
-some-days s d w = record { days = λ e. absurd (true≢false (sym d ∙ e)); weekdays = λ e. rw w all-weekdays }
-
-every-day : (s : Schedule) → s .days ≡ 4294967294 → s .weekdays ≡ 127 → Whole s
-every-day s d w = record { days = λ e. rw d all-days; weekdays = λ e. rw w all-weekdays }
-
-all-whole : AllWhole meanings
-unfolding AllWhole meanings
-all-whole = (
-  tt,
-  (
-    some-days _ refl refl,
-    (
-      some-days _ refl refl,
-      (
-        some-days _ refl refl,
-        (
-          record { days = λ e. all-days; weekdays = λ e. absurd (true≢false e) },
-          (every-day _ refl refl, (every-day _ refl refl, (every-day _ refl refl, tt))),
-        ),
-      ),
-    ),
-  ),
-)
-
-meaning-whole : (ms : List Meaning) (s : List ℕ) {when : When} → AllWhole ms → meaningIn ms s ≡ Known when → WholeTimes when
-unfolding AllWhole meaningIn
-meaning-whole [] s a q = absurd (let z : _≡_ {A = ℕ} 0 1 = cc in omega arith)
-meaning-whole (m ∷ ms) s {when} a q = go (same s (m .word)) q (meaning-whole ms s (a .1))
-  where
-    go : (t : Bool) → cond t (Known (m .when)) (meaningIn ms s) ≡ Known when → (meaningIn ms s ≡ Known when → WholeTimes when) → WholeTimes when
-    go true q later = let p : when ≡ m .when = cc in rw p (a .0)
-    go false q later = later q
-
 -- ---- the fields
-
-not-false : (b : Bool) → not b ≡ false → b ≡ true
-not-false true e = refl
-not-false false e = absurd (true≢false e)
-
-plain-star : (l : Limits) (s : List ℕ) (at : ℕ) {v : Values} → fieldAt l s at ≡ Read v → not (v .star) ≡ false
-    → readField l (at + 1) (fieldBytes s at) ≡ answer.Values (v .set) true
-plain-star l s at {v} p k = field-values l s at p ∙ ap (λ b. answer.Values (v .set) b) (not-false (v .star) k)
-
-WholeDays : Values → Type 0
-WholeDays v = not (v .star) ≡ false → (d : ℕ) → 1 ≤ d → d ≤ 31 → hasBit (v .set) d ≡ true
 
 abbrev FieldFault : Field → Type 0
 FieldFault (Read v) = Unit {0}
@@ -167,42 +89,38 @@ refused-number {f = Refused g} {fault} h e = let p : fault ≡ g = cc in rw p h
 -- ---- a line that is short enough
 
 module _ (s : List ℕ) (short : length s ≤ maxLine) where
-  command-proper : (when : When) (start : ℕ) → WholeTimes when → Proper (length s) (withCommand s when start)
+  command-proper : (when : When) (start : ℕ) → Proper (length s) (withCommand s when start)
   unfolding withCommand
-  command-proper when start w = go (ltb start (length s)) refl
+  command-proper when start = go (ltb start (length s)) refl
     where
       go : (t : Bool) → ltb start (length s) ≡ t
           → Proper (length s) (cond t (line.Entry (record { when = when; start = start; end = length s })) (line.Refused (record { number = 9; column = length s + 1 })))
-      go true p = (short, record { some = ltb-true _ _ p; within = omega arith; times = w })
+      go true p = (short, record { some = ltb-true _ _ p; within = omega arith })
       go false p = record { from = omega arith; to = omega arith }
 
   word-proper : (at : ℕ) → Proper (length s) (wordEntry s at)
   unfolding wordEntry afterWord wordOf
-  word-proper at = go (wordOf (between s at (skipped Solid s at))) refl
+  word-proper at = go (wordOf (between s at (skipped Solid s at)))
     where
-      go : (w : Word) → wordOf (between s at (skipped Solid s at)) ≡ w → Proper (length s) (afterWord s at (skipped Blank s (skipped Solid s at)) w)
-      go Unknown p = record { from = omega arith; to = omega arith }
-      go (Known when) p = command-proper when _ (meaning-whole meanings _ all-whole p)
+      go : (w : Word) → Proper (length s) (afterWord s at (skipped Blank s (skipped Solid s at)) w)
+      go Unknown = record { from = omega arith; to = omega arith }
+      go (Known when) = command-proper when _
 
-  weekday-proper : (at : ℕ) (minute hour day month : Values) (f : Field) → fieldAt weekdayLimits s at ≡ f → WholeDays day
+  weekday-proper : (at : ℕ) (minute hour day month : Values) (f : Field) → fieldAt weekdayLimits s at ≡ f
       → Proper (length s) (afterWeekday s minute hour day month f)
-  unfolding afterWeekday WholeDays
-  weekday-proper at minute hour day month (Refused fault) p d = refused-number (field-fault weekdayLimits s at) p
-  weekday-proper at minute hour day month (Read weekday) p d =
-      command-proper (Timed _) (weekday .next)
-      (record { days = d; weekdays = λ k w h. weekday-full _ _ (plain-star weekdayLimits s at p k) w h })
+  unfolding afterWeekday
+  weekday-proper at minute hour day month (Refused fault) p = refused-number (field-fault weekdayLimits s at) p
+  weekday-proper at minute hour day month (Read weekday) p = command-proper (Timed _) (weekday .next)
 
-  month-proper : (at : ℕ) (minute hour day : Values) (f : Field) → fieldAt monthLimits s at ≡ f → WholeDays day
-      → Proper (length s) (afterMonth s minute hour day f)
+  month-proper : (at : ℕ) (minute hour day : Values) (f : Field) → fieldAt monthLimits s at ≡ f → Proper (length s) (afterMonth s minute hour day f)
   unfolding afterMonth
-  month-proper at minute hour day (Refused fault) p d = refused-number (field-fault monthLimits s at) p
-  month-proper at minute hour day (Read month) p d = weekday-proper (month .next) minute hour day month _ refl d
+  month-proper at minute hour day (Refused fault) p = refused-number (field-fault monthLimits s at) p
+  month-proper at minute hour day (Read month) p = weekday-proper (month .next) minute hour day month _ refl
 
   day-proper : (at : ℕ) (minute hour : Values) (f : Field) → fieldAt dayLimits s at ≡ f → Proper (length s) (afterDay s minute hour f)
-  unfolding afterDay WholeDays
+  unfolding afterDay
   day-proper at minute hour (Refused fault) p = refused-number (field-fault dayLimits s at) p
-  day-proper at minute hour (Read day) p =
-      month-proper (day .next) minute hour day _ refl (λ k. day-full _ _ (plain-star dayLimits s at p k))
+  day-proper at minute hour (Read day) p = month-proper (day .next) minute hour day _ refl
 
   hour-proper : (at : ℕ) (minute : Values) (f : Field) → fieldAt hourLimits s at ≡ f → Proper (length s) (afterHour s minute f)
   unfolding afterHour

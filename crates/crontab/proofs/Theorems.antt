@@ -77,7 +77,7 @@ module _ (n : ℕ) where
   placed-sound at m e h p =
       let a = p .some in
       let b = p .within in
-      record { some = omega arith; within = omega arith; times = p .times }
+      record { some = omega arith; within = omega arith }
 
   entry-added : (t : Table) (e : Entry) → t .refusal ≡ 0 → t .count < maxEntries → SoundTable n t → Sound n e → SoundTable n (withEntry t e)
   unfolding withEntry

@@ -13,7 +13,7 @@ use Rattle.field.specs.Elements.{isElement, ranging, numberOr, endOf, upperOf, 
 use Rattle.field.specs.Names.{lower, alike, named, monthNames, weekdayNames, nameOf, isSunday}
 use Rattle.field.specs.Values.{everyStep, valuesOf, bitOf, including}
 use Rattle.field.specs.Judgement.{outside, judged}
-use Rattle.field.specs.Fields.{areElements, judgedAll, listField, starElement, isEmpty, starField, readField}
+use Rattle.field.specs.Fields.{areElements, judgedAll, listField, starElement, starField, readField}
 use Rattle.schedule.specs.Sets.{withBit, put}
 use Rattle.crontab.specs.Bytes.{isBlank, isQuote, ofClass, run, skipped, trimmed, between}
 use Rattle.crontab.specs.Assignments.{quotedAt, nonEmpty, nameAt, closed, valueAt, afterEquals, afterName, settingLine}
@@ -30,7 +30,7 @@ fault s = let t = tableOf s in t .refusal ∷ t .line ∷ t .column ∷ t .count
 -- `0 0 * * mon-fri`
 weekdays5 : Schedule
 weekdays5 =
-    record { minutes = 1; hours = 1; days = 4294967294; months = 8190; weekdays = 62; restricted = record { days = false; weekdays = true } }
+    record { minutes = 1; hours = 1; days = 4294967294; months = 8190; weekdays = 62; stars = record { days = true; weekdays = false } }
 
 examples :
     -- `60 0 * * * x`: 6 at the first field
@@ -90,5 +90,5 @@ examples :
     × (fault (42 ∷ 32 ∷ 42 ∷ 32 ∷ 42 ∷ 32 ∷ 42 ∷ 32 ∷ 42 ∷ 32 ∷ 97 ∷ 10 ∷ 64 ∷ 114 ∷ 101 ∷ 98 ∷ 111 ∷ 111 ∷ 116 ∷ 32 ∷ 98 ∷ 10 ∷ 48 ∷ 32 ∷ 42 ∷ 32 ∷ 42 ∷ 32 ∷ 42 ∷ 32 ∷ 42 ∷ 32 ∷ 99 ∷ []) ≡ 0 ∷ 0 ∷ 0 ∷ 3 ∷ [])
     -- the first bad line, and no entry
     × (fault (64 ∷ 114 ∷ 101 ∷ 98 ∷ 111 ∷ 111 ∷ 116 ∷ 32 ∷ 98 ∷ 10 ∷ 10 ∷ 54 ∷ 48 ∷ 32 ∷ 42 ∷ 32 ∷ 42 ∷ 32 ∷ 42 ∷ 32 ∷ 42 ∷ 32 ∷ 97 ∷ 10 ∷ 65 ∷ 10 ∷ []) ≡ 6 ∷ 3 ∷ 1 ∷ 0 ∷ [])
-unfolding weekdays5 until has before after afterEach split isDigit areDigits valueFrom numberOf isElement ranging numberOr endOf upperOf afterDash elementOf lower alike named monthNames weekdayNames nameOf isSunday everyStep valuesOf bitOf put including outside judged areElements judgedAll listField starElement isEmpty starField readField withBit isBlank isQuote ofClass run skipped trimmed between quotedAt nonEmpty nameAt closed valueAt afterEquals afterName settingLine same meanings meaningIn wordOf withCommand afterWord wordEntry answered fieldAt afterWeekday afterMonth afterDay afterHour afterMinute timedEntry startsFields contentFrom contentOf readLine onto linesOf noEntries refusedTable emptyTable withEntry afterLine withLines tableOf fault
+unfolding weekdays5 until has before after afterEach split isDigit areDigits valueFrom numberOf isElement ranging numberOr endOf upperOf afterDash elementOf lower alike named monthNames weekdayNames nameOf isSunday everyStep valuesOf bitOf put including outside judged areElements judgedAll listField starElement starField readField withBit isBlank isQuote ofClass run skipped trimmed between quotedAt nonEmpty nameAt closed valueAt afterEquals afterName settingLine same meanings meaningIn wordOf withCommand afterWord wordEntry answered fieldAt afterWeekday afterMonth afterDay afterHour afterMinute timedEntry startsFields contentFrom contentOf readLine onto linesOf noEntries refusedTable emptyTable withEntry afterLine withLines tableOf fault
 examples = (refl, refl, refl, refl, refl, refl, refl, refl, refl, refl, refl, refl, refl, refl, refl, refl, refl, refl, refl, refl, refl, refl, refl, refl, refl, refl, refl, refl, refl, refl, refl, refl, refl, refl, refl, refl, refl)

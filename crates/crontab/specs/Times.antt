@@ -45,7 +45,7 @@ scheduleOf minute hour day month weekday =
       days = day .set;
       months = month .set;
       weekdays = weekday .set;
-      restricted = record { days = not (day .star); weekdays = not (weekday .star) };
+      stars = record { days = day .star; weekdays = weekday .star };
     }
 
 unfoldable pub afterWeekday : List ℕ → Values → Values → Values → Values → Field → Line

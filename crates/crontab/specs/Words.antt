@@ -22,27 +22,27 @@ same (b ∷ s) [] = false
 -- `0 0 1 1 *`
 abbrev pub yearly : Schedule
 yearly =
-    record { minutes = 1; hours = 1; days = 2; months = 2; weekdays = 127; restricted = record { days = true; weekdays = false } }
+    record { minutes = 1; hours = 1; days = 2; months = 2; weekdays = 127; stars = record { days = false; weekdays = true } }
 
 -- `0 0 1 * *`
 abbrev pub monthly : Schedule
 monthly =
-    record { minutes = 1; hours = 1; days = 2; months = 8190; weekdays = 127; restricted = record { days = true; weekdays = false } }
+    record { minutes = 1; hours = 1; days = 2; months = 8190; weekdays = 127; stars = record { days = false; weekdays = true } }
 
 -- `0 0 * * 0`
 abbrev pub weekly : Schedule
 weekly =
-    record { minutes = 1; hours = 1; days = 4294967294; months = 8190; weekdays = 1; restricted = record { days = false; weekdays = true } }
+    record { minutes = 1; hours = 1; days = 4294967294; months = 8190; weekdays = 1; stars = record { days = true; weekdays = false } }
 
 -- `0 0 * * *`
 abbrev pub daily : Schedule
 daily =
-    record { minutes = 1; hours = 1; days = 4294967294; months = 8190; weekdays = 127; restricted = record { days = false; weekdays = false } }
+    record { minutes = 1; hours = 1; days = 4294967294; months = 8190; weekdays = 127; stars = record { days = true; weekdays = true } }
 
 -- `0 * * * *`
 abbrev pub hourly : Schedule
 hourly =
-    record { minutes = 1; hours = 16777215; days = 4294967294; months = 8190; weekdays = 127; restricted = record { days = false; weekdays = false } }
+    record { minutes = 1; hours = 16777215; days = 4294967294; months = 8190; weekdays = 127; stars = record { days = true; weekdays = true } }
 
 -- ---- the words
 

@@ -13,8 +13,8 @@ use crate::line::Fault;
 use crate::line::Line;
 use field::Answer;
 use field::Limits;
-use schedule::Restricted;
 use schedule::Schedule;
+use schedule::Stars;
 
 // What a field of a line says, and where the line goes on after its blanks.
 pub(crate) struct Values {
@@ -85,9 +85,9 @@ pub(crate) fn read(s: &[u8], at: usize) -> Line
         days: day.set as u32,
         months: month.set as u16,
         weekdays: weekday.set as u8,
-        restricted: Restricted {
-            days: !day.star,
-            weekdays: !weekday.star,
+        stars: Stars {
+            days: day.star,
+            weekdays: weekday.star,
         },
     };
     line::with_command(s, When::Timed(schedule), weekday.next)

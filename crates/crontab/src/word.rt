@@ -4,8 +4,8 @@ ghost use mathlib.Core.Bool.{cond};
 ghost use Rattle.crontab.specs.Words.{same, wordOf};
 ghost use Rattle.crontab.specs.declared.word.Word.the-variants.{Known};
 use crate::When;
-use schedule::Restricted;
 use schedule::Schedule;
+use schedule::Stars;
 
 // What a word means, or that there is no such word.
 pub(crate) enum Word {
@@ -29,9 +29,9 @@ const YEARLY: Schedule = Schedule {
     days: 2,
     months: 2,
     weekdays: EVERY_WEEKDAY,
-    restricted: Restricted {
-        days: true,
-        weekdays: false,
+    stars: Stars {
+        days: false,
+        weekdays: true,
     },
 };
 
@@ -42,9 +42,9 @@ const MONTHLY: Schedule = Schedule {
     days: 2,
     months: EVERY_MONTH,
     weekdays: EVERY_WEEKDAY,
-    restricted: Restricted {
-        days: true,
-        weekdays: false,
+    stars: Stars {
+        days: false,
+        weekdays: true,
     },
 };
 
@@ -55,9 +55,9 @@ const WEEKLY: Schedule = Schedule {
     days: EVERY_DAY,
     months: EVERY_MONTH,
     weekdays: 1,
-    restricted: Restricted {
-        days: false,
-        weekdays: true,
+    stars: Stars {
+        days: true,
+        weekdays: false,
     },
 };
 
@@ -68,9 +68,9 @@ const DAILY: Schedule = Schedule {
     days: EVERY_DAY,
     months: EVERY_MONTH,
     weekdays: EVERY_WEEKDAY,
-    restricted: Restricted {
-        days: false,
-        weekdays: false,
+    stars: Stars {
+        days: true,
+        weekdays: true,
     },
 };
 
@@ -81,9 +81,9 @@ const HOURLY: Schedule = Schedule {
     days: EVERY_DAY,
     months: EVERY_MONTH,
     weekdays: EVERY_WEEKDAY,
-    restricted: Restricted {
-        days: false,
-        weekdays: false,
+    stars: Stars {
+        days: true,
+        weekdays: true,
     },
 };
 

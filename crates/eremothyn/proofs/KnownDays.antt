@@ -1,4 +1,4 @@
--- Paper 01's known days hold.
+-- Paper 01's known days hold, and the gap is exactly reached.
 -- Assumes nothing.
 use mathlib.Core.Path.{_≡_, refl, ap, _∙_}
 use mathlib.Core.List.{List, [], _∷_}
@@ -9,7 +9,7 @@ use Rattle.calendar.specs.Dates.{weekdayOf, yearOf, monthOf, dateAt, noDate, da
 use Rattle.schedule.specs.declared.Schedule.{Schedule}
 use Rattle.schedule.specs.Sets.{withBit, put}
 use Rattle.schedule.specs.Next.{nextAfter}
-use Rattle.schedule.specs.Examples.{leapDay, fridays, february30, mondays30, lastDay}
+use Rattle.schedule.specs.Examples.{leapDay, fridays, february30, mondays30, lastDay, leapSundays}
 use Rattle.schedule.proofs.KnownDays as firings
 use Rattle.field.specs.Parts.{until, has, before, after, afterEach, split}
 use Rattle.field.specs.Numbers.{isDigit, areDigits, valueFrom, numberOf}
@@ -17,9 +17,10 @@ use Rattle.field.specs.Elements.{isElement, ranging, numberOr, endOf, upperOf, 
 use Rattle.field.specs.Names.{lower, alike, named, monthNames, weekdayNames, nameOf, isSunday}
 use Rattle.field.specs.Values.{everyStep, valuesOf, bitOf, including}
 use Rattle.field.specs.Judgement.{outside, judged}
-use Rattle.field.specs.Fields.{areElements, judgedAll, listField, starElement, isEmpty, starField, readField}
+use Rattle.field.specs.Fields.{areElements, judgedAll, listField, starElement, starField, readField}
 use Rattle.crontab.specs.declared.When.the-variants.{Timed}
 use Rattle.crontab.specs.declared.EntryAnswer.the-variants.{Found}
+use Rattle.crontab.specs.declared.NextAnswer.the-variants.{At}
 use Rattle.crontab.specs.Bytes.{isBlank, isQuote, ofClass, run, skipped, trimmed, between}
 use Rattle.crontab.specs.Entries.{withCommand}
 use Rattle.crontab.specs.Times.{answered, fieldAt, afterWeekday, afterMonth, afterDay, afterHour, afterMinute, timedEntry}
@@ -39,26 +40,27 @@ firing : (s : List ℕ) (times : Schedule) (start end m : ℕ) → reads s times
 unfolding nextOf nextIn nextAt
 firing s times start end m e = rw e
 
--- the tables of KnownDays, in its order
+-- the tables of KnownDays, in its order, and the ticket's
 entries :
     reads (48 ∷ 32 ∷ 48 ∷ 32 ∷ 50 ∷ 57 ∷ 32 ∷ 50 ∷ 32 ∷ 42 ∷ 32 ∷ 97 ∷ []) leapDay 11 12
     × reads (51 ∷ 48 ∷ 32 ∷ 52 ∷ 32 ∷ 49 ∷ 44 ∷ 49 ∷ 53 ∷ 32 ∷ 42 ∷ 32 ∷ 53 ∷ 32 ∷ 97 ∷ []) fridays 14 15
     × reads (48 ∷ 32 ∷ 48 ∷ 32 ∷ 51 ∷ 48 ∷ 32 ∷ 50 ∷ 32 ∷ 42 ∷ 32 ∷ 97 ∷ []) february30 11 12
     × reads (48 ∷ 32 ∷ 48 ∷ 32 ∷ 51 ∷ 48 ∷ 32 ∷ 50 ∷ 32 ∷ 49 ∷ 32 ∷ 97 ∷ []) mondays30 11 12
     × reads (48 ∷ 32 ∷ 48 ∷ 32 ∷ 51 ∷ 49 ∷ 32 ∷ 49 ∷ 50 ∷ 32 ∷ 42 ∷ 32 ∷ 97 ∷ []) lastDay 12 13
-unfolding leapDay fridays february30 mondays30 lastDay isBlank isQuote ofClass run skipped trimmed between withCommand answered
+    × reads (48 ∷ 32 ∷ 48 ∷ 32 ∷ 50 ∷ 57 ∷ 32 ∷ 50 ∷ 32 ∷ 42 ∷ 47 ∷ 55 ∷ 32 ∷ 97 ∷ []) leapSundays 13 14
+unfolding leapDay fridays february30 mondays30 lastDay leapSundays isBlank isQuote ofClass run skipped trimmed between withCommand answered
     fieldAt afterWeekday afterMonth afterDay afterHour afterMinute timedEntry startsFields contentFrom contentOf readLine onto
     linesOf noEntries refusedTable emptyTable withEntry afterLine withLines tableOf entryIn entryOf until has before after
     afterEach split isDigit areDigits valueFrom numberOf isElement ranging numberOr endOf upperOf afterDash elementOf lower
     alike named monthNames weekdayNames nameOf isSunday everyStep valuesOf bitOf put including outside judged areElements
-    judgedAll listField starElement isEmpty starField readField withBit
-entries = (refl, refl, refl, refl, refl)
+    judgedAll listField starElement starField readField withBit
+entries = (refl, refl, refl, refl, refl, refl)
 
 pub known-days : KnownDays
 unfolding nextFound dateOf dateAt yearOf monthOf weekdayOf walk yearDays leap monthDays monthLength monthTable noDate minuteOf
     minuteAt daysBefore exists span until has before after afterEach split isDigit areDigits valueFrom numberOf isElement
     ranging numberOr endOf upperOf afterDash elementOf lower alike named monthNames weekdayNames nameOf isSunday everyStep
-    valuesOf bitOf put including outside judged areElements judgedAll listField starElement isEmpty starField readField withBit
+    valuesOf bitOf put including outside judged areElements judgedAll listField starElement starField readField withBit
     alone paired pieces byteOf bytesOf upToPercent restOf shellLine inputOf
 known-days = (
   refl,
@@ -80,3 +82,8 @@ known-days = (
   refl,
   refl,
 )
+
+-- `0 0 29 2 */7` after 62,147,520 (2088-02-29): 83,184,480 (2128-02-29)
+pub gap-reached : nextOf (48 ∷ 32 ∷ 48 ∷ 32 ∷ 50 ∷ 57 ∷ 32 ∷ 50 ∷ 32 ∷ 42 ∷ 47 ∷ 55 ∷ 32 ∷ 97 ∷ []) 0 62147520 ≡ At 83184480
+unfolding nextFound
+gap-reached = firing _ leapSundays 13 14 _ (entries .5) ∙ ap nextFound firings.gap-reached

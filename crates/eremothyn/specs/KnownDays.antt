@@ -3,7 +3,7 @@
 -- `0` 48, a backslash 92, `a` 97. It is proved in proofs/KnownDays.
 -- Assumes nothing.
 use mathlib.Core.Path.{_≡_}
-use mathlib.Core.Bool.{false}
+use mathlib.Core.Bool.{true, false}
 use mathlib.Core.List.{[], _∷_}
 use Rattle.calendar.specs.Dates.{dateOf, minuteOf}
 use Rattle.field.specs.declared.Answer.the-variants.{Values, Refused}
@@ -34,8 +34,8 @@ KnownDays =
     × (nextOf (48 ∷ 32 ∷ 48 ∷ 32 ∷ 51 ∷ 48 ∷ 32 ∷ 50 ∷ 32 ∷ 49 ∷ 32 ∷ 97 ∷ []) 0 0 ≡ At 46080)
     -- `0 0 31 12 *` after 4,223,371,679, past the end: 17
     × (nextOf (48 ∷ 32 ∷ 48 ∷ 32 ∷ 51 ∷ 49 ∷ 32 ∷ 49 ∷ 50 ∷ 32 ∷ 42 ∷ 32 ∷ 97 ∷ []) 0 4223371679 ≡ PastEnd)
-    -- `*/2` as month: 1, 3, 5, 7, 9, 11
-    × (readField monthLimits 1 (42 ∷ 47 ∷ 50 ∷ []) ≡ Values 2730 false)
+    -- `*/2` as month: 1, 3, 5, 7, 9, 11; it begins with a star
+    × (readField monthLimits 1 (42 ∷ 47 ∷ 50 ∷ []) ≡ Values 2730 true)
     -- `10-10` is 10; `10-9` is 7; `5/2` and `*,5` are 5
     × (readField minuteLimits 1 (49 ∷ 48 ∷ 45 ∷ 49 ∷ 48 ∷ []) ≡ Values 1024 false)
     × (readField minuteLimits 1 (49 ∷ 48 ∷ 45 ∷ 57 ∷ []) ≡ Refused 7 1)

@@ -19,7 +19,7 @@ use Rattle.field.specs.Parts.{split}
 use Rattle.field.specs.Elements.{elementOf}
 use Rattle.field.specs.Values.{valuesOf, including}
 use Rattle.field.specs.Judgement.{outside, judged}
-use Rattle.field.specs.Fields.{areElements, judgedAll, listField, starElement, isEmpty, starField, readField}
+use Rattle.field.specs.Fields.{areElements, judgedAll, listField, starElement, starField, readField}
 use Rattle.field.specs.Members.{isStar, elementsOf}
 
 pub record Accepted (l : Limits) (low high step : ℕ) : Type 0 where
@@ -118,9 +118,9 @@ module _ (l : Limits) where
   read-values column (b ∷ s) {set} {star} q = go (eqb b 42) (areElements (l .names) (split 44 (b ∷ s))) q
     where
       go : (t u : Bool)
-          → cond t (judged l column (Values 0 (isEmpty s)) (starElement l s)) (cond u (judgedAll l column (Values 0 false) (split 44 (b ∷ s))) (Refused 5 column))
+          → cond t (judged l column (Values 0 true) (starElement l s)) (cond u (judgedAll l column (Values 0 false) (split 44 (b ∷ s))) (Refused 5 column))
           ≡ Values set star
-          → Gathered l 0 (t && isEmpty s) (cond t (starElement l s ∷ []) (map (elementOf (l .names)) (split 44 (b ∷ s)))) set star
-      go true u q = judged-values column 0 (isEmpty s) (starElement l s) q
+          → Gathered l 0 t (cond t (starElement l s ∷ []) (map (elementOf (l .names)) (split 44 (b ∷ s)))) set star
+      go true u q = judged-values column 0 true (starElement l s) q
       go false true q = all-values column (split 44 (b ∷ s)) 0 false q
       go false false q = absurd (clash q)

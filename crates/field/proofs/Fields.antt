@@ -5,7 +5,7 @@ use mathlib.Core.List.{List, [], _∷_}
 use Prim.Native.Nat.{ℕ, suc, _-_, _<_}
 use native.Mathlib.Omega.{arith}
 use lib.ListN.{length, take, drop, getD}
-use lib.Dec.{eqb}
+use mathlib.Core.Bool.{true}
 use lib.Seq.{take-all}
 use borrow.Author.Tests.{eq-eqb, ne-eqb}
 use Rattle.field.specs.declared.Limits.{Limits}
@@ -15,7 +15,7 @@ use Rattle.field.specs.declared.element.Element.the-variants.{Range, Mal
 use Rattle.field.specs.Numbers.{numberOf}
 use Rattle.field.specs.Elements.{ranging}
 use Rattle.field.specs.Judgement.{judged}
-use Rattle.field.specs.Fields.{listField, starElement, isEmpty, starField, readField}
+use Rattle.field.specs.Fields.{listField, starElement, starField, readField}
 
 -- all but the first byte
 abbrev rest : List ℕ → List ℕ
@@ -23,11 +23,6 @@ rest s = take (length s - 1) (drop 1 s)
 
 rest-cons : (b : ℕ) (s : List ℕ) → rest (b ∷ s) ≡ s
 rest-cons b s = take-all (suc (length s) - 1) s (omega arith)
-
-single : (s : List ℕ) → eqb (suc (length s)) 1 ≡ isEmpty s
-unfolding isEmpty
-single [] = refl
-single (b ∷ s) = ne-eqb (suc (suc (length s))) 1 (λ e. omega (arith, e))
 
 module _ (l : Limits) where
   pub star-alone : (s : List ℕ) → length s ≡ 0 → starElement l s ≡ Range (l .first) (l .last) 1
@@ -51,10 +46,10 @@ module _ (l : Limits) (column : ℕ) where
   read-empty [] e = refl
   read-empty (b ∷ s) e = absurd (omega arith)
 
-  pub read-star : (s : List ℕ) → 0 < length s → getD s 0 0 ≡ 42 → readField l column s ≡ judged l column (Values 0 (eqb (length s) 1)) (starElement l (rest s))
+  pub read-star : (s : List ℕ) → 0 < length s → getD s 0 0 ≡ 42 → readField l column s ≡ judged l column (Values 0 true) (starElement l (rest s))
   unfolding readField starField
   read-star [] h e = absurd (omega arith)
-  read-star (b ∷ s) h e = rw (eq-eqb b 42 e, rest-cons b s, single s)
+  read-star (b ∷ s) h e = rw (eq-eqb b 42 e, rest-cons b s)
 
   pub read-list : (s : List ℕ) → 0 < length s → (getD s 0 0 ≡ 42 → ⊥) → readField l column s ≡ listField l column s
   unfolding readField

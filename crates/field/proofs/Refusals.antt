@@ -15,7 +15,7 @@ use Rattle.field.specs.Parts.{split}
 use Rattle.field.specs.Elements.{elementOf}
 use Rattle.field.specs.Values.{valuesOf, including}
 use Rattle.field.specs.Judgement.{outside, judged}
-use Rattle.field.specs.Fields.{areElements, judgedAll, listField, starElement, isEmpty, starField, readField}
+use Rattle.field.specs.Fields.{areElements, judgedAll, listField, starElement, starField, readField}
 
 abbrev pub FieldNumber : Answer → Type 0
 FieldNumber (Values set star) = Unit {0}
@@ -46,7 +46,7 @@ module _ (l : Limits) where
   field-number column (b ∷ s) = go (eqb b 42) (areElements (l .names) (split 44 (b ∷ s)))
     where
       go : (t u : Bool)
-          → FieldNumber (cond t (judged l column (Values 0 (isEmpty s)) (starElement l s)) (cond u (judgedAll l column (Values 0 false) (split 44 (b ∷ s))) (Refused 5 column)))
-      go true u = judged-number column (Values 0 (isEmpty s)) (starElement l s) tt
+          → FieldNumber (cond t (judged l column (Values 0 true) (starElement l s)) (cond u (judgedAll l column (Values 0 false) (split 44 (b ∷ s))) (Refused 5 column)))
+      go true u = judged-number column (Values 0 true) (starElement l s) tt
       go false true = all-number column (Values 0 false) (split 44 (b ∷ s)) tt
       go false false = omega arith

@@ -21,7 +21,7 @@ use Rattle.field.specs.declared.element.Element.{Element}
 use Rattle.field.specs.declared.element.Element.the-variants.{Range, Malformed}
 use Rattle.field.specs.Values.{valuesOf, bitOf, including}
 use Rattle.field.specs.Limits.{minuteLimits, hourLimits, dayLimits, monthLimits, weekdayLimits}
-use Rattle.field.specs.Fields.{isEmpty, starElement, readField}
+use Rattle.field.specs.Fields.{starElement, readField}
 use Rattle.field.specs.Members.{isIn, contains, isStar, elementsOf, elementBits, bitsOf}
 use Rattle.field.proofs.Steps.{bit-other}
 use Rattle.field.proofs.Accepted.{Each, withElements, read-values}
@@ -115,34 +115,21 @@ map-in f v (u ∷ vs) e = go (eqb u v) refl e (λ k. map-in f v vs k)
     go false q e later = rw (later e) (or-true (eqb (f u) (f v)))
 
 module _ (l : Limits) (column : ℕ) where
-  -- the flag says just that the field is `*`
+  -- the flag says just that the field begins with `*`
   pub star-flag : (s : List ℕ) {set : ℕ} {star : Bool} → readField l column s ≡ Values set star → star ≡ isStar s
   star-flag s q = read-values l column s q .flag
 
-  star-only : (s : List ℕ) → isStar s ≡ true → s ≡ 42 ∷ []
-  unfolding isStar isEmpty
-  star-only [] e = absurd (false≢true e)
-  star-only (b ∷ []) e = rw (eqb-true b 42 (and-eq-true-iff (eqb b 42) true .0 e .0))
-  star-only (b ∷ c ∷ s) e = absurd (false≢true (and-eq-true-iff (eqb b 42) false .0 e .1))
-
-  pub star-exact : (s : List ℕ) {set : ℕ} → readField l column s ≡ Values set true → s ≡ 42 ∷ []
-  star-exact s q = star-only s (sym (star-flag s q))
-
-  -- every value of the limits
-  pub star-full : (s : List ℕ) {set : ℕ} → readField l column s ≡ Values set true
+  -- a plain `*` has every value of the limits
+  pub star-full : {set : ℕ} {star : Bool} → readField l column (42 ∷ []) ≡ Values set star
       → (v : ℕ) → l .first ≤ v → v ≤ l .last → bitOf (l .names) v < 64 → hasBit set (bitOf (l .names) v) ≡ true
   unfolding elementsOf starElement bitsOf elementBits contains
-  star-full s {set} q v h k b =
-      let e : readField l column (42 ∷ []) ≡ Values set true = rw (← star-exact s q) q in
+  star-full e v h k b =
       set-members (bitOf (l .names) v) b l column (42 ∷ []) e
       ∙ map-in (bitOf (l .names)) v (valuesOf (l .first) (l .last) 1)
       (values-members (l .first) (l .last) 1 v (omega arith) (omega arith)
       ∙ rw (le-leb (l .first) v h, le-leb v (l .last) k, mod-one (v - l .first)))
 
 -- ---- the five fields
-
-same-bit : (names : Names) (v : ℕ) → v < 7 → bitOf names v ≡ v
-same-bit names v h = sym (bit-other names v (λ e. omega (arith, e)))
 
 pub minute-fits : (column : ℕ) (s : List ℕ) {set : ℕ} {star : Bool} → readField minuteLimits column s ≡ Values set star → set < 2 ^ 60
 unfolding bitOf
@@ -170,13 +157,3 @@ weekday-bit v h = go (eqb v 7) refl
 
 pub weekday-fits : (column : ℕ) (s : List ℕ) {set : ℕ} {star : Bool} → readField weekdayLimits column s ≡ Values set star → set < 2 ^ 7
 weekday-fits = set-fits weekdayLimits 7 weekday-bit
-
--- the day fields, whose flags count
-pub day-full : (column : ℕ) (s : List ℕ) {set : ℕ} → readField dayLimits column s ≡ Values set true → (v : ℕ) → 1 ≤ v → v ≤ 31 → hasBit set v ≡ true
-unfolding bitOf
-day-full column s q v h k = star-full dayLimits column s q v h k (omega arith)
-
-pub weekday-full : (column : ℕ) (s : List ℕ) {set : ℕ} → readField weekdayLimits column s ≡ Values set true → (v : ℕ) → v < 7 → hasBit set v ≡ true
-weekday-full column s q v h =
-    let e = same-bit Weekdays v h in
-    rw e at (star-full weekdayLimits column s q v (omega arith) (omega arith) (rw e (omega arith)))

@@ -15,19 +15,19 @@ use Rattle.field.specs.Names.{lower, alike, monthNames, weekdayNames, na
 use Rattle.field.specs.Values.{everyStep, valuesOf, bitOf, including}
 use Rattle.field.specs.Limits.{minuteLimits, hourLimits, dayLimits, monthLimits, weekdayLimits}
 use Rattle.field.specs.Judgement.{outside, judged}
-use Rattle.field.specs.Fields.{areElements, judgedAll, listField, starElement, isEmpty, starField, readField}
+use Rattle.field.specs.Fields.{areElements, judgedAll, listField, starElement, starField, readField}
 
 -- the field of a line's first column
 read : Limits → List ℕ → Answer
 read l s = readField l 1 s
 
 examples :
-    -- `*/2` as month: 1, 3, 5, 7, 9, 11
-    (read monthLimits (42 ∷ 47 ∷ 50 ∷ []) ≡ Values 2730 false)
+    -- `*/2` as month: 1, 3, 5, 7, 9, 11, and it begins with a star
+    (read monthLimits (42 ∷ 47 ∷ 50 ∷ []) ≡ Values 2730 true)
     -- `5-7` as weekday: Friday, Saturday, Sunday
     × (read weekdayLimits (53 ∷ 45 ∷ 55 ∷ []) ≡ Values 97 false)
     -- `*/7` as weekday: 0 and 7, both Sunday
-    × (read weekdayLimits (42 ∷ 47 ∷ 55 ∷ []) ≡ Values 1 false)
+    × (read weekdayLimits (42 ∷ 47 ∷ 55 ∷ []) ≡ Values 1 true)
     -- `*` as weekday: each of the seven, and a star
     × (read weekdayLimits (42 ∷ []) ≡ Values 127 true)
     -- `10-10` is 10
@@ -67,7 +67,7 @@ examples :
     × (read minuteLimits (54 ∷ 49 ∷ 45 ∷ 54 ∷ 48 ∷ 47 ∷ 48 ∷ []) ≡ Refused 6 1)
     × (read minuteLimits (49 ∷ 48 ∷ 45 ∷ 57 ∷ 47 ∷ 48 ∷ []) ≡ Refused 7 1)
     × (read minuteLimits (55 ∷ 48 ∷ 44 ∷ 49 ∷ 48 ∷ 45 ∷ 57 ∷ []) ≡ Refused 6 1)
-unfolding read readField judged judgedAll areElements listField starField starElement isEmpty isElement ranging elementOf numberOr endOf upperOf isSunday afterDash split afterEach until has before after numberOf areDigits isDigit valueFrom nameOf named alike lower monthNames weekdayNames outside including put bitOf valuesOf everyStep withBit
+unfolding read readField judged judgedAll areElements listField starField starElement isElement ranging elementOf numberOr endOf upperOf isSunday afterDash split afterEach until has before after numberOf areDigits isDigit valueFrom nameOf named alike lower monthNames weekdayNames outside including put bitOf valuesOf everyStep withBit
 examples = (refl, refl, refl, refl, refl, refl, refl, refl, refl, refl, refl, refl, refl, refl, refl, refl, refl, refl, refl, refl, refl, refl, refl, refl, refl, refl, refl, refl)
 
 -- Ticket 2026-01: names wherever numbers stand.
@@ -96,7 +96,7 @@ names :
     × (read weekdayLimits (49 ∷ 45 ∷ 53 ∷ 47 ∷ 109 ∷ 111 ∷ 110 ∷ []) ≡ Refused 5 1)
     × (read weekdayLimits (106 ∷ 97 ∷ 110 ∷ []) ≡ Refused 5 1)
     × (read monthLimits (49 ∷ 45 ∷ 115 ∷ 117 ∷ 110 ∷ []) ≡ Refused 5 1)
-unfolding read readField judged judgedAll areElements listField starField starElement isEmpty isElement ranging elementOf numberOr endOf upperOf isSunday afterDash split afterEach until has before after numberOf areDigits isDigit valueFrom nameOf named alike lower monthNames weekdayNames outside including put bitOf valuesOf everyStep withBit
+unfolding read readField judged judgedAll areElements listField starField starElement isElement ranging elementOf numberOr endOf upperOf isSunday afterDash split afterEach until has before after numberOf areDigits isDigit valueFrom nameOf named alike lower monthNames weekdayNames outside including put bitOf valuesOf everyStep withBit
 names = (refl, refl, refl, refl, refl, refl, refl, refl, refl, refl, refl, refl, refl, refl, refl, refl, refl, refl, refl)
 
 -- each name alone is the one value that it names

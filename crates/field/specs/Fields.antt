@@ -44,12 +44,8 @@ unfoldable pub starElement : Limits → List ℕ → Element
 starElement l [] = Range (l .first) (l .last) 1
 starElement l (b ∷ s) = cond (eqb b slash) (ranging (Value (l .first)) (Value (l .last)) (numberOf s)) Malformed
 
-unfoldable pub isEmpty : List ℕ → Bool
-isEmpty [] = true
-isEmpty (b ∷ s) = false
-
 unfoldable pub starField : Limits → ℕ → List ℕ → Answer
-starField l column s = judged l column (Values 0 (isEmpty s)) (starElement l s)
+starField l column s = judged l column (Values 0 true) (starElement l s)
 
 -- ---- any bytes as a field
 

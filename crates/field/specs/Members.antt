@@ -12,7 +12,7 @@ use Rattle.field.specs.declared.element.Element.the-variants.{Range, Mal
 use Rattle.field.specs.Parts.{split}
 use Rattle.field.specs.Elements.{elementOf}
 use Rattle.field.specs.Values.{valuesOf, bitOf}
-use Rattle.field.specs.Fields.{comma, asterisk, starElement, isEmpty}
+use Rattle.field.specs.Fields.{comma, asterisk, starElement}
 
 unfoldable pub isIn : ℕ → List ℕ → Bool
 isIn n [] = false
@@ -22,10 +22,10 @@ isIn n (v ∷ vs) = eqb v n || isIn n vs
 unfoldable pub contains : ℕ → ℕ → ℕ → ℕ → Bool
 contains low high step v = leb low v && (leb v high && eqb ((v - low) % step) 0)
 
--- exactly `*`
+-- begins with `*`
 unfoldable pub isStar : List ℕ → Bool
 isStar [] = false
-isStar (b ∷ s) = eqb b asterisk && isEmpty s
+isStar (b ∷ s) = eqb b asterisk
 
 -- the elements of a field, whatever its form
 unfoldable pub elementsOf : Limits → List ℕ → List Element

@@ -36,7 +36,7 @@ pub struct Limits {
 
 // What a field means.
 pub enum Answer {
-    // Bit n of the set stands for the value n; `star` says whether the field is exactly `*`.
+    // Bit n of the set stands for the value n; `star` says whether the field begins with `*`.
     Values { set: u64, star: bool },
     Refused { number: u8, column: u64 },
 }
@@ -104,9 +104,9 @@ pub fn read(s: &[u8], column: u32, limits: Limits) -> Answer
         };
     }
     if s[0] == b'*' {
-        let star = s.len() == 1;
         let element = after_star(&s[1..], limits);
-        return values::judge(limits, column, Answer::Values { set: 0, star }, element);
+        let start = Answer::Values { set: 0, star: true };
+        return values::judge(limits, column, start, element);
     }
     list::read(s, column, limits)
 }

@@ -9,7 +9,7 @@
 --   minute t, go on with any second list of this kind"
 --       `first` and `second` are any lists of calls, `t` is any number, and `Follows` starts from `fresh jobs`. The calls of the
 --       first list are as they like: refused or not, in any order, at any minute.
---   "it announces t+1, t+2 and on, one by one and no other, up to minute t + 4,206,240 + N - 1, which must be on the calendar"
+--   "it announces t+1, t+2 and on, one by one and no other, up to minute t + 21,036,960 + N - 1, which must be on the calendar"
 --   "After each of these, and before the next is announced, come one or more requests that aren't refused."
 --       `Paced (t + 1) (span jobs gap) true (unrefused jobs second)`. Requests may also come before the first announcement.
 --   "Refused calls may stand anywhere in it and don't count."

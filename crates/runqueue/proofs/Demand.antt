@@ -1,7 +1,6 @@
--- The third demand holds: fifo's theorem of fairness, with the reader's promise that free day fields have every value and the
--- schedule's gap.
+-- The third demand holds: fifo's theorem of fairness, with the schedule's gap.
 -- Assumes nothing.
-use mathlib.Core.Path.{_≡_, refl, subst}
+use mathlib.Core.Path.{_≡_, refl}
 use mathlib.Core.Bool.{true, false, true≢false}
 use mathlib.Core.List.{List}
 use Prim.Native.Nat.{ℕ, _+_, _≤_, _<_}
@@ -12,14 +11,13 @@ use Rattle.calendar.specs.Dates.{lastMinute, cycleMinutes}
 use Rattle.schedule.specs.declared.Schedule.{Schedule}
 use Rattle.schedule.specs.Match.{matches}
 use Rattle.schedule.specs.Next.{canFire}
-use Rattle.schedule.specs.Gap.{gap, Whole}
+use Rattle.schedule.specs.Gap.{gap}
 use Rattle.schedule.proofs.Search.{from-some}
 use Rattle.schedule.proofs.Gap.{fires-within}
 use Rattle.crontab.specs.declared.When.{When}
 use Rattle.crontab.specs.declared.When.the-variants.{Reboot, Timed}
 use Rattle.crontab.specs.Tables.{tableOf}
 use Rattle.crontab.specs.Answers.{firesAt}
-use Rattle.crontab.proofs.Proper.{WholeTimes}
 use Rattle.crontab.proofs.Theorems.{table-sound}
 use Rattle.fifo.specs.Layout.{limit}
 use Rattle.fifo.specs.Fairness.{Recurs}
@@ -40,14 +38,11 @@ recurs : (table : List ℕ) (e : ℕ) → CanFire table e → Recurs (jobsIn tab
 unfolding jobsOf isBoot firesAt whenOf
 recurs table e f = go (whenOf (tableOf table) e) refl (f .timed) (f .matched)
   where
-    whole : {s : Schedule} → whenOf (tableOf table) e ≡ Timed s → Whole s
-    whole p = subst WholeTimes p (table-sound table .each e (f .entry) .times)
-
     go : (w : When) → whenOf (tableOf table) e ≡ w → isBoot w ≡ false → firesAt w (f .minute) ≡ true
         → (t : ℕ) → t + gap ≤ lastMinute → (m : ℕ) × (t < m) × (m ≤ t + gap) × (firesAt (whenOf (tableOf table) e) m ≡ true)
     go Reboot p b m t h = absurd (true≢false b)
     go (Timed s) p b m t h =
-        let (n, u, v, x) = fires-within s (whole p) (fires s (f .minute) (f .cycle) m) t h in
+        let (n, u, v, x) = fires-within s (fires s (f .minute) (f .cycle) m) t h in
         (n, u, v, rw p x)
 
 few : (table : List ℕ) → jobsIn table .count < limit

@@ -4,7 +4,7 @@
 -- calendar ends with its last minute, and the gap is the schedule's. That the claims hold is proved in proofs/Demand.
 --   "a table of N entries and a time-based entry in it that some minute of the cycle matches"
 --       `e < jobs .count`, `jobs .boot e ≡ false`, and a minute below 210,379,680 that matches.
---   "up to minute t + 4,206,240 + N - 1, which must be on the calendar"
+--   "up to minute t + 21,036,960 + N - 1, which must be on the calendar"
 --       `t + span jobs gap ≤ lastMinute`.
 -- Assumes nothing.
 use mathlib.Core.Path.{_≡_}

@@ -16,10 +16,10 @@ use Rattle.schedule.specs.Match.{matchesDate, matches, matchesOn, matche
 use Rattle.schedule.specs.Search.{from}
 use Rattle.schedule.specs.Days.{someDay}
 use Rattle.schedule.specs.Next.{canFire, firingAfter, nextAfter}
-use Rattle.schedule.specs.Gap.{gapDays, gap, Whole}
+use Rattle.schedule.specs.Gap.{gapDays, gap}
 use Rattle.schedule.proofs.Search.{from-least, from-some, some-from}
 use Rattle.schedule.proofs.Recurrence.{Within}
-use Rattle.schedule.proofs.Possible.{within-40-years, within-gap, matching-some}
+use Rattle.schedule.proofs.Possible.{within-gap, matching-some}
 
 -- a minute matches by its day and its time of day
 pub matches-parts : (s : Schedule) (n : ℕ) → matches s n ≡ (matchesOn s (n / 1440) && matchesAt s (n % 1440))
@@ -69,7 +69,7 @@ some-fires : (s : Schedule) → someTime s ≡ true → someDay s ≡ true → c
 unfolding canFire someTime
 some-fires s a b =
     let (t, _, h, m) = some-from (matchesAt s) 1440 0 (omega arith) (ltb-true _ _ a) in
-    let (d, _, k, c) = within-40-years s b 0 (omega arith) in
+    let (d, _, k, c) = within-gap s b 0 (omega arith) in
     lt-ltb _ _ (from-some (matches s) cycleMinutes 0 (d * 1440 + t) (omega arith) (omega arith) (parts-match s d t h c m))
 
 pub can-fire : (s : Schedule) → canFire s ≡ (ltb (from (matchesAt s) 1440 0) 1440 && someDay s)
@@ -81,20 +81,19 @@ can-fire s =
 
 -- ---- the gap
 
--- A schedule whose free day fields have every value, and that some minute of the cycle matches, has a matching minute in
--- each window of `gap` minutes on the calendar.
-pub fires-within : (s : Schedule) → Whole s → canFire s ≡ true
+-- A schedule that some minute of the cycle matches has a matching minute in each window of `gap` minutes on the calendar.
+pub fires-within : (s : Schedule) → canFire s ≡ true
     → (t : ℕ) → t + gap ≤ lastMinute → (n : ℕ) × (t < n) × (n ≤ t + gap) × (matches s n ≡ true)
 unfolding someTime
-fires-within s whole fires =
+fires-within s fires =
     let p = fires-some s fires in
     let (time, _, h, m) = some-from (matchesAt s) 1440 0 (omega arith) (ltb-true _ _ (p .0)) in
-    minutes-within s gapDays time (within-gap s whole (p .1)) h m
+    minutes-within s gapDays time (within-gap s (p .1)) h m
 
 -- a firing that is found is at most that far ahead
-pub next-within : (s : Schedule) → Whole s → (t n : ℕ) → nextAfter s t ≡ At n → n ≤ t + gap
+pub next-within : (s : Schedule) (t n : ℕ) → nextAfter s t ≡ At n → n ≤ t + gap
 unfolding nextAfter firingAfter
-next-within s whole t n e = go (leb t lastMinute) (canFire s) (leb k lastMinute) refl refl refl e
+next-within s t n e = go (leb t lastMinute) (canFire s) (leb k lastMinute) refl refl refl e
   where
     k : ℕ
     k = from (matches s) (lastMinute + 1) (t + 1)
@@ -104,7 +103,7 @@ next-within s whole t n e = go (leb t lastMinute) (canFire s) (leb k lastMinute)
         elim (decLe (t + gap) lastMinute) [
           | no i ↦ omega (arith, lt-of-not-le i)
           | yes i ↦
-              let (m, u, v, w) = fires-within s whole f t i in
+              let (m, u, v, w) = fires-within s f t i in
               elim (decLe k m) [
                 | yes j ↦ omega arith
                 | no j ↦ absurd (true≢false (sym w ∙ from-least (matches s) (lastMinute + 1) (t + 1) (omega arith) .none m (omega arith) (lt-of-not-le j)))

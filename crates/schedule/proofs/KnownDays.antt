@@ -1,5 +1,5 @@
--- The next firings among paper 01's known days, by the definitions that the promises cite. The gap's number is exactly reached
--- by the first: `0 0 29 2 *` is silent from 2096-02-29 to 2104-02-29.
+-- The next firings among paper 01's known days, by the definitions that the promises cite, and that the gap's number is exactly
+-- reached: `0 0 29 2 */7` is silent from 2088-02-29 to 2128-02-29.
 -- Assumes nothing.
 use mathlib.Core.Path.{_≡_, refl, sym, ap, _∙_}
 use mathlib.Core.Bool.{Bool, true, false, _&&_}
@@ -15,12 +15,12 @@ use Rattle.calendar.proofs.Months.{lengthOf}
 use Rattle.schedule.specs.declared.Schedule.{Schedule}
 use Rattle.schedule.specs.declared.Next.the-variants.{At, Never, PastEnd}
 use Rattle.schedule.specs.Sets.{hasBit}
-use Rattle.schedule.specs.Match.{eitherMay, byDayRule, matchesDay, matchesTime, matches, matchesOn, matchesAt}
+use Rattle.schedule.specs.Match.{bothMust, byDayRule, matchesDay, matchesTime, matches, matchesOn, matchesAt}
 use Rattle.schedule.specs.Search.{leastOf, from}
 use Rattle.schedule.specs.Days.{matchesIn, hasDate, someDay}
 use Rattle.schedule.specs.Next.{firingAfter, nextAfter}
 use Rattle.schedule.specs.Gap.{gap}
-use Rattle.schedule.specs.Examples.{leapDay, fridays, february30, mondays30, lastDay}
+use Rattle.schedule.specs.Examples.{leapDay, fridays, february30, mondays30, lastDay, leapSundays}
 use Rattle.schedule.proofs.Search.{from-past}
 use Rattle.schedule.proofs.Gap.{can-fire}
 use Rattle.schedule.proofs.Quick.{monthsFrom, dayFrom, quick, quick-right}
@@ -30,9 +30,10 @@ use Rattle.schedule.proofs.Quick.{monthsFrom, dayFrom, quick, quick-rig
 unfoldable pub ever : Schedule → Bool
 ever s = ltb (from (matchesAt s) 1440 0) 1440 && someDay s
 
+-- 500 months are more than 40 years
 unfoldable pub firesAt : Schedule → ℕ → ℕ → Bool
 firesAt s m n =
-    ever s && (ltb m lastMinute && (ltb ((m + 1) / 1440 + 1) calendarDays && (ltb (dayFrom s 100 ((m + 1) / 1440 + 1)) calendarDays && eqb (quick s 100 m) n)))
+    ever s && (ltb m lastMinute && (ltb ((m + 1) / 1440 + 1) calendarDays && (ltb (dayFrom s 500 ((m + 1) / 1440 + 1)) calendarDays && eqb (quick s 500 m) n)))
 
 T-true : (b : Bool) → T b → b ≡ true
 T-true true t = refl
@@ -44,11 +45,11 @@ fires s m n t =
     let e = and-yes (ltb (from (matchesAt s) 1440 0) 1440 && someDay s) _ t in
     let a = and-yes (ltb m lastMinute) _ (e .1) in
     let b = and-yes (ltb ((m + 1) / 1440 + 1) calendarDays) _ (a .1) in
-    let c = and-yes (ltb (dayFrom s 100 ((m + 1) / 1440 + 1)) calendarDays) _ (b .1) in
+    let c = and-yes (ltb (dayFrom s 500 ((m + 1) / 1440 + 1)) calendarDays) _ (b .1) in
     let time = and-yes (ltb (from (matchesAt s) 1440 0) 1440) (someDay s) (e .0) in
     let h : m < lastMinute = ltb→lt _ _ (a .0) in
     rw (le-leb m lastMinute (omega arith), can-fire s, T-true (ltb (from (matchesAt s) 1440 0) 1440 && someDay s) (e .0))
-    (quick-right s 100 m h (ltb→lt _ _ (b .0)) (ltb→lt _ _ (c .0)) (ltb→lt _ _ (time .0)) ∙ ap At (eqb→eq _ _ (c .1)))
+    (quick-right s 500 m h (ltb→lt _ _ (b .0)) (ltb→lt _ _ (c .0)) (ltb→lt _ _ (time .0)) ∙ ap At (eqb→eq _ _ (c .1)))
 
 pub never : (s : Schedule) (m : ℕ) → m ≤ lastMinute → ever s ≡ false → nextAfter s m ≡ Never
 unfolding ever nextAfter
@@ -68,7 +69,7 @@ pub known-days :
     × (nextAfter february30 0 ≡ Never)
     × (nextAfter mondays30 0 ≡ At 46080)
     × (nextAfter lastDay 4223371679 ≡ PastEnd)
-unfolding firesAt ever leapDay fridays february30 mondays30 lastDay quick dayFrom monthsFrom from leastOf someDay hasDate matchesOn matchesAt matchesIn matchesDay matchesTime byDayRule eitherMay hasBit dateAt yearOf monthOf weekdayOf walk yearDays leap monthDays monthLength monthTable lengthOf
+unfolding firesAt ever leapDay fridays february30 mondays30 lastDay quick dayFrom monthsFrom from leastOf someDay hasDate matchesOn matchesAt matchesIn matchesDay matchesTime byDayRule bothMust hasBit dateAt yearOf monthOf weekdayOf walk yearDays leap monthDays monthLength monthTable lengthOf
 known-days = (
   fires leapDay 66355200 70561440 tt,
   fires fridays 0 270 tt,
@@ -79,8 +80,9 @@ known-days = (
 )
 
 -- the gap, and that it is reached
-pub gap-is : gap ≡ 4206240
+pub gap-is : gap ≡ 21036960
 gap-is = refl
 
-pub gap-reached : nextAfter leapDay 66355200 ≡ At (66355200 + gap)
-gap-reached = known-days .0
+pub gap-reached : nextAfter leapSundays 62147520 ≡ At (62147520 + gap)
+unfolding firesAt ever leapSundays quick dayFrom monthsFrom from leastOf someDay hasDate matchesOn matchesAt matchesIn matchesDay matchesTime byDayRule bothMust hasBit dateAt yearOf monthOf weekdayOf walk yearDays leap monthDays monthLength monthTable lengthOf
+gap-reached = fires leapSundays 62147520 83184480 tt

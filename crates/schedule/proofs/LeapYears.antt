@@ -1,5 +1,5 @@
--- How soon a leap year begins, and one that begins on a given weekday: two tests over the 400 years of the cycle, which antt
--- computes, carried to all years. Year number n is the year 1970 + n.
+-- How soon a leap year begins that begins on a given weekday: a test over the 400 years of the cycle, which antt computes,
+-- carried to all years. Year number n is the year 1970 + n.
 -- Assumes nothing.
 use mathlib.Core.Path.{_≡_, _∙_}
 use mathlib.Core.Bool.{Bool, not, _&&_}
@@ -19,9 +19,6 @@ use Rattle.schedule.proofs.Search.{leastOf-least}
 
 unfoldable pub leapAt : ℕ → Bool
 leapAt n = leap (1970 + n)
-
-unfoldable pub commonAt : ℕ → Bool
-commonAt n = not (leapAt n)
 
 -- a leap year whose first day falls on weekday w
 unfoldable pub leapOn : ℕ → ℕ → Bool
@@ -77,33 +74,19 @@ leapAt-period : (n : ℕ) → leapAt (n + 400) ≡ leapAt n
 unfolding leapAt
 leapAt-period n = let e : 1970 + (n + 400) ≡ 1970 + n + 400 = omega arith in rw e (leap-period (1970 + n))
 
-commonAt-period : (n : ℕ) → commonAt (n + 400) ≡ commonAt n
-unfolding commonAt
-commonAt-period n = rw (leapAt-period n)
-
 leapOn-period : (w n : ℕ) → leapOn w (n + 400) ≡ leapOn w n
 unfolding leapOn weekdayOf
 leapOn-period w n =
     let e : (startAt n + 146097 + 4) % 7 ≡ (startAt n + 4) % 7 = omega arith in
     rw (leapAt-period n, start-shift n, e)
 
--- as from 2096 to 2104
-pub leap-soon : Recurs leapAt gapDays
-unfolding soon reach leapAt leap leastOf startAt
-leap-soon = recurs leapAt gapDays 8 leapAt-period tt tt
-
--- three years are always enough for one that isn't leap
-pub common-soon : Recurs commonAt 1096
-unfolding soon reach commonAt leapAt leap leastOf startAt
-common-soon = recurs commonAt 1096 2 commonAt-period tt tt
-
-every-weekday : T (every (λ w. soon (leapOn w) 14609 41 && every (reach (leapOn w) 14609 41) 400) 7)
+every-weekday : T (every (λ w. soon (leapOn w) gapDays 41 && every (reach (leapOn w) gapDays 41) 400) 7)
 unfolding soon reach leapOn leapAt leap weekdayOf leastOf startAt
 every-weekday = tt
 
--- 14,609 days, 40 years: as from 2088 to 2128
-pub leap-on-soon : (w : ℕ) → w < 7 → Recurs (leapOn w) 14609
+-- 40 years: as from 2088 to 2128
+pub leap-on-soon : (w : ℕ) → w < 7 → Recurs (leapOn w) gapDays
 leap-on-soon w h =
-    let t = at-each (λ w. soon (leapOn w) 14609 41 && every (reach (leapOn w) 14609 41) 400) 7 every-weekday w h in
-    let p = and-yes (soon (leapOn w) 14609 41) (every (reach (leapOn w) 14609 41) 400) t in
-    recurs (leapOn w) 14609 41 (leapOn-period w) (p .0) (p .1)
+    let t = at-each (λ w. soon (leapOn w) gapDays 41 && every (reach (leapOn w) gapDays 41) 400) 7 every-weekday w h in
+    let p = and-yes (soon (leapOn w) gapDays 41) (every (reach (leapOn w) gapDays 41) 400) t in
+    recurs (leapOn w) gapDays 41 (leapOn-period w) (p .0) (p .1)

@@ -14,46 +14,37 @@ use Rattle.calendar.proofs.Dates.{OnCalendar}
 use Rattle.calendar.proofs.Minutes.{dateAt-on, midnight-weekday}
 use Rattle.schedule.specs.declared.Schedule.{Schedule}
 use Rattle.schedule.specs.Sets.{hasBit}
-use Rattle.schedule.specs.Match.{eitherMay, byDayRule, matchesDay, matchesOn}
+use Rattle.schedule.specs.Match.{bothMust, byDayRule, matchesDay, matchesOn}
 use Rattle.schedule.specs.Search.{from}
 use Rattle.schedule.specs.Days.{hasDate, someDay}
-use Rattle.schedule.specs.Gap.{gapDays, Whole}
+use Rattle.schedule.specs.Gap.{gapDays}
 use Rattle.schedule.proofs.Search.{from-some, some-from}
 use Rattle.schedule.proofs.Dates.{month-lengths, longest, Is}
-use Rattle.schedule.proofs.Recurrence.{Within, date-within, weekday-date-within, weekday-within}
+use Rattle.schedule.proofs.Recurrence.{Within, date-within}
 
 -- ---- the day rule
 
--- if not both are restricted and the weekdays are, the days aren't
-days-free : (s : Schedule) → eitherMay s ≡ false → s .restricted .weekdays ≡ true → s .restricted .days ≡ false
-unfolding eitherMay
-days-free s e r = go (s .restricted .days) (rw r at e)
-  where
-    go : (b : Bool) → (b && true) ≡ false → b ≡ false
-    go true e = e
-    go false e = refl
-
 module _ (s : Schedule) (m d w : ℕ) where
-  matches-either : eitherMay s ≡ true → hasBit (s .months) m ≡ true → (hasBit (s .days) d ≡ true) ⊎ (hasBit (s .weekdays) w ≡ true)
+  matches-either : bothMust s ≡ false → hasBit (s .months) m ≡ true → (hasBit (s .days) d ≡ true) ⊎ (hasBit (s .weekdays) w ≡ true)
       → matchesDay s m d w ≡ true
-  unfolding matchesDay byDayRule eitherMay
+  unfolding matchesDay byDayRule bothMust
   matches-either e h o = rw (h, e) (true-or _ _ o)
 
-  matches-both : eitherMay s ≡ false → hasBit (s .months) m ≡ true → hasBit (s .days) d ≡ true → hasBit (s .weekdays) w ≡ true
+  matches-both : bothMust s ≡ true → hasBit (s .months) m ≡ true → hasBit (s .days) d ≡ true → hasBit (s .weekdays) w ≡ true
       → matchesDay s m d w ≡ true
-  unfolding matchesDay byDayRule eitherMay
+  unfolding matchesDay byDayRule bothMust
   matches-both e h i j = rw (h, e, i, j)
 
-  either-matches : eitherMay s ≡ true → matchesDay s m d w ≡ true
+  either-matches : bothMust s ≡ false → matchesDay s m d w ≡ true
       → (hasBit (s .months) m ≡ true) × ((hasBit (s .days) d ≡ true) ⊎ (hasBit (s .weekdays) w ≡ true))
-  unfolding matchesDay byDayRule eitherMay
+  unfolding matchesDay byDayRule bothMust
   either-matches e t =
       let p = and-true (hasBit (s .months) m) (byDayRule s (hasBit (s .days) d) (hasBit (s .weekdays) w)) t in
       (p .0, or-true (hasBit (s .days) d) (hasBit (s .weekdays) w) (rw e at (p .1)))
 
-  both-matches : eitherMay s ≡ false → matchesDay s m d w ≡ true
+  both-matches : bothMust s ≡ true → matchesDay s m d w ≡ true
       → (hasBit (s .months) m ≡ true) × (hasBit (s .days) d ≡ true) × (hasBit (s .weekdays) w ≡ true)
-  unfolding matchesDay byDayRule eitherMay
+  unfolding matchesDay byDayRule bothMust
   both-matches e t =
       let p = and-true (hasBit (s .months) m) (byDayRule s (hasBit (s .days) d) (hasBit (s .weekdays) w)) t in
       let q = and-true (hasBit (s .days) d) (hasBit (s .weekdays) w) (rw e at (p .1)) in
@@ -79,14 +70,14 @@ some-date s t =
 
 -- what a day can match by: a date or a weekday in some month where either may match, otherwise both
 data Matchable (s : Schedule) : Type 0 where
-  by-date : eitherMay s ≡ true → Chosen s → Matchable s
-  by-weekday : eitherMay s ≡ true → (m w : ℕ) → 1 ≤ m → m ≤ 12 → hasBit (s .months) m ≡ true → w < 7 → hasBit (s .weekdays) w ≡ true
+  by-date : bothMust s ≡ false → Chosen s → Matchable s
+  by-weekday : bothMust s ≡ false → (m w : ℕ) → 1 ≤ m → m ≤ 12 → hasBit (s .months) m ≡ true → w < 7 → hasBit (s .weekdays) w ≡ true
       → Matchable s
-  by-both : eitherMay s ≡ false → Chosen s → (w : ℕ) → w < 7 → hasBit (s .weekdays) w ≡ true → Matchable s
+  by-both : bothMust s ≡ true → Chosen s → (w : ℕ) → w < 7 → hasBit (s .weekdays) w ≡ true → Matchable s
 
 matchable : (s : Schedule) → someDay s ≡ true → Matchable s
-unfolding someDay eitherMay
-matchable s t = go (eitherMay s) refl t
+unfolding someDay bothMust
+matchable s t = go (bothMust s) refl t
   where
     month : Bool
     month = ltb (from (hasBit (s .months)) 13 1) 13
@@ -97,8 +88,8 @@ matchable s t = go (eitherMay s) refl t
     date : Bool
     date = ltb (from (hasDate s) 13 1) 13
 
-    go : (b : Bool) → eitherMay s ≡ b → cond b (month && (weekday || date)) (weekday && date) ≡ true → Matchable s
-    go true e t =
+    go : (b : Bool) → bothMust s ≡ b → cond b (weekday && date) (month && (weekday || date)) ≡ true → Matchable s
+    go false e t =
         let p = and-true month (weekday || date) t in
         let (m, a, b, h) = some-from (hasBit (s .months)) 13 1 (omega arith) (ltb-true _ _ (p .0)) in
         elim (or-true weekday date (p .1)) [
@@ -107,7 +98,7 @@ matchable s t = go (eitherMay s) refl t
               by-weekday e m w a (omega arith) h d i
           | inr q ↦ by-date e (some-date s q)
         ]
-    go false e t =
+    go true e t =
         let p = and-true weekday date t in
         let (w, c, d, i) = some-from (hasBit (s .weekdays)) 7 0 (omega arith) (ltb-true _ _ (p .0)) in
         by-both e (some-date s (p .1)) w d i
@@ -117,31 +108,13 @@ matchable s t = go (eitherMay s) refl t
 first-day : (m : ℕ) → 1 ≤ m → m ≤ 12 → Is true m 1
 first-day m h k = record { monthFrom = h; monthTo = k; dayFrom = omega arith; dayTo = omega (arith, month-lengths m h k) }
 
-pub within-40-years : (s : Schedule) → someDay s ≡ true → Within s 14609
-within-40-years s t = go (matchable s t)
+pub within-gap : (s : Schedule) → someDay s ≡ true → Within s gapDays
+within-gap s t = go (matchable s t)
   where
-    go : Matchable s → Within s 14609
-    go (by-date e c) = weekday-date-within s (c .m) (c .d) 0 (c .is) (omega arith) (matches-either s (c .m) (c .d) 0 e (c .month) (inl (c .day)))
-    go (by-weekday e m w a b h k i) =
-        weekday-date-within s m 1 w (first-day m a b) k (matches-either s m 1 w e h (inr i))
-    go (by-both e c w k i) = weekday-date-within s (c .m) (c .d) w (c .is) k (matches-both s (c .m) (c .d) w e (c .month) (c .day) i)
-
--- where one of the day fields is free
-pub within-gap : (s : Schedule) → Whole s → someDay s ≡ true → Within s gapDays
-within-gap s whole t = go (matchable s t)
-  where
-    one-free : (c : Chosen s) (w : ℕ) → w < 7 → hasBit (s .weekdays) w ≡ true → eitherMay s ≡ false
-        → (b : Bool) → s .restricted .weekdays ≡ b → Within s gapDays
-    one-free c w k i e true r =
-        weekday-within s (c .m) w (c .is .monthFrom) (c .is .monthTo) k
-        (λ d h l. matches-both s (c .m) d w e (c .month) (whole .days (days-free s e r) d h (omega arith)) i)
-    one-free c w k i e false r =
-        date-within s (c .m) (c .d) (c .is) (λ v h. matches-both s (c .m) (c .d) v e (c .month) (c .day) (whole .weekdays r v h))
-
     go : Matchable s → Within s gapDays
-    go (by-date e c) = date-within s (c .m) (c .d) (c .is) (λ w h. matches-either s (c .m) (c .d) w e (c .month) (inl (c .day)))
-    go (by-weekday e m w a b h k i) = weekday-within s m w a b k (λ d u v. matches-either s m d w e h (inr i))
-    go (by-both e c w k i) = one-free c w k i e (s .restricted .weekdays) refl
+    go (by-date e c) = date-within s (c .m) (c .d) 0 (c .is) (omega arith) (matches-either s (c .m) (c .d) 0 e (c .month) (inl (c .day)))
+    go (by-weekday e m w a b h k i) = date-within s m 1 w (first-day m a b) k (matches-either s m 1 w e h (inr i))
+    go (by-both e c w k i) = date-within s (c .m) (c .d) w (c .is) k (matches-both s (c .m) (c .d) w e (c .month) (c .day) i)
 
 -- ---- a day that matches is there to match
 
@@ -154,8 +127,8 @@ date-some s m d i h k =
     (rw (h, lt-ltb _ _ (from-some (hasBit (s .days)) (monthLength true m + 1) 1 d (i .dayFrom) (omega (arith, i .dayTo)) k))))
 
 pub matching-some : (s : Schedule) (day : ℕ) → day < calendarDays → matchesOn s day ≡ true → someDay s ≡ true
-unfolding matchesOn someDay eitherMay weekdayOf
-matching-some s day h t = go (eitherMay s) refl
+unfolding matchesOn someDay bothMust weekdayOf
+matching-some s day h t = go (bothMust s) refl
   where
     x : ℕ
     x = day * 1440
@@ -188,12 +161,12 @@ matching-some s day h t = go (eitherMay s) refl
           dayTo = omega (arith, o .dayTo, longest (dateAt x .year) m (o .monthFrom) (o .monthTo));
         })
 
-    go : (b : Bool) → eitherMay s ≡ b
+    go : (b : Bool) → bothMust s ≡ b
         → cond b
-        (ltb (from (hasBit (s .months)) 13 1) 13 && (ltb (from (hasBit (s .weekdays)) 7 0) 7 || ltb (from (hasDate s) 13 1) 13))
         (ltb (from (hasBit (s .weekdays)) 7 0) 7 && ltb (from (hasDate s) 13 1) 13)
+        (ltb (from (hasBit (s .months)) 13 1) 13 && (ltb (from (hasBit (s .weekdays)) 7 0) 7 || ltb (from (hasDate s) 13 1) 13))
         ≡ true
-    go true e =
+    go false e =
         let p = either-matches s m d w e t in
         rw (month (p .0)) (true-or (ltb (from (hasBit (s .weekdays)) 7 0) 7) (ltb (from (hasDate s) 13 1) 13) (elim (p .1) [ inl k ↦ inr (date (p .0) k) | inr k ↦ inl (weekday k) ]))
-    go false e = let p = both-matches s m d w e t in rw (weekday (p .2), date (p .0) (p .1))
+    go true e = let p = both-matches s m d w e t in rw (weekday (p .2), date (p .0) (p .1))

@@ -8,7 +8,7 @@ use Rattle.calendar.specs.Gregorian.{monthDays}
 use Rattle.calendar.specs.Dates.{weekdayOf}
 use Rattle.schedule.specs.declared.Schedule.{Schedule}
 use Rattle.schedule.specs.Sets.{hasBit}
-use Rattle.schedule.specs.Match.{eitherMay, matchesDay}
+use Rattle.schedule.specs.Match.{bothMust, matchesDay}
 use Rattle.schedule.specs.Search.{from}
 
 -- a day, counted from 1970-01-01, of a month whose first day is `first`
@@ -28,4 +28,4 @@ someDay s =
     let month = ltb (from (hasBit (s .months)) 13 1) 13 in
     let weekday = ltb (from (hasBit (s .weekdays)) 7 0) 7 in
     let date = ltb (from (hasDate s) 13 1) 13 in
-    cond (eitherMay s) (month && (weekday || date)) (weekday && date)
+    cond (bothMust s) (weekday && date) (month && (weekday || date))

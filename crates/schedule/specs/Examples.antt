@@ -7,7 +7,7 @@ use Rattle.calendar.specs.Walk.{walk}
 use Rattle.calendar.specs.Dates.{weekdayOf, yearOf, monthOf, dateAt}
 use Rattle.schedule.specs.declared.Schedule.{Schedule}
 use Rattle.schedule.specs.Sets.{hasBit}
-use Rattle.schedule.specs.Match.{eitherMay, byDayRule, matchesDay, matchesTime, matchesDate, matches}
+use Rattle.schedule.specs.Match.{bothMust, byDayRule, matchesDay, matchesTime, matchesDate, matches}
 
 -- `0 0 29 2 *`
 unfoldable pub leapDay : Schedule
@@ -18,7 +18,7 @@ leapDay =
       days = 0x20000000;
       months = 0b100;
       weekdays = 0b1111111;
-      restricted = record { days = true; weekdays = false };
+      stars = record { days = false; weekdays = true };
     }
 
 -- `30 4 1,15 * 5`: the 1st, the 15th and each Friday
@@ -30,7 +30,7 @@ fridays =
       days = 0x8002;
       months = 0b1111111111110;
       weekdays = 0b100000;
-      restricted = record { days = true; weekdays = true };
+      stars = record { days = false; weekdays = false };
     }
 
 -- `0 0 30 2 *`
@@ -42,7 +42,7 @@ february30 =
       days = 0x40000000;
       months = 0b100;
       weekdays = 0b1111111;
-      restricted = record { days = true; weekdays = false };
+      stars = record { days = false; weekdays = true };
     }
 
 -- `0 0 30 2 1`: the Mondays of February
@@ -54,7 +54,7 @@ mondays30 =
       days = 0x40000000;
       months = 0b100;
       weekdays = 0b10;
-      restricted = record { days = true; weekdays = true };
+      stars = record { days = false; weekdays = false };
     }
 
 -- `0 0 31 12 *`
@@ -66,7 +66,7 @@ lastDay =
       days = 0x80000000;
       months = 0b1000000000000;
       weekdays = 0b1111111;
-      restricted = record { days = true; weekdays = false };
+      stars = record { days = false; weekdays = true };
     }
 
 -- `0 0 * * 1`: Mondays, and no other day
@@ -78,48 +78,85 @@ mondays =
       days = 0xfffffffe;
       months = 0b1111111111110;
       weekdays = 0b10;
-      restricted = record { days = false; weekdays = true };
+      stars = record { days = true; weekdays = false };
+    }
+
+-- `0 0 */2 * 1`: Mondays on odd days
+unfoldable pub oddMondays : Schedule
+oddMondays =
+    record {
+      minutes = 1;
+      hours = 1;
+      days = 0xaaaaaaaa;
+      months = 0b1111111111110;
+      weekdays = 0b10;
+      stars = record { days = true; weekdays = false };
+    }
+
+-- `0 0 29 2 */7`: 29 February on a Sunday
+unfoldable pub leapSundays : Schedule
+leapSundays =
+    record {
+      minutes = 1;
+      hours = 1;
+      days = 0x20000000;
+      months = 0b100;
+      weekdays = 1;
+      stars = record { days = false; weekdays = true };
     }
 
 -- 1970-01-01 04:30 is the 1st and no Friday; 1970-01-02 04:30 a Friday; 1970-01-03 04:30 neither
 first-of-month : matches fridays 270 ≡ true
-unfolding fridays matches matchesDate matchesDay matchesTime byDayRule eitherMay hasBit dateAt yearOf monthOf weekdayOf walk yearDays leap monthDays monthLength monthTable
+unfolding fridays matches matchesDate matchesDay matchesTime byDayRule bothMust hasBit dateAt yearOf monthOf weekdayOf walk yearDays leap monthDays monthLength monthTable
 first-of-month = refl
 
 friday : matches fridays 1710 ≡ true
-unfolding fridays matches matchesDate matchesDay matchesTime byDayRule eitherMay hasBit dateAt yearOf monthOf weekdayOf walk yearDays leap monthDays monthLength monthTable
+unfolding fridays matches matchesDate matchesDay matchesTime byDayRule bothMust hasBit dateAt yearOf monthOf weekdayOf walk yearDays leap monthDays monthLength monthTable
 friday = refl
 
 neither : matches fridays 3150 ≡ false
-unfolding fridays matches matchesDate matchesDay matchesTime byDayRule eitherMay hasBit dateAt yearOf monthOf weekdayOf walk yearDays leap monthDays monthLength monthTable
+unfolding fridays matches matchesDate matchesDay matchesTime byDayRule bothMust hasBit dateAt yearOf monthOf weekdayOf walk yearDays leap monthDays monthLength monthTable
 neither = refl
 
 -- 2096-02-29 00:00, and a day and a minute later
 leap-day : matches leapDay 66355200 ≡ true
-unfolding leapDay matches matchesDate matchesDay matchesTime byDayRule eitherMay hasBit dateAt yearOf monthOf weekdayOf walk yearDays leap monthDays monthLength monthTable
+unfolding leapDay matches matchesDate matchesDay matchesTime byDayRule bothMust hasBit dateAt yearOf monthOf weekdayOf walk yearDays leap monthDays monthLength monthTable
 leap-day = refl
 
 day-after : matches leapDay 66356640 ≡ false
-unfolding leapDay matches matchesDate matchesDay matchesTime byDayRule eitherMay hasBit dateAt yearOf monthOf weekdayOf walk yearDays leap monthDays monthLength monthTable
+unfolding leapDay matches matchesDate matchesDay matchesTime byDayRule bothMust hasBit dateAt yearOf monthOf weekdayOf walk yearDays leap monthDays monthLength monthTable
 day-after = refl
 
 minute-after : matches leapDay 66355201 ≡ false
-unfolding leapDay matches matchesDate matchesDay matchesTime byDayRule eitherMay hasBit dateAt yearOf monthOf weekdayOf walk yearDays leap monthDays monthLength monthTable
+unfolding leapDay matches matchesDate matchesDay matchesTime byDayRule bothMust hasBit dateAt yearOf monthOf weekdayOf walk yearDays leap monthDays monthLength monthTable
 minute-after = refl
 
 -- 1970-01-01 is a Thursday, 1970-01-05 a Monday in January, 1970-02-02 one in February
 thursday : matches mondays 0 ≡ false
-unfolding mondays matches matchesDate matchesDay matchesTime byDayRule eitherMay hasBit dateAt yearOf monthOf weekdayOf walk yearDays leap monthDays monthLength monthTable
+unfolding mondays matches matchesDate matchesDay matchesTime byDayRule bothMust hasBit dateAt yearOf monthOf weekdayOf walk yearDays leap monthDays monthLength monthTable
 thursday = refl
 
 monday : matches mondays 5760 ≡ true
-unfolding mondays matches matchesDate matchesDay matchesTime byDayRule eitherMay hasBit dateAt yearOf monthOf weekdayOf walk yearDays leap monthDays monthLength monthTable
+unfolding mondays matches matchesDate matchesDay matchesTime byDayRule bothMust hasBit dateAt yearOf monthOf weekdayOf walk yearDays leap monthDays monthLength monthTable
 monday = refl
 
 january : matches mondays30 5760 ≡ false
-unfolding mondays30 matches matchesDate matchesDay matchesTime byDayRule eitherMay hasBit dateAt yearOf monthOf weekdayOf walk yearDays leap monthDays monthLength monthTable
+unfolding mondays30 matches matchesDate matchesDay matchesTime byDayRule bothMust hasBit dateAt yearOf monthOf weekdayOf walk yearDays leap monthDays monthLength monthTable
 january = refl
 
 february : matches mondays30 46080 ≡ true
-unfolding mondays30 matches matchesDate matchesDay matchesTime byDayRule eitherMay hasBit dateAt yearOf monthOf weekdayOf walk yearDays leap monthDays monthLength monthTable
+unfolding mondays30 matches matchesDate matchesDay matchesTime byDayRule bothMust hasBit dateAt yearOf monthOf weekdayOf walk yearDays leap monthDays monthLength monthTable
 february = refl
+
+-- 1970-01-01 is an odd day and no Monday, 1970-01-05 an odd Monday, 1970-01-12 an even one
+odd-thursday : matches oddMondays 0 ≡ false
+unfolding oddMondays matches matchesDate matchesDay matchesTime byDayRule bothMust hasBit dateAt yearOf monthOf weekdayOf walk yearDays leap monthDays monthLength monthTable
+odd-thursday = refl
+
+odd-monday : matches oddMondays 5760 ≡ true
+unfolding oddMondays matches matchesDate matchesDay matchesTime byDayRule bothMust hasBit dateAt yearOf monthOf weekdayOf walk yearDays leap monthDays monthLength monthTable
+odd-monday = refl
+
+even-monday : matches oddMondays 15840 ≡ false
+unfolding oddMondays matches matchesDate matchesDay matchesTime byDayRule bothMust hasBit dateAt yearOf monthOf weekdayOf walk yearDays leap monthDays monthLength monthTable
+even-monday = refl

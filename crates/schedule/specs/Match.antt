@@ -8,12 +8,12 @@ use Rattle.calendar.specs.Dates.{lastMinute, dateAt}
 use Rattle.schedule.specs.declared.Schedule.{Schedule}
 use Rattle.schedule.specs.Sets.{hasBit}
 
--- if both day fields are restricted, either may match; otherwise both must
-unfoldable pub eitherMay : Schedule → Bool
-eitherMay s = s .restricted .days && s .restricted .weekdays
+-- ticket 2026-03: if either day field begins with `*`, both must match; otherwise either may
+unfoldable pub bothMust : Schedule → Bool
+bothMust s = s .stars .days || s .stars .weekdays
 
 unfoldable pub byDayRule : Schedule → Bool → Bool → Bool
-byDayRule s day weekday = cond (eitherMay s) (day || weekday) (day && weekday)
+byDayRule s day weekday = cond (bothMust s) (day && weekday) (day || weekday)
 
 -- the month must be in its set, and the day of the month and the weekday match by the rule
 unfoldable pub matchesDay : Schedule → ℕ → ℕ → ℕ → Bool

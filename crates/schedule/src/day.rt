@@ -17,11 +17,11 @@ pub(crate) fn matches_day(s: Schedule, month: u64, day: u64, weekday: u64) -> bo
     let by_month = has(s.months as u64, month);
     let by_day = has(s.days as u64, day);
     let by_weekday = has(s.weekdays as u64, weekday);
-    let restricted = s.restricted;
-    if restricted.days & restricted.weekdays {
-        return by_month & (by_day | by_weekday);
+    let stars = s.stars;
+    if stars.days | stars.weekdays {
+        return by_month & (by_day & by_weekday);
     }
-    by_month & (by_day & by_weekday)
+    by_month & (by_day | by_weekday)
 }
 
 // The least matching day from `at` on in a month that is the days from `first` to before `end`; `end` where there is none.

@@ -18,8 +18,8 @@ use day::matches_day;
 use never::can_fire;
 use time::time_from;
 
-// Which of the two day fields are restricted: not exactly `*`.
-pub struct Restricted {
+// Which of the two day fields begin with `*`.
+pub struct Stars {
     pub days: bool,
     pub weekdays: bool,
 }
@@ -31,7 +31,7 @@ pub struct Schedule {
     pub days: u32,
     pub months: u16,
     pub weekdays: u8,
-    pub restricted: Restricted,
+    pub stars: Stars,
 }
 
 // When an entry fires next after a minute.

@@ -44,11 +44,11 @@ fn some_day(s: Schedule) -> bool
     let by_month = next(s.months as u64, 1, 13) < 13;
     let by_weekday = next(s.weekdays as u64, 0, 7) < 7;
     let by_date = month_with_date(s) < 13;
-    let restricted = s.restricted;
-    if restricted.days & restricted.weekdays {
-        return by_month & (by_weekday | by_date);
+    let stars = s.stars;
+    if stars.days | stars.weekdays {
+        return by_weekday & by_date;
     }
-    by_weekday & by_date
+    by_month & (by_weekday | by_date)
 }
 
 // Whether some minute of the cycle matches.

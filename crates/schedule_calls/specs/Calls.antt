@@ -8,14 +8,14 @@ use Rattle.schedule.specs.Match.{isDue}
 use Rattle.schedule.specs.Next.{nextAfter, refusalOf, minuteIn}
 
 unfoldable pub scheduleOf : ℕ → ℕ → ℕ → ℕ → ℕ → ℕ → Schedule
-scheduleOf minutes hours days months weekdays restricted =
+scheduleOf minutes hours days months weekdays stars =
     record {
       minutes = minutes;
       hours = hours % 4294967296;
       days = days % 4294967296;
       months = months % 65536;
       weekdays = weekdays % 256;
-      restricted = record { days = eqb (restricted % 2) 1; weekdays = eqb (restricted / 2 % 2) 1 };
+      stars = record { days = eqb (stars % 2) 1; weekdays = eqb (stars / 2 % 2) 1 };
     }
 
 unfoldable pub nextNumber : Schedule → ℕ → ℕ

@@ -1,23 +1,23 @@
 // A schedule's functions over plain numbers, for the tests and benchmarks alone: they are no part of the C interface.
 ghost use mathlib.Core.Path.{_≡_};
 ghost use Rattle.schedule_calls.specs.Calls.{scheduleOf, nextNumber, matchNumber};
-use schedule::Restricted;
 use schedule::Schedule;
+use schedule::Stars;
 
-// The sets by their numbers, cut to their widths; bit 0 of `restricted` is for the days, bit 1 for the weekdays.
+// The sets by their numbers, cut to their widths; bit 0 of `stars` is for the days, bit 1 for the weekdays.
 fn schedule_of(
     minutes: u64,
     hours: u64,
     days: u64,
     months: u64,
     weekdays: u64,
-    restricted: u64,
+    stars: u64,
 ) -> Schedule
-    ensures { λ r. ⌜ r ≡ scheduleOf minutes hours days months weekdays restricted ⌝ }
+    ensures { λ r. ⌜ r ≡ scheduleOf minutes hours days months weekdays stars ⌝ }
 {
-    let rule = Restricted {
-        days: restricted % 2 == 1,
-        weekdays: restricted / 2 % 2 == 1,
+    let begin = Stars {
+        days: stars % 2 == 1,
+        weekdays: stars / 2 % 2 == 1,
     };
     Schedule {
         minutes,
@@ -25,7 +25,7 @@ fn schedule_of(
         days: (days % 4294967296) as u32,
         months: (months % 65536) as u16,
         weekdays: (weekdays % 256) as u8,
-        restricted: rule,
+        stars: begin,
     }
 }
 
@@ -37,12 +37,12 @@ pub extern "C" fn schedule_next(
     days: u64,
     months: u64,
     weekdays: u64,
-    restricted: u64,
+    stars: u64,
     minute: u64,
 ) -> u64
-    ensures { λ r. ⌜ r ≡ nextNumber (scheduleOf minutes hours days months weekdays restricted) minute ⌝ }
+    ensures { λ r. ⌜ r ≡ nextNumber (scheduleOf minutes hours days months weekdays stars) minute ⌝ }
 {
-    let s = schedule_of(minutes, hours, days, months, weekdays, restricted);
+    let s = schedule_of(minutes, hours, days, months, weekdays, stars);
     let next = schedule::next_firing(s, minute);
     let refusal = next.refusal();
     if refusal == 0 {
@@ -59,11 +59,11 @@ pub extern "C" fn schedule_matches(
     days: u64,
     months: u64,
     weekdays: u64,
-    restricted: u64,
+    stars: u64,
     minute: u64,
 ) -> u64
-    ensures { λ r. ⌜ r ≡ matchNumber (scheduleOf minutes hours days months weekdays restricted) minute ⌝ }
+    ensures { λ r. ⌜ r ≡ matchNumber (scheduleOf minutes hours days months weekdays stars) minute ⌝ }
 {
-    let s = schedule_of(minutes, hours, days, months, weekdays, restricted);
+    let s = schedule_of(minutes, hours, days, months, weekdays, stars);
     if schedule::matches(s, minute) { 1 } else { 0 }
 }

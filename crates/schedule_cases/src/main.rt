@@ -4,8 +4,8 @@
 ghost use Prim.Native.Nat.{_+_, _<_, _^_};
 use libc::STDIN_FILENO;
 use libc::STDOUT_FILENO;
-use schedule::Restricted;
 use schedule::Schedule;
+use schedule::Stars;
 
 fn wide(byte: u8) -> u64
     ensures { λ r. ⌜ r < 256 ⌝ }
@@ -28,7 +28,7 @@ fn quad(case: &[u8; 32], at: usize) -> u64
 fn schedule_in(case: &[u8; 32]) -> Schedule {
     let small = quad(case, 16);
     let flags = small / 16_777_216;
-    let restricted = Restricted {
+    let stars = Stars {
         days: flags % 2 == 1,
         weekdays: flags / 2 % 2 == 1,
     };
@@ -38,7 +38,7 @@ fn schedule_in(case: &[u8; 32]) -> Schedule {
         days: quad(case, 12) as u32,
         months: (small % 65536) as u16,
         weekdays: (small / 65536 % 256) as u8,
-        restricted,
+        stars,
     }
 }
 

@@ -426,12 +426,12 @@ fn a_rare_entry_is_named_within_the_bound() {
     }
 }
 
-/// The longest wait there is, minute by minute: from 29 February 2096 to the next one, and one minute more.
+/// The longest wait there is, minute by minute: from Sunday, 29 February 2088 to the next one, and one minute more.
 #[test]
 fn the_longest_gap_and_the_bound_are_reached() {
-    const GAP: u64 = 4_206_240;
-    let table = b"* * * * * often\n0 0 29 2 * rare\n";
-    let after = 66_355_200;
+    const GAP: u64 = 21_036_960;
+    let table = b"* * * * * often\n0 0 29 2 */7 rare\n";
+    let after = 62_147_520;
     let mut room = vec![0; 8 * 2 + 64];
     assert_eq!(queue::init(table, &mut room), Ok(0));
     let mut named = Vec::new();

@@ -12,7 +12,7 @@ unsafe extern "C" {
         days: u64,
         months: u64,
         weekdays: u64,
-        restricted: u64,
+        stars: u64,
         minute: u64,
     ) -> u64;
     safe fn schedule_matches(
@@ -21,7 +21,7 @@ unsafe extern "C" {
         days: u64,
         months: u64,
         weekdays: u64,
-        restricted: u64,
+        stars: u64,
         minute: u64,
     ) -> u64;
 }
@@ -29,8 +29,8 @@ unsafe extern "C" {
 /// The next firing after a minute, or the number of a refusal. Loses nothing: `Err(n)` stands for `REFUSED + n` and for
 /// no other answer.
 pub fn next_after(schedule: [u64; 6], minute: u64) -> Answer {
-    let [minutes, hours, days, months, weekdays, restricted] = schedule;
-    let raw = schedule_next(minutes, hours, days, months, weekdays, restricted, minute);
+    let [minutes, hours, days, months, weekdays, stars] = schedule;
+    let raw = schedule_next(minutes, hours, days, months, weekdays, stars, minute);
     if raw > REFUSED {
         Err(raw - REFUSED)
     } else {
@@ -40,6 +40,6 @@ pub fn next_after(schedule: [u64; 6], minute: u64) -> Answer {
 
 /// 1 if a minute matches, 0 if not.
 pub fn matches(schedule: [u64; 6], minute: u64) -> u64 {
-    let [minutes, hours, days, months, weekdays, restricted] = schedule;
-    schedule_matches(minutes, hours, days, months, weekdays, restricted, minute)
+    let [minutes, hours, days, months, weekdays, stars] = schedule;
+    schedule_matches(minutes, hours, days, months, weekdays, stars, minute)
 }

@@ -10,7 +10,7 @@ const DAY: u64 = 1_440;
 const DAYS: u64 = (LAST_MINUTE + 1) / DAY;
 
 /// A firing that is found is at most so far ahead.
-const GAP: u64 = 4_206_240;
+const GAP: u64 = 21_036_960;
 
 const SAMPLES: usize = 200_000;
 
@@ -21,8 +21,8 @@ const ALWAYS: Schedule = Schedule {
     days: ALL_DAYS,
     months: ALL_MONTHS,
     weekdays: ALL_WEEKDAYS,
-    days_restricted: false,
-    weekdays_restricted: false,
+    days_star: true,
+    weekdays_star: true,
 };
 
 /// `0 0 * * *`
@@ -36,7 +36,7 @@ const MIDNIGHT: Schedule = Schedule {
 const LEAP_DAY: Schedule = Schedule {
     days: 1 << 29,
     months: 1 << 2,
-    days_restricted: true,
+    days_star: false,
     ..MIDNIGHT
 };
 
@@ -49,7 +49,7 @@ const NO_DAY: Schedule = Schedule {
 /// `0 0 30 2 1`
 const FEBRUARY_MONDAY: Schedule = Schedule {
     weekdays: 1 << 1,
-    weekdays_restricted: true,
+    weekdays_star: false,
     ..NO_DAY
 };
 
@@ -66,9 +66,23 @@ const PAY_DAY: Schedule = Schedule {
     hours: 1 << 4,
     days: 1 << 1 | 1 << 15,
     weekdays: 1 << 5,
-    days_restricted: true,
-    weekdays_restricted: true,
+    days_star: false,
+    weekdays_star: false,
     ..ALWAYS
+};
+
+/// `0 0 29 2 */7`
+const LEAP_SUNDAY: Schedule = Schedule {
+    weekdays: 1 << 0,
+    ..LEAP_DAY
+};
+
+/// `0 0 */2 * 1`
+const ODD_MONDAY: Schedule = Schedule {
+    days: 0xaaaa_aaaa,
+    weekdays: 1 << 1,
+    weekdays_star: false,
+    ..MIDNIGHT
 };
 
 /// Whether the library matches a minute, compared with the second program.
@@ -119,6 +133,10 @@ fn firings(schedule: &Schedule, start: u64, last: u64) -> Vec<u64> {
 fn known_days() {
     let rows = [
         (LEAP_DAY, 66_355_200, Ok(70_561_440)),
+        // ticket 2026-03
+        (LEAP_SUNDAY, 62_147_520, Ok(83_184_480)),
+        (ODD_MONDAY, 0, Ok(4 * DAY)),
+        (ODD_MONDAY, 4 * DAY, Ok(18 * DAY)),
         (PAY_DAY, 0, Ok(270)),
         (PAY_DAY, 270, Ok(1_710)),
         (NO_DAY, 0, Err(16)),
@@ -219,16 +237,20 @@ fn firings_of_the_whole_calendar_are_the_days_of_the_clock() {
         ..MIDNIGHT
     };
     type Row = (Schedule, fn(Date) -> bool);
-    let rows: [Row; 6] = [
+    let rows: [Row; 8] = [
         (LEAP_DAY, |date| (date.month, date.day) == (2, 29)),
         (NO_DAY, |_| false),
+        (LEAP_SUNDAY, |date| {
+            (date.month, date.day, date.weekday) == (2, 29, 0)
+        }),
+        (ODD_MONDAY, |date| date.day % 2 == 1 && date.weekday == 1),
         (LAST_DAY, |date| (date.month, date.day) == (12, 31)),
         (FEBRUARY_MONDAY, |date| (date.month, date.weekday) == (2, 1)),
         (friday_13, |date| (date.day, date.weekday) == (13, 5)),
         (
             Schedule {
-                days_restricted: true,
-                weekdays_restricted: true,
+                days_star: false,
+                weekdays_star: false,
                 ..friday_13
             },
             |date| date.day == 13 || date.weekday == 5,
@@ -252,14 +274,7 @@ fn firings_of_the_whole_calendar_are_the_days_of_the_clock() {
 fn a_firing_is_at_most_the_gap_ahead() {
     let mut random = Random::seeded();
     for _ in 0..SAMPLES {
-        // An unrestricted field is `*`, and has every value.
-        let mut schedule = samples::schedule(&mut random);
-        if !schedule.days_restricted {
-            schedule.days |= ALL_DAYS;
-        }
-        if !schedule.weekdays_restricted {
-            schedule.weekdays |= ALL_WEEKDAYS;
-        }
+        let schedule = samples::schedule(&mut random);
         let minute = samples::start(&mut random);
         let ahead = match schedule::next_after(schedule.numbers(), minute) {
             Ok(firing) => firing - minute,
@@ -270,6 +285,6 @@ fn a_firing_is_at_most_the_gap_ahead() {
         assert!(ahead <= GAP, "{schedule:x?} after {minute}: {ahead} ahead");
     }
     // It is reached.
-    let leap_day = schedule::next_after(LEAP_DAY.numbers(), 66_355_200);
-    assert_eq!(leap_day, Ok(66_355_200 + GAP));
+    let leap_sunday = schedule::next_after(LEAP_SUNDAY.numbers(), 62_147_520);
+    assert_eq!(leap_sunday, Ok(62_147_520 + GAP));
 }

@@ -35,8 +35,9 @@ pub struct Schedule {
     pub months: u16,
     /// Sunday 0 to Saturday 6.
     pub weekdays: u8,
-    pub days_restricted: bool,
-    pub weekdays_restricted: bool,
+    /// Whether the field of the days begins with `*`.
+    pub days_star: bool,
+    pub weekdays_star: bool,
 }
 
 impl Schedule {
@@ -72,7 +73,7 @@ impl Schedule {
         (minute.saturating_add(1)..=LAST_MINUTE).find(|&later| self.matches(later))
     }
 
-    /// As C hands it over: minutes, hours, days, months, weekdays, and both restrictions in bits 0 and 1.
+    /// As C hands it over: minutes, hours, days, months, weekdays, and both stars in bits 0 and 1.
     pub fn numbers(&self) -> [u64; 6] {
         [
             self.minutes,
@@ -80,7 +81,7 @@ impl Schedule {
             self.days.into(),
             self.months.into(),
             self.weekdays.into(),
-            u64::from(self.days_restricted) + 2 * u64::from(self.weekdays_restricted),
+            u64::from(self.days_star) + 2 * u64::from(self.weekdays_star),
         ]
     }
 
@@ -91,9 +92,9 @@ impl Schedule {
     fn has_day(&self, month: u64, day: u64, weekday: u64) -> bool {
         let by_day = has(self.days, day);
         let by_weekday = has(self.weekdays, weekday);
-        let by_date = match (self.days_restricted, self.weekdays_restricted) {
-            (true, true) => by_day || by_weekday,
-            _ => by_day && by_weekday,
+        let by_date = match self.days_star || self.weekdays_star {
+            true => by_day && by_weekday,
+            false => by_day || by_weekday,
         };
         has(self.months, month) && by_date
     }

@@ -267,12 +267,12 @@ fn schedule<'a>(
     mut fields: impl Iterator<Item = Word<'a>>,
 ) -> Result<Schedule, Bad> {
     let mut sets = [0; 5];
-    let mut restricted = [false; 5];
+    let mut stars = [false; 5];
     for (field, limits) in FIELDS.iter().enumerate() {
         let word = fields.next().ok_or(Bad(TOO_FEW_FIELDS, length))?;
         sets[field] =
             set(limits, word.text).map_err(|Bad(number, at)| Bad(number, word.at + at))?;
-        restricted[field] = word.text != b"*";
+        stars[field] = word.text.starts_with(b"*");
     }
     let [minutes, hours, days, months, weekdays] = sets;
     // Sunday is 0, also where it is written 7.
@@ -283,8 +283,8 @@ fn schedule<'a>(
         days: days as u32,
         months: months as u16,
         weekdays: weekdays as u8,
-        days_restricted: restricted[2],
-        weekdays_restricted: restricted[4],
+        days_star: stars[2],
+        weekdays_star: stars[4],
     })
 }
 

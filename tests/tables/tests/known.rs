@@ -231,9 +231,12 @@ fn slips_of_other_crons() {
     assert_eq!(february.due(0, 4 * 1_440), Ok(0));
     assert_eq!(february.next(0, 0), Ok(31 * 1_440));
     assert_eq!(february.next(0, 31 * 1_440), Ok(32 * 1_440));
-    // `*/1` is restricted, so that either day field may match.
-    assert_eq!(next("0 0 13 * */1 a", 0), Ok(1_440));
-    assert_eq!(next("0 0 */1 * 1 a", 0), Ok(1_440));
+    // Ticket 2026-03: a day field that begins with `*` makes both match. 1970-01-05 is a Monday.
+    assert_eq!(next("0 0 13 * */1 a", 0), Ok(12 * 1_440));
+    assert_eq!(next("0 0 */1 * 1 a", 0), Ok(4 * 1_440));
+    assert_eq!(next("0 0 */2 * 1 a", 4 * 1_440), Ok(18 * 1_440));
+    assert_eq!(next("0 0 1-31/2 * 1 a", 4 * 1_440), Ok(6 * 1_440));
+    assert_eq!(next("0 0 29 2 */7 a", 62_147_520), Ok(83_184_480));
 }
 
 #[test]

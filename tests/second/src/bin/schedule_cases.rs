@@ -2,11 +2,11 @@
 //! the same at every run.
 //!
 //! `stdin` has 32 bytes for each case, little-endian: minutes in 8, hours and days in 4 each, months in 2, weekdays in 1,
-//! restrictions in 1 (bit 0 days, bit 1 weekdays), 4 that are zero, and the start in 8. `stdout` has a line for each: 1 or
+//! stars in 1 (bit 0 days, bit 1 weekdays), 4 that are zero, and the start in 8. `stdout` has a line for each: 1 or
 //! 0, whether the start matches, a space, and the next firing after it as C gets it.
 
 use second::random::Random;
-use second::schedule::samples::{self, DAY_SETS, RESTRICTED};
+use second::schedule::samples::{self, DAY_SETS, STARS};
 use second::schedule::{to_c, Schedule};
 use std::path::Path;
 use std::process::ExitCode;
@@ -34,14 +34,14 @@ fn main() -> ExitCode {
     }
 }
 
-/// All days of the table under every restriction, and then any schedules.
+/// All days of the table under every rule, and then any schedules.
 fn cases() -> Vec<Case> {
     let mut random = Random::new(3);
     let mut cases = Vec::new();
     for day_sets in DAY_SETS {
-        for restricted in RESTRICTED {
+        for stars in STARS {
             for _ in 0..DRAWS {
-                let schedule = samples::with_times(&mut random, day_sets, restricted);
+                let schedule = samples::with_times(&mut random, day_sets, stars);
                 add(&mut cases, schedule, samples::start(&mut random));
             }
         }
@@ -81,14 +81,14 @@ fn write(dir: &Path, cases: &[Case]) -> io::Result<()> {
 }
 
 fn record((schedule, start): &Case) -> [u8; 32] {
-    let [.., restricted] = schedule.numbers();
+    let [.., stars] = schedule.numbers();
     let parts: [&[u8]; 8] = [
         &schedule.minutes.to_le_bytes(),
         &schedule.hours.to_le_bytes(),
         &schedule.days.to_le_bytes(),
         &schedule.months.to_le_bytes(),
         &[schedule.weekdays],
-        &[restricted as u8],
+        &[stars as u8],
         &[0; 4],
         &start.to_le_bytes(),
     ];

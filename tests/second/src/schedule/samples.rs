@@ -97,12 +97,11 @@ const TIME_SETS: [(u64, u32); 10] = [
     (!0, !ALL_HOURS),
 ];
 
-/// Whether days, and whether weekdays are restricted.
-pub const RESTRICTED: [(bool, bool); 4] =
-    [(false, false), (true, false), (false, true), (true, true)];
+/// Whether the field of the days, and whether that of the weekdays begins with a star.
+pub const STARS: [(bool, bool); 4] = [(false, false), (true, false), (false, true), (true, true)];
 
 /// Year, month, day.
-const DATES: [[u64; 3]; 22] = [
+const DATES: [[u64; 3]; 23] = [
     [1970, 1, 1],
     [1970, 2, 1],
     [1970, 3, 1],
@@ -112,6 +111,7 @@ const DATES: [[u64; 3]; 22] = [
     [2000, 2, 29],
     [2000, 3, 1],
     [2038, 1, 19],
+    [2088, 2, 29],
     [2096, 2, 29],
     [2096, 3, 1],
     [2100, 1, 1],
@@ -152,15 +152,15 @@ pub fn schedule(random: &mut Random) -> Schedule {
             set(random, 8) as u8,
         ),
     };
-    let restricted = random.pick(&RESTRICTED);
-    with_times(random, day_sets, restricted)
+    let stars = random.pick(&STARS);
+    with_times(random, day_sets, stars)
 }
 
 /// A schedule of given days at random times.
 pub fn with_times(
     random: &mut Random,
     (days, months, weekdays): DaySets,
-    (days_restricted, weekdays_restricted): (bool, bool),
+    (days_star, weekdays_star): (bool, bool),
 ) -> Schedule {
     let (minutes, hours) = match random.below(3) {
         0 => (set(random, 64), set(random, 32) as u32),
@@ -172,8 +172,8 @@ pub fn with_times(
         days,
         months,
         weekdays,
-        days_restricted,
-        weekdays_restricted,
+        days_star,
+        weekdays_star,
     }
 }
 

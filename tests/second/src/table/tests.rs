@@ -58,15 +58,15 @@ fn fields_have_their_sets() {
 #[test]
 fn only_a_bare_star_leaves_days_free() {
     let rows = [
-        ("* * * * *", (false, false)),
-        ("* * */1 * *", (true, false)),
-        ("* * * * */1", (false, true)),
-        ("* * 1-31 * 0-7", (true, true)),
+        ("* * * * *", (true, true)),
+        ("* * */2 * 1", (true, false)),
+        ("* * 1 * */7", (false, true)),
+        ("* * 1-31 * 0-7", (false, false)),
     ];
-    for (fields, restricted) in rows {
+    for (fields, stars) in rows {
         let schedule = sets(fields);
-        let found = (schedule.days_restricted, schedule.weekdays_restricted);
-        assert_eq!(found, restricted, "{fields}");
+        let found = (schedule.days_star, schedule.weekdays_star);
+        assert_eq!(found, stars, "{fields}");
     }
 }
 

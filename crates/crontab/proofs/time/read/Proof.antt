@@ -141,7 +141,7 @@ returns-6 : tie.Need-returns-6
 unfolding afterWeekday
 returns-6 c =
     c .with-command .ensures
-    ∙ sym (to-weekday (c .before .before .before .before .before .before .before .before .before .before .before .before) ∙ rw (← (c .before .before .before .before .before .before .before .before .before .before .field-at5 .ensures), c .before .before .before .before .before .before .before .before .values5 .given .1))
+    ∙ sym (to-weekday (c .before .before .before .before .before .before .before .before .before .before) ∙ rw (← (c .before .before .before .before .before .before .before .before .field-at5 .ensures), c .before .before .before .before .before .before .values5 .given .1))
 
 pub read-spec : {M : Type 1} → statement M
 read-spec =

@@ -1,7 +1,7 @@
 -- `schedule::day::matches_day` meets its contract: it tests what the definition does.
 -- Assumes nothing.
 use borrow.Author.Needs.{needs}
-use Rattle.schedule.specs.Match.{eitherMay, byDayRule, matchesDay}
+use Rattle.schedule.specs.Match.{bothMust, byDayRule, matchesDay}
 use Rattle.schedule.proofs.day.matches_day.Statement.{statement}
 use Rattle.schedule.proofs.day.matches_day.Tie as tie
 use Rattle.schedule.proofs.day.matches_day.Reads as reads
@@ -27,13 +27,13 @@ has-requires-3 : tie.Need-has-requires-3
 has-requires-3 c κs = search needs
 
 returns : tie.Need-returns
-unfolding matchesDay byDayRule eitherMay
+unfolding matchesDay byDayRule bothMust
 returns c =
     let b = c .before .before .before in
     rw (c .if1 .taken, b .has3 .ensures, b .before .before .has2 .ensures, b .before .before .before .before .has .ensures)
 
 returns-2 : tie.Need-returns-2
-unfolding matchesDay byDayRule eitherMay
+unfolding matchesDay byDayRule bothMust
 returns-2 c =
     let b = c .before .before .before in
     rw (c .if1 .left, b .has3 .ensures, b .before .before .has2 .ensures, b .before .before .before .before .has .ensures)

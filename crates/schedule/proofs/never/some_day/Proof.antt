@@ -1,7 +1,7 @@
 -- `schedule::never::some_day` meets its contract: it tests what the definition does.
 -- Assumes nothing.
 use borrow.Author.Needs.{needs}
-use Rattle.schedule.specs.Match.{eitherMay}
+use Rattle.schedule.specs.Match.{bothMust}
 use Rattle.schedule.specs.Days.{someDay}
 use Rattle.schedule.proofs.never.some_day.Statement.{statement}
 use Rattle.schedule.proofs.never.some_day.Tie as tie
@@ -22,12 +22,12 @@ month-with-date-requires : tie.Need-month-with-date-requires
 month-with-date-requires c κs = search needs
 
 returns : tie.Need-returns
-unfolding someDay eitherMay
-returns c = let b = c .before .before .before in rw (c .if1 .taken, b .month-with-date .ensures, b .before .next2 .ensures, b .before .before .before .next .ensures)
+unfolding someDay bothMust
+returns c = let b = c .before .before .before in rw (c .if1 .taken, b .month-with-date .ensures, b .before .next2 .ensures)
 
 returns-2 : tie.Need-returns-2
-unfolding someDay eitherMay
-returns-2 c = let b = c .before .before .before in rw (c .if1 .left, b .month-with-date .ensures, b .before .next2 .ensures)
+unfolding someDay bothMust
+returns-2 c = let b = c .before .before .before in rw (c .if1 .left, b .month-with-date .ensures, b .before .next2 .ensures, b .before .before .before .next .ensures)
 
 pub some-day-spec : {M : Type 1} → statement M
 some-day-spec =
