@@ -40,14 +40,14 @@ holds-part l buffer size h k =
     ap (take size) (sym h) ∙ ap (λ (n : ℕ). take n (image l ++ rest)) (sym more) ∙ take-append-add (image l) rest (size - length (image l)) in
     rw part (holds-front l (take (size - length (image l)) rest))
 
-room-on : (buffer : List ℕ) (u : Use) → roomOf (callOn buffer u) ≡ take (lent u) buffer
+pub room-on : (buffer : List ℕ) (u : Use) → roomOf (callOn buffer u) ≡ take (lent u) buffer
 unfolding roomOf callOn lent
 room-on buffer (tickIn minute size) = refl
 room-on buffer (popIn size) = refl
 
 module _ (jobs : Jobs) (h : jobs .count < limit) where
   -- a room that is big enough for all entries has the line
-  on-holds : (buffer l : List ℕ) (u : Use) → entriesOf (jobs .count) l ≡ true → Holds l buffer
+  pub on-holds : (buffer l : List ℕ) (u : Use) → entriesOf (jobs .count) l ≡ true → Holds l buffer
       → roomy (jobs .count) (roomOf (callOn buffer u)) ≡ true → Holds l (roomOf (callOn buffer u))
   unfolding roomy
   on-holds buffer l u e held r =
@@ -57,7 +57,7 @@ module _ (jobs : Jobs) (h : jobs .count < limit) where
       rw (room-on buffer u) (holds-part l buffer (lent u) held fits)
 
   -- the buffer has the line that the call leaves
-  on-after : (buffer l : List ℕ) (u : Use) → entriesOf (jobs .count) l ≡ true → Holds l buffer
+  pub on-after : (buffer l : List ℕ) (u : Use) → entriesOf (jobs .count) l ≡ true → Holds l buffer
       → Holds (lineAfter jobs l (callOn buffer u)) (bufferAfter jobs buffer u)
   unfolding lineAfter bufferAfter
   on-after buffer l u e held = elim (outcome jobs h l e c (on-holds buffer l u e held)) [ inl u ↦ undone u | inr d ↦ done d ]
@@ -84,7 +84,7 @@ module _ (jobs : Jobs) (h : jobs .count < limit) where
             (on-after buffer l u e held),
       )
 
-  started-holds : (size : ℕ) (buffer : List ℕ) → roomy (jobs .count) (take size buffer) ≡ true → Holds (fresh jobs) (started jobs size buffer)
+  pub started-holds : (size : ℕ) (buffer : List ℕ) → roomy (jobs .count) (take size buffer) ≡ true → Holds (fresh jobs) (started jobs size buffer)
   unfolding started initStep
   started-holds size buffer r = rw r (holds-more (fresh jobs) _ (drop size buffer) (holds-laid (fresh jobs) (take size buffer)))
 

@@ -9,3 +9,4 @@ pub mod Calls
 pub mod Fair
 pub mod Refusals
 pub mod Buffer
+pub mod Steady

@@ -5,4 +5,5 @@ pub mod Steps
 pub mod Fairness
 pub mod Refusals
 pub mod Buffer
+pub mod Steady
 pub mod Examples

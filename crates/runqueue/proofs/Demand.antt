@@ -24,8 +24,9 @@ use Rattle.fifo.specs.Fairness.{Recurs}
 use Rattle.fifo.proofs.Fair.{fair}
 use Rattle.fifo.proofs.Refusals.{refused-only}
 use Rattle.fifo.proofs.Buffer.{fair-in-buffer}
+use Rattle.fifo.proofs.Steady.{fair-steady}
 use Rattle.runqueue.specs.Jobs.{isBoot, whenOf, jobsOf}
-use Rattle.runqueue.specs.Demand.{jobsIn, CanFire, TableSteps, TableFair, TableRefusedOnly, TableFairInBuffer}
+use Rattle.runqueue.specs.Demand.{jobsIn, CanFire, TableSteps, TableFair, TableRefusedOnly, TableFairInBuffer, TableFairSteady}
 use Rattle.runqueue.specs.Calls.{initOf, tickOf, popOf}
 use Rattle.runqueue.proofs.Exits.{init-good, tick-good, pop-good}
 
@@ -73,3 +74,8 @@ pub table-fair-in-buffer : TableFairInBuffer
 unfolding jobsOf
 table-fair-in-buffer table e t size buffer first second f =
     fair-in-buffer (jobsIn table) gap e t size buffer first second (few table) (f .entry) (f .timed) (recurs table e f)
+
+pub table-fair-steady : TableFairSteady
+unfolding jobsOf
+table-fair-steady table e t size buffer first f =
+    fair-steady (jobsIn table) gap e t size buffer first (few table) (f .entry) (f .timed) (recurs table e f)

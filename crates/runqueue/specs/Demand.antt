@@ -20,6 +20,7 @@ use Rattle.fifo.specs.Steps.{Jobs, fresh, initStep, tickStep, popStep}
 use Rattle.fifo.specs.Fairness.{Call, Follows, unrefused, Paced, upTo, Names, span}
 use Rattle.fifo.specs.Refusals.{Expected}
 use Rattle.fifo.specs.Buffer.{Use, callsOn, endOf, started}
+use Rattle.fifo.specs.Steady.{steady}
 use Rattle.runqueue.specs.Jobs.{jobsOf}
 use Rattle.runqueue.specs.Calls.{initOf, tickOf, popOf}
 
@@ -67,3 +68,12 @@ TableFairInBuffer = (table : List ℕ) (e t : ℕ) (size : ℕ) (buffer : List �
     → t + span jobs gap ≤ lastMinute
     → let calls = unrefused jobs (callsOn jobs (endOf jobs (started jobs size buffer) first) second) in
     Paced (t + 1) (span jobs gap) true calls → Names jobs e (upTo (span jobs gap) calls)
+
+-- the claim with no hypothesis about calls: whatever went before, each minute is announced and one request follows
+abbrev pub TableFairSteady : Type 0
+TableFairSteady = (table : List ℕ) (e t size : ℕ) (buffer : List ℕ) (first : List Use)
+    → let jobs = jobsIn table in
+    CanFire table e
+    → roomy (jobs .count) (take size buffer) ≡ true
+    → t + span jobs gap ≤ lastMinute
+    → Names jobs e (upTo (span jobs gap) (callsOn jobs (endOf jobs (started jobs size buffer) first) (steady size (t + 1) (span jobs gap))))
