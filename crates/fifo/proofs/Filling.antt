@@ -1,7 +1,7 @@
 -- A line that grows entry by entry, as a loop over the entries makes it: those below i that pass a test have joined.
 -- Assumes nothing.
 use mathlib.Core.Path.{_≡_, refl, sym, ap, _∙_}
-use mathlib.Core.Bool.{Bool, true, false, not, cond, _&&_, and-eq-true-iff, or-false}
+use mathlib.Core.Bool.{Bool, true, false, not, cond, _&&_, and-comm, and-eq-true-iff, or-false}
 use mathlib.Core.List.{List, [], _∷_, _++_, append-assoc, append-nil}
 use Prim.Native.Nat.{ℕ, suc, _+_, _≤_, _<_}
 use native.Mathlib.Numerals.{add-one}
@@ -151,7 +151,22 @@ module _ (l room₀ : List ℕ) (p : ℕ → Bool) (n : ℕ) where
         count-most = omega (arith, f .count-most, one-most (p i));
       }
 
--- ---- a fresh line and an announced minute, as loops over the entries: a turn of each, and that it ends in the step
+-- A turn of the loop: an entry that is called joins unless it waits.
+module _ (n : ℕ) (room : List ℕ) (called : ℕ → Bool) where
+  abbrev joinsNow : ℕ → Bool
+  joinsNow e = not (has e (lineOf room)) && called e
+
+  now-new : (e : ℕ) → joinsNow e ≡ true → has e (lineOf room) ≡ false
+  now-new e q = not-true (has e (lineOf room)) (and-eq-true-iff (not (has e (lineOf room))) (called e) .0 q .0)
+
+  pub offer-next : (i : ℕ) → n < limit → isLine n room ≡ true → i < n
+      → let at = filled (lineOf room) room joinsNow in
+      ((called i && canJoin i (at i)) ≡ joinsNow i) × (cond (called i) (joined i (at i)) (at i) ≡ at (i + 1))
+  offer-next i h q k =
+      let line = is-line n room q in
+      filled-offer (lineOf room) room joinsNow n h (line .roomy-is) (line .entries-is) now-new i (called i) k (and-comm (not (has i (lineOf room))) (called i))
+
+-- ---- a fresh line and an announced minute end in their steps
 
 -- who joins doesn't wait
 pub joins-new : (jobs : Jobs) (minute : ℕ) (l : List ℕ) (e : ℕ) → joins jobs minute l e ≡ true → has e l ≡ false
@@ -166,18 +181,6 @@ module _ (jobs : Jobs) (room : List ℕ) where
       let some : leb (lineSize 0) (length room) ≡ true = le-leb (lineSize 0) (length room) (omega arith) in
       (some, rw some)
 
-  -- each boot job is pushed
-  pub init-next : (i : ℕ) → jobs .count < limit → roomy (jobs .count) room ≡ true → i < jobs .count
-      → let at = filled [] room (jobs .boot) in
-      ((jobs .boot i && canPush (at i)) ≡ jobs .boot i) × (cond (jobs .boot i) (pushed i (at i)) (at i) ≡ at (i + 1))
-  unfolding entriesOf has
-  init-next i h r k = go (jobs .boot i) refl
-    where
-      go : (b : Bool) → jobs .boot i ≡ b
-          → let at = filled [] room (jobs .boot) in ((b && canPush (at i)) ≡ b) × (cond b (pushed i (at i)) (at i) ≡ at (i + 1))
-      go true q = filled-push [] room (jobs .boot) (jobs .count) h r refl (λ e _. refl) i k q
-      go false q = (refl, filled-pass [] room (jobs .boot) i q)
-
   pub init-done : roomy (jobs .count) room ≡ true
       → (Joined (length (pick (jobs .boot) (jobs .count))) ≡ initStep jobs room .answer) × (filled [] room (jobs .boot) (jobs .count) ≡ initStep jobs room .room)
   unfolding initStep fresh
@@ -188,18 +191,6 @@ module _ (jobs : Jobs) (room : List ℕ) where
   init-refused r = (rw r, rw r)
 
   module _ (minute : ℕ) where
-    -- each time-based entry that matches is offered
-    pub tick-next : (i : ℕ) → jobs .count < limit → isLine (jobs .count) room ≡ true → i < jobs .count
-        → let due = not (jobs .boot i) && jobs .matches i minute in
-        let p = joins jobs minute (lineOf room) in
-        let at = filled (lineOf room) room p in
-        ((due && canJoin i (at i)) ≡ p i) × (cond due (joined i (at i)) (at i) ≡ at (i + 1))
-    unfolding joins
-    tick-next i h q k =
-        let line = is-line (jobs .count) room q in
-        filled-offer (lineOf room) room (joins jobs minute (lineOf room)) (jobs .count) h (line .roomy-is) (line .entries-is)
-        (joins-new jobs minute (lineOf room)) i (not (jobs .boot i) && jobs .matches i minute) k refl
-
     pub tick-done : isLine (jobs .count) room ≡ true → minute ≤ jobs .last
         → let p = joins jobs minute (lineOf room) in
         (Joined (length (pick p (jobs .count))) ≡ tickStep jobs minute room .answer) × (filled (lineOf room) room p (jobs .count) ≡ tickStep jobs minute room .room)

@@ -133,6 +133,12 @@ entries-length (suc n) l e =
 
 -- ---- who is picked
 
+-- tests that agree pick the same
+pub pick-same : (p q : ℕ → Bool) → ((e : ℕ) → p e ≡ q e) → (n : ℕ) → pick p n ≡ pick q n
+unfolding pick
+pick-same p q h zero = refl
+pick-same p q h (suc n) = rw (pick-same p q h n, h n)
+
 pub has-pick : (p : ℕ → Bool) (n e : ℕ) → has e (pick p n) ≡ (ltb e n && p e)
 unfolding has pick
 has-pick p zero e = rw (le-ltb e 0 (omega arith))

@@ -136,7 +136,7 @@ pub fn clear(room: &mut [u8]) -> bool
 const MAX_COUNT: usize = 65535;
 
 // Entry e joins at the back: no, and nothing written, where there is no room for it.
-pub fn push(room: &mut [u8], e: u16) -> bool
+fn push(room: &mut [u8], e: u16) -> bool
     ensures answer { λ r. ⌜ r ≡ canPush (now (room .entry)) ⌝ }
     ensures room { λ _. ⌜ now (room .exit) ≡ pushed e (now (room .entry)) ⌝ }
 {

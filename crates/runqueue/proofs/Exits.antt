@@ -1,18 +1,19 @@
 -- Laws of the three calls: what they come to where the table is refused, and where it isn't.
 -- Assumes nothing.
-use mathlib.Core.Path.{_≡_, sym, ap, _∙_}
+use mathlib.Core.Path.{_≡_, refl, ap, _∙_}
 use mathlib.Core.Bool.{true}
 use mathlib.Core.List.{List, []}
-use Prim.Native.Nat.{ℕ}
+use Prim.Native.Nat.{ℕ, _≤_}
 use native.Mathlib.Omega.{arith}
-use lib.ListN.{length}
 use borrow.Author.Tests.{eq-eqb, ne-eqb}
 use Rattle.crontab.specs.declared.Table.{Table}
+use Rattle.crontab.specs.Limits.{maxEntries}
 use Rattle.fifo.specs.declared.Ticked.the-variants.{Refused as NotTicked}
 use Rattle.fifo.specs.declared.Popped.the-variants.{Refused as NotPopped}
-use Rattle.fifo.specs.Layout.{laid, roomy}
+use Rattle.fifo.specs.Line.{entriesOf}
+use Rattle.fifo.specs.Layout.{lineOf, laid, roomy, isLine}
 use Rattle.fifo.specs.Steps.{initStep, tickStep, popStep, cleared}
-use Rattle.fifo.proofs.Laid.{laid-laid}
+use Rattle.fifo.proofs.Laid.{lineOf-laid, isLine-laid, laid-laid}
 use Rattle.fifo.proofs.Filling.{init-start}
 use Rattle.runqueue.specs.Jobs.{jobsOf}
 use Rattle.runqueue.specs.Calls.{initTable, tickTable, popTable}
@@ -47,14 +48,18 @@ module _ (t : Table) (room : List ℕ) where
     pop-good = rw (eq-eqb (t .refusal) 0 good)
 
 -- a room that was cleared holds the empty line, and what is laid there is as in the room before
-module _ (t : Table) (room x : List ℕ) (r : roomy (t .count) room ≡ true) (e : x ≡ cleared room) where
+module _ (t : Table) (room x : List ℕ) (few : t .count ≤ maxEntries) (r : roomy (t .count) room ≡ true) (e : x ≡ cleared room) where
   empty : x ≡ laid [] room
   unfolding jobsOf
   empty = e ∙ init-start (jobsOf t) room r .1
 
-  pub emptied : length x ≡ length room → (roomy (t .count) x ≡ true) × (x ≡ laid [] x)
-  unfolding roomy
-  emptied k = (rw k r, empty ∙ sym (ap (laid []) empty ∙ laid-laid [] [] room (omega arith)))
+  pub emptied-line : isLine (t .count) x ≡ true
+  unfolding entriesOf
+  emptied-line = rw empty (isLine-laid (t .count) [] room (omega arith) refl r)
+
+  pub emptied : lineOf x ≡ []
+  unfolding entriesOf
+  emptied = rw empty (lineOf-laid (t .count) [] room (omega arith) refl)
 
   pub laid-emptied : (l : List ℕ) → laid l x ≡ laid l room
   laid-emptied l = ap (laid l) empty ∙ laid-laid l [] room (omega arith)

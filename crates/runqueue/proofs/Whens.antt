@@ -1,7 +1,8 @@
--- A law of when an entry fires.
+-- Who joins: what a call lets join a line is what the steps of a fresh line and of an announced minute say.
 -- Assumes nothing.
-use mathlib.Core.Path.{_≡_, refl}
-use mathlib.Core.Bool.{not, _&&_}
+use mathlib.Core.Path.{_≡_, refl, _∙_}
+use mathlib.Core.Bool.{not, _&&_, and-comm}
+use mathlib.Core.List.{List, []}
 use Prim.Native.Nat.{ℕ}
 use Rattle.calendar.specs.declared.Date.{Date}
 use Rattle.calendar.specs.Dates.{dateAt}
@@ -9,10 +10,24 @@ use Rattle.schedule.specs.Match.{matches}
 use Rattle.crontab.specs.declared.When.{When}
 use Rattle.crontab.specs.declared.When.the-variants.{Reboot, Timed}
 use Rattle.crontab.specs.Answers.{firesOn, firesAt}
-use Rattle.runqueue.specs.Jobs.{isBoot}
+use Rattle.crontab.specs.declared.Table.{Table}
+use Rattle.fifo.specs.Line.{has}
+use Rattle.fifo.specs.Steps.{fresh, joins, joiners}
+use Rattle.fifo.proofs.Lines.{pick-same}
+use Rattle.runqueue.specs.declared.Called.the-variants.{AtBoot, On}
+use Rattle.runqueue.specs.Jobs.{isBoot, whenOf, jobsOf, isCalled, joining}
 
 -- an entry that matches the date of a minute is time-based and fires at that minute
-pub fires-timed : (w : When) (minute : ℕ) (date : Date) → date ≡ dateAt minute → firesOn w date ≡ (not (isBoot w) && firesAt w minute)
+fires-timed : (w : When) (minute : ℕ) (date : Date) → date ≡ dateAt minute → firesOn w date ≡ (not (isBoot w) && firesAt w minute)
 unfolding isBoot firesOn firesAt matches
 fires-timed Reboot minute date e = refl
 fires-timed (Timed s) minute date e = rw e
+
+pub joining-boot : (t : Table) → joining t AtBoot [] ≡ fresh (jobsOf t)
+unfolding joining isCalled fresh jobsOf has
+joining-boot t = refl
+
+pub joining-due : (t : Table) (minute : ℕ) (date : Date) (l : List ℕ) → date ≡ dateAt minute → joining t (On date) l ≡ joiners (jobsOf t) minute l
+unfolding joining isCalled joiners joins jobsOf
+joining-due t minute date l e =
+    pick-same _ _ (λ i. and-comm (not (has i l)) (firesOn (whenOf t i) date) ∙ rw (fires-timed (whenOf t i) minute date e)) (t .count)

@@ -1,16 +1,13 @@
 // The line of waiting jobs of a table (paper 01), by table bytes and the room that holds the line: a fresh line (init), an
 // announced minute (tick) and a request (pop).
 ghost use mathlib.Core.Path.{_≡_};
-ghost use mathlib.Core.Bool.{true, not, cond, _&&_};
+ghost use mathlib.Core.Bool.{true, cond, _&&_};
+ghost use mathlib.Core.List.{_++_};
 ghost use Prim.Native.Nat.{_≤_};
-ghost use mathlib.Core.List.{[]};
 ghost use lib.ListN.{length};
-ghost use Rattle.calendar.specs.Dates.{dateAt};
-ghost use Rattle.fifo.specs.Line.{pick};
-ghost use Rattle.fifo.specs.Layout.{lineOf, laid, roomy, isLine};
-ghost use Rattle.fifo.specs.Steps.{joins, ticked, fresh, canPush, pushed, canJoin, joined};
-ghost use Rattle.crontab.specs.Answers.{firesAt};
-ghost use Rattle.runqueue.specs.Jobs.{isBoot, jobsOf};
+ghost use Rattle.fifo.specs.Layout.{lineOf, laid, isLine};
+ghost use Rattle.fifo.specs.Steps.{canJoin, joined};
+ghost use Rattle.runqueue.specs.Jobs.{isBoot, isCalled, joining};
 ghost use Rattle.runqueue.specs.Calls.{initOf, tickOf, popOf};
 use calendar::Date;
 use crontab::Table;
@@ -18,6 +15,14 @@ use crontab::When;
 use crontab::firing;
 use fifo::Popped;
 use fifo::Ticked;
+
+// Which entries a call lets join the line.
+enum Called {
+    // The boot jobs.
+    AtBoot,
+    // Those that match a date.
+    On(Date),
+}
 
 fn is_boot(when: When) -> bool
     ensures { λ r. ⌜ r ≡ isBoot when ⌝ }
@@ -28,29 +33,22 @@ fn is_boot(when: When) -> bool
     }
 }
 
-// A boot job goes to the back of the line: how many joined, 1 or 0.
-fn enlist(room: &mut [u8], e: u16, when: When) -> usize
-    ensures answer { λ r. ⌜ r ≡ cond (isBoot when && canPush (now (room .entry))) 1 0 ⌝ }
-    ensures room { λ _. ⌜ now (room .exit) ≡ cond (isBoot when) (pushed e (now (room .entry))) (now (room .entry)) ⌝ }
-    ensures small { λ r. ⌜ r ≤ 1 ⌝ }
+fn is_called(when: When, called: Called) -> bool
+    ensures { λ r. ⌜ r ≡ isCalled called when ⌝ }
 {
-    if is_boot(when) {
-        if fifo::push(room, e) {
-            return 1;
-        }
-        return 0;
+    match called {
+        Called::AtBoot => is_boot(when),
+        Called::On(date) => firing::fires_on(when, date),
     }
-    0
 }
 
-// An entry that is due and doesn't wait goes to the back of the line: how many joined, 1 or 0.
-fn offer(room: &mut [u8], e: u16, when: When, minute: u64, date: Date) -> usize
-    requires { ⌜ date ≡ dateAt minute ⌝ }
-    ensures answer { λ r. ⌜ r ≡ cond (not (isBoot when) && firesAt when minute && canJoin e (now (room .entry))) 1 0 ⌝ }
-    ensures room { λ _. ⌜ now (room .exit) ≡ cond (not (isBoot when) && firesAt when minute) (joined e (now (room .entry))) (now (room .entry)) ⌝ }
+// An entry that is called and doesn't wait goes to the back of the line: how many joined, 1 or 0.
+fn offer(room: &mut [u8], e: u16, when: When, called: Called) -> usize
+    ensures answer { λ r. ⌜ r ≡ cond (isCalled called when && canJoin e (now (room .entry))) 1 0 ⌝ }
+    ensures room { λ _. ⌜ now (room .exit) ≡ cond (isCalled called when) (joined e (now (room .entry))) (now (room .entry)) ⌝ }
     ensures small { λ r. ⌜ r ≤ 1 ⌝ }
 {
-    if firing::fires_on(when, date) {
+    if is_called(when, called) {
         if fifo::join(room, e) {
             return 1;
         }
@@ -59,29 +57,11 @@ fn offer(room: &mut [u8], e: u16, when: When, minute: u64, date: Date) -> usize
     0
 }
 
-// The boot jobs join an empty line in file order. Answers how many there are.
-fn enlist_all(t: Table, room: &mut [u8]) -> usize
-    requires { ⌜ (t .count ≤ 128) × (roomy (t .count) (now room) ≡ true) × (now room ≡ laid [] (now room)) ⌝ }
-    ensures answer { λ r. ⌜ r ≡ length (fresh (jobsOf t)) ⌝ }
-    ensures room { λ _. ⌜ now (room .exit) ≡ laid (fresh (jobsOf t)) (now (room .entry)) ⌝ }
-{
-    let n = t.count;
-    let mut count = 0;
-    let mut i = 0;
-    while i < n {
-        let entry = t.entries[i];
-        let when = entry.when;
-        count += enlist(room, i as u16, when);
-        i += 1;
-    }
-    count
-}
-
 // Offers each entry in file order. Answers how many joined.
-fn offer_all(t: Table, room: &mut [u8], minute: u64, date: Date) -> usize
-    requires { ⌜ (t .count ≤ 128) × (isLine (t .count) (now room) ≡ true) × (date ≡ dateAt minute) ⌝ }
-    ensures answer { λ r. ⌜ r ≡ length (pick (joins (jobsOf t) minute (lineOf (now (room .entry)))) (t .count)) ⌝ }
-    ensures room { λ _. ⌜ now (room .exit) ≡ laid (ticked (jobsOf t) minute (lineOf (now (room .entry)))) (now (room .entry)) ⌝ }
+fn offer_all(t: Table, room: &mut [u8], called: Called) -> usize
+    requires { ⌜ (t .count ≤ 128) × (isLine (t .count) (now room) ≡ true) ⌝ }
+    ensures answer { λ r. ⌜ r ≡ length (joining t called (lineOf (now (room .entry)))) ⌝ }
+    ensures room { λ _. ⌜ now (room .exit) ≡ laid (lineOf (now (room .entry)) ++ joining t called (lineOf (now (room .entry)))) (now (room .entry)) ⌝ }
 {
     let n = t.count;
     let mut count = 0;
@@ -89,7 +69,7 @@ fn offer_all(t: Table, room: &mut [u8], minute: u64, date: Date) -> usize
     while i < n {
         let entry = t.entries[i];
         let when = entry.when;
-        count += offer(room, i as u16, when, minute, date);
+        count += offer(room, i as u16, when, called);
         i += 1;
     }
     count
@@ -107,7 +87,7 @@ pub fn init(table: &[u8], room: &mut [u8]) -> Ticked
     }
     if fifo::has_room(room, t.count) {
         fifo::clear(room);
-        return Ticked::Joined(enlist_all(t, room));
+        return Ticked::Joined(offer_all(t, room, Called::AtBoot));
     }
     Ticked::Refused(fifo::NOT_A_LINE)
 }
@@ -127,7 +107,7 @@ pub fn tick(table: &[u8], room: &mut [u8], minute: u64) -> Ticked
             return Ticked::Refused(calendar::NOT_ON_CALENDAR);
         }
         let date = calendar::date_of(minute).date;
-        return Ticked::Joined(offer_all(t, room, minute, date));
+        return Ticked::Joined(offer_all(t, room, Called::On(date)));
     }
     Ticked::Refused(fifo::NOT_A_LINE)
 }

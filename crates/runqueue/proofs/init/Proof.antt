@@ -1,13 +1,16 @@
 -- `runqueue::init` meets its contract: each return is a law of the calls.
 -- Assumes nothing.
 use mathlib.Core.Path.{sym, _∙_}
+use Prim.Native.Nat.{_≤_}
 use borrow.Author.Needs.{needs}
+use Rattle.crontab.specs.Limits.{maxEntries}
 use Rattle.crontab.proofs.Theorems.{table-sound}
 use Rattle.fifo.specs.Steps.{fresh}
 use Rattle.fifo.proofs.Filling.{init-done, init-refused}
 use Rattle.runqueue.specs.Jobs.{jobsOf}
 use Rattle.runqueue.specs.Calls.{initOf}
-use Rattle.runqueue.proofs.Exits.{init-bad, init-good, emptied, laid-emptied}
+use Rattle.runqueue.proofs.Whens.{joining-boot}
+use Rattle.runqueue.proofs.Exits.{init-bad, init-good, emptied-line, emptied, laid-emptied}
 use Rattle.runqueue.proofs.init.Statement.{statement}
 use Rattle.runqueue.proofs.init.Tie as tie
 
@@ -24,15 +27,13 @@ has-room-requires c κs = search needs
 clear-requires : tie.Need-clear-requires
 clear-requires c κs = search needs
 
-enlist-all-requires : tie.Need-enlist-all-requires
-enlist-all-requires c κs =
-    let b = c .before .before .before .before .before .before in
+offer-all-requires : tie.Need-offer-all-requires
+offer-all-requires c κs =
+    let k = c .before .before .before in
+    let b = k .before .before .before in
     let t = b .before .before .before .read in
-    let e = emptied (t .result) _ (c .before .before .before .clear .last .0)
-    (sym (b .has-room .ensures) ∙ c .before .before .before .before .before .if2 .taken)
-    (c .before .before .before .clear .ensures .1) (c .before .before .before .clear .kept .0)
-    in
-    (rw (t .ensures) (table-sound _ .few), e .0, e .1)
+    let few : t .result .count ≤ maxEntries = rw (t .ensures) (table-sound _ .few) in
+    (few, emptied-line (t .result) _ (k .clear .last .0) few (sym (b .has-room .ensures) ∙ k .before .before .if2 .taken) (k .clear .ensures .1))
 
 same-length : tie.Need-same-length
 same-length c = search needs
@@ -44,12 +45,15 @@ returns-2 c =
     let b = d .before .before .before in
     let t = b .before .before .before .read .result in
     let r = sym (b .has-room .ensures) ∙ d .before .before .if2 .taken in
+    let few : t .count ≤ maxEntries = rw (b .before .before .before .read .ensures) (table-sound _ .few) in
     rw (
       ← (b .before .before .before .read .ensures),
       init-good t _ (b .before .before .if1 .left),
-      c .before .before .enlist-all .ensures .0,
-      c .before .before .enlist-all .ensures .1,
-      laid-emptied t _ (d .clear .last .0) r (d .clear .ensures .1),
+      c .before .before .offer-all .ensures .0,
+      c .before .before .offer-all .ensures .1,
+      emptied t _ (d .clear .last .0) few r (d .clear .ensures .1),
+      joining-boot t,
+      laid-emptied t _ (d .clear .last .0) few r (d .clear .ensures .1),
     )
     (init-done (jobsOf t) _ r)
 
@@ -72,7 +76,7 @@ init-spec =
     returns
     has-room-requires
     clear-requires
-    enlist-all-requires
+    offer-all-requires
     same-length
     returns-2
     same-length-2

@@ -1,23 +1,24 @@
--- `runqueue::offer_all` meets its contract: after the entries below i, those that match and did not wait have joined (`Fills`).
+-- `runqueue::offer_all` meets its contract: after the entries below i, those that are called and did not wait have joined (`Fills`).
 -- Assumes nothing.
 use mathlib.Core.Path.{_≡_, refl, sym, ap, _∙_}
+use mathlib.Core.Bool.{not, _&&_}
 use Prim.Native.Nat.{ℕ, _+_, _-_}
 use native.Mathlib.Omega.{arith}
 use borrow.Author.Needs.{needs}
+use Rattle.fifo.specs.Line.{has}
 use Rattle.fifo.specs.Layout.{lineOf}
-use Rattle.fifo.specs.Steps.{joins, ticked, joiners}
 use Rattle.fifo.proofs.Rooms.{laid-line}
-use Rattle.fifo.proofs.Filling.{Fills, fills-none, fills-more, tick-next}
-use Rattle.runqueue.specs.Jobs.{whenOf, jobsOf}
+use Rattle.fifo.proofs.Filling.{Fills, fills-none, fills-more, offer-next}
+use Rattle.runqueue.specs.Jobs.{whenOf, isCalled, joining}
 use Rattle.runqueue.proofs.offer_all.Statement.{statement}
 use Rattle.runqueue.proofs.offer_all.Tie as tie
 
 abbrev Inv-loop : tie.InvT-loop
-Inv-loop room₀ minute date t n count₀ i₀ room count i =
-    Fills (lineOf room₀) room₀ (joins (jobsOf t) minute (lineOf room₀)) (t .count) i room count
+Inv-loop room₀ called t n count₀ i₀ room count i =
+    Fills (lineOf room₀) room₀ (λ e. not (has e (lineOf room₀)) && isCalled called (whenOf t e)) (t .count) i room count
 
 abbrev μ-loop : tie.MeasureT-loop
-μ-loop room₀ minute date t n count₀ i₀ room count i = t .count - i
+μ-loop room₀ called t n count₀ i₀ room count i = t .count - i
 
 loop-holds : tie.Need-loop-holds Inv-loop μ-loop
 loop-holds c =
@@ -35,7 +36,7 @@ cast-offer : tie.Need-cast-offer Inv-loop μ-loop
 cast-offer c = omega arith
 
 offer-requires : tie.Need-offer-requires Inv-loop μ-loop
-offer-requires c κs = c .before .before .before .before .before .pre .2
+offer-requires c κs = search needs
 
 add-count : tie.Need-add-count Inv-loop μ-loop
 add-count c = omega (arith, c .before .before .offer .ensures .1 .1, c .before .before .before .before .before .before .loop .inv .count-most)
@@ -47,13 +48,13 @@ loop-less : tie.Need-loop-less Inv-loop μ-loop
 loop-less c = omega arith
 
 loop-again : tie.Need-loop-again Inv-loop μ-loop
-unfolding jobsOf whenOf
+unfolding whenOf
 loop-again c =
     let b = c .before .before .before .before .before .before in
     let a = b .before .before .args in
     let f = b .loop .inv in
     let p = b .before .before .pre in
-    let step = tick-next (jobsOf (a .t1)) (a .room .now) (a .minute) (b .loop .i) (omega arith) (p .1) (omega arith) in
+    let step = offer-next (a .t1 .count) (a .room .now) (λ e. isCalled (a .called) (whenOf (a .t1) e)) (b .loop .i) (omega arith) (p .1) (omega arith) in
     let o = c .before .before .offer in
     fills-more _ _ _ _ f (omega arith) (o .ensures .1 .0 ∙ rw (f .room-is) (step .1)) (o .kept .0 ∙ f .length-is)
     (ap (λ (r : ℕ). b .loop .count + r) (o .ensures .0 ∙ rw (f .room-is, step .0)))
@@ -62,7 +63,7 @@ same-length : tie.Need-same-length Inv-loop μ-loop
 same-length c = search needs
 
 returns : tie.Need-returns Inv-loop μ-loop
-unfolding ticked joiners jobsOf
+unfolding joining
 returns c =
     let f = c .before .loop .inv in
     let e : c .before .loop .i ≡ c .before .before .before .args .t1 .count = omega (arith, f .upTo) in

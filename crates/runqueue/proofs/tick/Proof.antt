@@ -9,6 +9,7 @@ use Rattle.fifo.specs.Steps.{ticked, joiners}
 use Rattle.fifo.proofs.Filling.{tick-done, tick-late, tick-refused}
 use Rattle.runqueue.specs.Jobs.{jobsOf}
 use Rattle.runqueue.specs.Calls.{tickOf}
+use Rattle.runqueue.proofs.Whens.{joining-due}
 use Rattle.runqueue.proofs.Exits.{tick-bad, tick-good}
 use Rattle.runqueue.proofs.tick.Statement.{statement}
 use Rattle.runqueue.proofs.tick.Tie as tie
@@ -42,7 +43,6 @@ offer-all-requires c κs =
     let b = c .before .before .before .before .before in (
       rw (b .before .before .before .read .ensures) (table-sound _ .few),
       sym (b .is-line .ensures) ∙ c .before .before .before .before .if2 .taken,
-      ap (λ (a : DateAnswer). a .date) (c .before .before .date-of .ensures ∙ dateOf-on _ (c .before .before .before .if3 .left)),
     )
 
 same-length-2 : tie.Need-same-length-2
@@ -53,11 +53,14 @@ unfolding tickOf jobsOf ticked joiners
 returns-3 c =
     let b = c .before .before .before .before .before .before .before .before in
     let t = b .before .before .before .read .result in
+    let on = c .before .before .before .before .before in
+    let date = ap (λ (a : DateAnswer). a .date) (on .date-of .ensures ∙ dateOf-on _ (on .before .if3 .left)) in
     rw (
       ← (b .before .before .before .read .ensures),
       tick-good t _ (b .before .before .if1 .left),
       c .before .before .offer-all .ensures .0,
       c .before .before .offer-all .ensures .1,
+      joining-due t _ _ _ date,
     )
     (tick-done (jobsOf t) _ _ (sym (b .is-line .ensures) ∙ c .before .before .before .before .before .before .before .if2 .taken)
     (c .before .before .before .before .before .before .if3 .left))
