@@ -1,5 +1,5 @@
-// The same dates and minutes by walking year by year and month by month, as the definitions do. Only tests and benchmarks
-// call this; everything else goes the direct way.
+// The same dates and minutes by walking: whole cycles of 400 years at once, then year by year and month by month. Only tests
+// and benchmarks call this; everything else goes the direct way.
 ghost use mathlib.Core.Path.{_≡_};
 ghost use Prim.Native.Nat.{_-_, _≤_, _<_};
 ghost use Rattle.calendar.specs.Gregorian.{yearDays, monthDays};

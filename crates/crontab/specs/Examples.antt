@@ -7,6 +7,7 @@ use mathlib.Core.List.{List, [], _∷_}
 use Rattle.crontab.specs.declared.When.the-variants.{Reboot, Timed}
 use Rattle.crontab.specs.declared.line.Line.the-variants.{Ignored, Setting, Entry, Refused}
 use Rattle.schedule.specs.declared.Schedule.{Schedule}
+use Rattle.schedule.specs.Examples.{oddMondays}
 use Rattle.field.specs.Parts.{until, has, before, after, afterEach, split}
 use Rattle.field.specs.Numbers.{isDigit, areDigits, valueFrom, numberOf}
 use Rattle.field.specs.Elements.{isElement, ranging, numberOr, endOf, upperOf, afterDash, elementOf}
@@ -39,6 +40,8 @@ examples :
     × (readLine (48 ∷ 32 ∷ 48 ∷ 32 ∷ 42 ∷ 32 ∷ 42 ∷ 32 ∷ 109 ∷ 111 ∷ 110 ∷ 45 ∷ 102 ∷ 114 ∷ 105 ∷ 32 ∷ 120 ∷ []) ≡ Entry (record { when = Timed weekdays5; start = 16; end = 17 }))
     × (readLine (48 ∷ 32 ∷ 48 ∷ 32 ∷ 42 ∷ 32 ∷ 42 ∷ 32 ∷ 102 ∷ 114 ∷ 105 ∷ 45 ∷ 109 ∷ 111 ∷ 110 ∷ 32 ∷ 120 ∷ []) ≡ Refused (record { number = 7; column = 9 }))
     × (readLine (48 ∷ 32 ∷ 48 ∷ 32 ∷ 42 ∷ 32 ∷ 42 ∷ 32 ∷ 106 ∷ 97 ∷ 110 ∷ 32 ∷ 120 ∷ []) ≡ Refused (record { number = 5; column = 9 }))
+    -- `0 0 */2 * 1 x`: Mondays on odd days, since the day field begins with a star
+    × (readLine (48 ∷ 32 ∷ 48 ∷ 32 ∷ 42 ∷ 47 ∷ 50 ∷ 32 ∷ 42 ∷ 32 ∷ 49 ∷ 32 ∷ 120 ∷ []) ≡ Entry (record { when = Timed oddMondays; start = 12; end = 13 }))
     -- `0 0 * * * ` without a command: 9 after the last byte
     × (readLine (48 ∷ 32 ∷ 48 ∷ 32 ∷ 42 ∷ 32 ∷ 42 ∷ 32 ∷ 42 ∷ 32 ∷ []) ≡ Refused (record { number = 9; column = 11 }))
     -- `5 5`: 4 after the last byte, but a bad field before it comes first
@@ -66,8 +69,7 @@ examples :
     -- `0 0 1 1 *`, `@yearly`
     × (readLine (48 ∷ 32 ∷ 48 ∷ 32 ∷ 49 ∷ 32 ∷ 49 ∷ 32 ∷ 42 ∷ 32 ∷ 120 ∷ []) ≡ Entry (record { when = Timed yearly; start = 10; end = 11 }))
     × (readLine (64 ∷ 121 ∷ 101 ∷ 97 ∷ 114 ∷ 108 ∷ 121 ∷ 32 ∷ 120 ∷ []) ≡ Entry (record { when = Timed yearly; start = 8; end = 9 }))
-    -- `0 0 1 1 *`, `@annually`
-    × (readLine (48 ∷ 32 ∷ 48 ∷ 32 ∷ 49 ∷ 32 ∷ 49 ∷ 32 ∷ 42 ∷ 32 ∷ 120 ∷ []) ≡ Entry (record { when = Timed yearly; start = 10; end = 11 }))
+    -- `@annually`
     × (readLine (64 ∷ 97 ∷ 110 ∷ 110 ∷ 117 ∷ 97 ∷ 108 ∷ 108 ∷ 121 ∷ 32 ∷ 120 ∷ []) ≡ Entry (record { when = Timed yearly; start = 10; end = 11 }))
     -- `0 0 1 * *`, `@monthly`
     × (readLine (48 ∷ 32 ∷ 48 ∷ 32 ∷ 49 ∷ 32 ∷ 42 ∷ 32 ∷ 42 ∷ 32 ∷ 120 ∷ []) ≡ Entry (record { when = Timed monthly; start = 10; end = 11 }))
@@ -78,8 +80,7 @@ examples :
     -- `0 0 * * *`, `@daily`
     × (readLine (48 ∷ 32 ∷ 48 ∷ 32 ∷ 42 ∷ 32 ∷ 42 ∷ 32 ∷ 42 ∷ 32 ∷ 120 ∷ []) ≡ Entry (record { when = Timed daily; start = 10; end = 11 }))
     × (readLine (64 ∷ 100 ∷ 97 ∷ 105 ∷ 108 ∷ 121 ∷ 32 ∷ 120 ∷ []) ≡ Entry (record { when = Timed daily; start = 7; end = 8 }))
-    -- `0 0 * * *`, `@midnight`
-    × (readLine (48 ∷ 32 ∷ 48 ∷ 32 ∷ 42 ∷ 32 ∷ 42 ∷ 32 ∷ 42 ∷ 32 ∷ 120 ∷ []) ≡ Entry (record { when = Timed daily; start = 10; end = 11 }))
+    -- `@midnight`
     × (readLine (64 ∷ 109 ∷ 105 ∷ 100 ∷ 110 ∷ 105 ∷ 103 ∷ 104 ∷ 116 ∷ 32 ∷ 120 ∷ []) ≡ Entry (record { when = Timed daily; start = 10; end = 11 }))
     -- `0 * * * *`, `@hourly`
     × (readLine (48 ∷ 32 ∷ 42 ∷ 32 ∷ 42 ∷ 32 ∷ 42 ∷ 32 ∷ 42 ∷ 32 ∷ 120 ∷ []) ≡ Entry (record { when = Timed hourly; start = 10; end = 11 }))
@@ -90,5 +91,11 @@ examples :
     × (fault (42 ∷ 32 ∷ 42 ∷ 32 ∷ 42 ∷ 32 ∷ 42 ∷ 32 ∷ 42 ∷ 32 ∷ 97 ∷ 10 ∷ 64 ∷ 114 ∷ 101 ∷ 98 ∷ 111 ∷ 111 ∷ 116 ∷ 32 ∷ 98 ∷ 10 ∷ 48 ∷ 32 ∷ 42 ∷ 32 ∷ 42 ∷ 32 ∷ 42 ∷ 32 ∷ 42 ∷ 32 ∷ 99 ∷ []) ≡ 0 ∷ 0 ∷ 0 ∷ 3 ∷ [])
     -- the first bad line, and no entry
     × (fault (64 ∷ 114 ∷ 101 ∷ 98 ∷ 111 ∷ 111 ∷ 116 ∷ 32 ∷ 98 ∷ 10 ∷ 10 ∷ 54 ∷ 48 ∷ 32 ∷ 42 ∷ 32 ∷ 42 ∷ 32 ∷ 42 ∷ 32 ∷ 42 ∷ 32 ∷ 97 ∷ 10 ∷ 65 ∷ 10 ∷ []) ≡ 6 ∷ 3 ∷ 1 ∷ 0 ∷ [])
-unfolding weekdays5 until has before after afterEach split isDigit areDigits valueFrom numberOf isElement ranging numberOr endOf upperOf afterDash elementOf lower alike named monthNames weekdayNames nameOf isSunday everyStep valuesOf bitOf put including outside judged areElements judgedAll listField starElement starField readField withBit isBlank isQuote ofClass run skipped trimmed between quotedAt nonEmpty nameAt closed valueAt afterEquals afterName settingLine same meanings meaningIn wordOf withCommand afterWord wordEntry answered fieldAt afterWeekday afterMonth afterDay afterHour afterMinute timedEntry startsFields contentFrom contentOf readLine onto linesOf noEntries refusedTable emptyTable withEntry afterLine withLines tableOf fault
-examples = (refl, refl, refl, refl, refl, refl, refl, refl, refl, refl, refl, refl, refl, refl, refl, refl, refl, refl, refl, refl, refl, refl, refl, refl, refl, refl, refl, refl, refl, refl, refl, refl, refl, refl, refl, refl, refl)
+unfolding weekdays5 oddMondays until has before after afterEach split isDigit areDigits valueFrom numberOf isElement ranging numberOr endOf
+    upperOf afterDash elementOf lower alike named monthNames weekdayNames nameOf isSunday everyStep valuesOf bitOf put including
+    outside judged areElements judgedAll listField starElement starField readField withBit isBlank isQuote ofClass run skipped
+    trimmed between quotedAt nonEmpty nameAt closed valueAt afterEquals afterName settingLine same meanings meaningIn wordOf
+    withCommand afterWord wordEntry answered fieldAt afterWeekday afterMonth afterDay afterHour afterMinute timedEntry
+    startsFields contentFrom contentOf readLine onto linesOf noEntries refusedTable emptyTable withEntry afterLine withLines
+    tableOf fault
+examples = (refl, refl, refl, refl, refl, refl, refl, refl, refl, refl, refl, refl, refl, refl, refl, refl, refl, refl, refl, refl, refl, refl, refl, refl, refl, refl, refl, refl, refl, refl, refl, refl, refl, refl, refl, refl)

@@ -20,7 +20,6 @@ use Rattle.field.specs.Judgement.{outside, judged}
 use Rattle.field.specs.Fields.{areElements, judgedAll, listField, starElement, starField, readField}
 use Rattle.crontab.specs.declared.When.the-variants.{Timed}
 use Rattle.crontab.specs.declared.EntryAnswer.the-variants.{Found}
-use Rattle.crontab.specs.declared.NextAnswer.the-variants.{At}
 use Rattle.crontab.specs.Bytes.{isBlank, isQuote, ofClass, run, skipped, trimmed, between}
 use Rattle.crontab.specs.Entries.{withCommand}
 use Rattle.crontab.specs.Times.{answered, fieldAt, afterWeekday, afterMonth, afterDay, afterHour, afterMinute, timedEntry}
@@ -29,6 +28,7 @@ use Rattle.crontab.specs.Tables.{noEntries, refusedTable, emptyTable, withEntry
 use Rattle.crontab.specs.Answers.{entryIn, entryOf, nextFound, nextAt, nextIn, nextOf}
 use Rattle.command.specs.Pieces.{alone, paired, pieces, byteOf, bytesOf}
 use Rattle.command.specs.Parts.{upToPercent, restOf, shellLine, inputOf}
+use Rattle.eremothyn.specs.Entries.{nextNumber}
 use Rattle.eremothyn.specs.KnownDays.{KnownDays}
 
 -- the table's first entry is timed
@@ -48,7 +48,8 @@ entries :
     × reads (48 ∷ 32 ∷ 48 ∷ 32 ∷ 51 ∷ 48 ∷ 32 ∷ 50 ∷ 32 ∷ 49 ∷ 32 ∷ 97 ∷ []) mondays30 11 12
     × reads (48 ∷ 32 ∷ 48 ∷ 32 ∷ 51 ∷ 49 ∷ 32 ∷ 49 ∷ 50 ∷ 32 ∷ 42 ∷ 32 ∷ 97 ∷ []) lastDay 12 13
     × reads (48 ∷ 32 ∷ 48 ∷ 32 ∷ 50 ∷ 57 ∷ 32 ∷ 50 ∷ 32 ∷ 42 ∷ 47 ∷ 55 ∷ 32 ∷ 97 ∷ []) leapSundays 13 14
-unfolding leapDay fridays february30 mondays30 lastDay leapSundays isBlank isQuote ofClass run skipped trimmed between withCommand answered
+unfolding leapDay fridays february30 mondays30 lastDay leapSundays isBlank isQuote ofClass run skipped trimmed between
+    withCommand answered
     fieldAt afterWeekday afterMonth afterDay afterHour afterMinute timedEntry startsFields contentFrom contentOf readLine onto
     linesOf noEntries refusedTable emptyTable withEntry afterLine withLines tableOf entryIn entryOf until has before after
     afterEach split isDigit areDigits valueFrom numberOf isElement ranging numberOr endOf upperOf afterDash elementOf lower
@@ -57,7 +58,7 @@ unfolding leapDay fridays february30 mondays30 lastDay leapSundays isBlank isQuo
 entries = (refl, refl, refl, refl, refl, refl)
 
 pub known-days : KnownDays
-unfolding nextFound dateOf dateAt yearOf monthOf weekdayOf walk yearDays leap monthDays monthLength monthTable noDate minuteOf
+unfolding nextNumber nextFound dateOf dateAt yearOf monthOf weekdayOf walk yearDays leap monthDays monthLength monthTable noDate minuteOf
     minuteAt daysBefore exists span until has before after afterEach split isDigit areDigits valueFrom numberOf isElement
     ranging numberOr endOf upperOf afterDash elementOf lower alike named monthNames weekdayNames nameOf isSunday everyStep
     valuesOf bitOf put including outside judged areElements judgedAll listField starElement starField readField withBit
@@ -67,12 +68,12 @@ known-days = (
   refl,
   refl,
   refl,
-  firing _ leapDay 11 12 _ (entries .0) ∙ ap nextFound (firings.known-days .0),
-  firing _ fridays 14 15 _ (entries .1) ∙ ap nextFound (firings.known-days .1),
-  firing _ fridays 14 15 _ (entries .1) ∙ ap nextFound (firings.known-days .2),
-  firing _ february30 11 12 _ (entries .2) ∙ ap nextFound (firings.known-days .3),
-  firing _ mondays30 11 12 _ (entries .3) ∙ ap nextFound (firings.known-days .4),
-  firing _ lastDay 12 13 _ (entries .4) ∙ ap nextFound (firings.known-days .5),
+  ap nextNumber (firing _ leapDay 11 12 _ (entries .0) ∙ ap nextFound (firings.known-days .0)),
+  ap nextNumber (firing _ fridays 14 15 _ (entries .1) ∙ ap nextFound (firings.known-days .1)),
+  ap nextNumber (firing _ fridays 14 15 _ (entries .1) ∙ ap nextFound (firings.known-days .2)),
+  ap nextNumber (firing _ february30 11 12 _ (entries .2) ∙ ap nextFound (firings.known-days .3)),
+  ap nextNumber (firing _ mondays30 11 12 _ (entries .3) ∙ ap nextFound (firings.known-days .4)),
+  ap nextNumber (firing _ lastDay 12 13 _ (entries .4) ∙ ap nextFound (firings.known-days .5)),
   refl,
   refl,
   refl,
@@ -84,6 +85,6 @@ known-days = (
 )
 
 -- `0 0 29 2 */7` after 62,147,520 (2088-02-29): 83,184,480 (2128-02-29)
-pub gap-reached : nextOf (48 ∷ 32 ∷ 48 ∷ 32 ∷ 50 ∷ 57 ∷ 32 ∷ 50 ∷ 32 ∷ 42 ∷ 47 ∷ 55 ∷ 32 ∷ 97 ∷ []) 0 62147520 ≡ At 83184480
-unfolding nextFound
-gap-reached = firing _ leapSundays 13 14 _ (entries .5) ∙ ap nextFound firings.gap-reached
+pub gap-reached : nextNumber (nextOf (48 ∷ 32 ∷ 48 ∷ 32 ∷ 50 ∷ 57 ∷ 32 ∷ 50 ∷ 32 ∷ 42 ∷ 47 ∷ 55 ∷ 32 ∷ 97 ∷ []) 0 62147520) ≡ 83184480
+unfolding nextNumber nextFound
+gap-reached = ap nextNumber (firing _ leapSundays 13 14 _ (entries .5) ∙ ap nextFound firings.gap-reached)

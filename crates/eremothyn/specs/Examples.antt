@@ -1,4 +1,4 @@
--- What C callers get, for some of paper 01's known days.
+-- What C callers get: paper 01's known days, and small tables, with the numbers that the paper gives.
 -- Assumes nothing.
 use mathlib.Core.Path.{_≡_, refl}
 use mathlib.Core.List.{List, [], _∷_}
@@ -6,9 +6,30 @@ use Prim.Native.Nat.{ℕ}
 use Rattle.calendar.specs.Gregorian.{leap, yearDays, monthTable, monthLength, monthDays}
 use Rattle.calendar.specs.Walk.{span, walk}
 use Rattle.calendar.specs.Dates.{weekdayOf, yearOf, monthOf, dateAt, noDate, dateOf, exists, daysBefore, minuteAt, minuteOf}
+use Rattle.schedule.specs.Sets.{hasBit, withBit, put}
+use Rattle.schedule.specs.Match.{bothMust, byDayRule, matchesDay, matchesTime, matchesDate, matches}
+use Rattle.field.specs.Parts.{until, has, before, after, afterEach, split}
+use Rattle.field.specs.Numbers.{isDigit, areDigits, valueFrom, numberOf}
+use Rattle.field.specs.Elements.{isElement, ranging, numberOr, endOf, upperOf, afterDash, elementOf}
+use Rattle.field.specs.Names.{lower, alike, named, monthNames, weekdayNames, nameOf, isSunday}
+use Rattle.field.specs.Values.{everyStep, valuesOf, bitOf, including}
+use Rattle.field.specs.Judgement.{outside, judged}
+use Rattle.field.specs.Fields.{areElements, judgedAll, listField, starElement, starField, readField}
+use Rattle.crontab.specs.Bytes.{isBlank, isQuote, ofClass, run, skipped, trimmed, between}
+use Rattle.crontab.specs.Entries.{withCommand, afterWord, wordEntry}
+use Rattle.crontab.specs.Times.{answered, fieldAt, afterWeekday, afterMonth, afterDay, afterHour, afterMinute, timedEntry}
+use Rattle.crontab.specs.Lines.{onto, linesOf, startsFields, contentFrom, contentOf, readLine}
+use Rattle.crontab.specs.Tables.{noEntries, refusedTable, emptyTable, withEntry, afterLine, withLines, tableOf}
+use Rattle.crontab.specs.Assignments.{quotedAt, nonEmpty, nameAt, closed, valueAt, afterEquals, afterName, settingLine}
+use Rattle.crontab.specs.Words.{same, meanings, meaningIn, wordOf}
+use Rattle.crontab.specs.Answers.{entryIn, entryOf, firesAt, dueAt, dueIn, dueOf}
+use Rattle.crontab.specs.Settings.{refusedSetting, shownAt, settingFrom, settingOf}
 use Rattle.eremothyn.specs.declared.dates.Part.the-variants.{Year, Month, Day, Hour, Minute, Weekday}
 use Rattle.eremothyn.specs.Answer.{answerOf}
 use Rattle.eremothyn.specs.Dates.{datePart, dateMinute}
+use Rattle.eremothyn.specs.Tables.{checkNumber, faultLine, faultColumn}
+use Rattle.eremothyn.specs.Entries.{dueNumber}
+use Rattle.eremothyn.specs.Settings.{nameOffset, nameLength, valueOffset, valueLength}
 use Rattle.eremothyn.specs.Commands.{splitNumber, inputNumber}
 use Rattle.eremothyn.specs.Queue.{tickNumber, popNumber}
 use Rattle.command.specs.declared.Input.the-variants.{None, Length}
@@ -25,7 +46,8 @@ unfolding allParts datePart answerOf dateOf dateAt yearOf monthOf weekdayOf walk
 last-minute = refl
 
 past-the-end : allParts 4223371680 ≡ 4294967310 ∷ 4294967310 ∷ 4294967310 ∷ 4294967310 ∷ 4294967310 ∷ 4294967310 ∷ []
-unfolding allParts datePart answerOf dateOf dateAt yearOf monthOf weekdayOf walk yearDays leap monthDays monthLength monthTable noDate
+unfolding allParts datePart answerOf dateOf dateAt yearOf monthOf weekdayOf walk yearDays leap monthDays monthLength monthTable
+    noDate
 past-the-end = refl
 
 -- 29 February of 2096 and of 2100
@@ -49,3 +71,57 @@ refused-numbers :
     × (_≡_ {A = ℕ} (popNumber (pop.Refused 28)) 4294967324)
 unfolding splitNumber tickNumber popNumber
 refused-numbers = (refl, refl, refl)
+
+-- a table of two entries, `@reboot x` and `0 * * * * y`: its count; due at minute 60, not at 61, and a boot job never; entry 2 is 13, a
+-- minute off the calendar 14
+by-entry :
+    (checkNumber (64 ∷ 114 ∷ 101 ∷ 98 ∷ 111 ∷ 111 ∷ 116 ∷ 32 ∷ 120 ∷ 10 ∷ 48 ∷ 32 ∷ 42 ∷ 32 ∷ 42 ∷ 32 ∷ 42 ∷ 32 ∷ 42 ∷ 32 ∷ 121 ∷ []) ≡ 2)
+    × (dueNumber (dueOf (64 ∷ 114 ∷ 101 ∷ 98 ∷ 111 ∷ 111 ∷ 116 ∷ 32 ∷ 120 ∷ 10 ∷ 48 ∷ 32 ∷ 42 ∷ 32 ∷ 42 ∷ 32 ∷ 42 ∷ 32 ∷ 42 ∷ 32 ∷ 121 ∷ []) 1 60) ≡ 1)
+    × (dueNumber (dueOf (64 ∷ 114 ∷ 101 ∷ 98 ∷ 111 ∷ 111 ∷ 116 ∷ 32 ∷ 120 ∷ 10 ∷ 48 ∷ 32 ∷ 42 ∷ 32 ∷ 42 ∷ 32 ∷ 42 ∷ 32 ∷ 42 ∷ 32 ∷ 121 ∷ []) 1 61) ≡ 0)
+    × (dueNumber (dueOf (64 ∷ 114 ∷ 101 ∷ 98 ∷ 111 ∷ 111 ∷ 116 ∷ 32 ∷ 120 ∷ 10 ∷ 48 ∷ 32 ∷ 42 ∷ 32 ∷ 42 ∷ 32 ∷ 42 ∷ 32 ∷ 42 ∷ 32 ∷ 121 ∷ []) 0 60) ≡ 0)
+    × (dueNumber (dueOf (64 ∷ 114 ∷ 101 ∷ 98 ∷ 111 ∷ 111 ∷ 116 ∷ 32 ∷ 120 ∷ 10 ∷ 48 ∷ 32 ∷ 42 ∷ 32 ∷ 42 ∷ 32 ∷ 42 ∷ 32 ∷ 42 ∷ 32 ∷ 121 ∷ []) 2 60) ≡ 4294967309)
+    × (dueNumber (dueOf (64 ∷ 114 ∷ 101 ∷ 98 ∷ 111 ∷ 111 ∷ 116 ∷ 32 ∷ 120 ∷ 10 ∷ 48 ∷ 32 ∷ 42 ∷ 32 ∷ 42 ∷ 32 ∷ 42 ∷ 32 ∷ 42 ∷ 32 ∷ 121 ∷ []) 1 4223371680) ≡ 4294967310)
+    × (faultLine (64 ∷ 114 ∷ 101 ∷ 98 ∷ 111 ∷ 111 ∷ 116 ∷ 32 ∷ 120 ∷ 10 ∷ 48 ∷ 32 ∷ 42 ∷ 32 ∷ 42 ∷ 32 ∷ 42 ∷ 32 ∷ 42 ∷ 32 ∷ 121 ∷ []) ≡ 0)
+    × (faultColumn (64 ∷ 114 ∷ 101 ∷ 98 ∷ 111 ∷ 111 ∷ 116 ∷ 32 ∷ 120 ∷ 10 ∷ 48 ∷ 32 ∷ 42 ∷ 32 ∷ 42 ∷ 32 ∷ 42 ∷ 32 ∷ 42 ∷ 32 ∷ 121 ∷ []) ≡ 0)
+unfolding until has before after afterEach split isDigit areDigits valueFrom numberOf isElement ranging numberOr endOf upperOf
+    afterDash elementOf lower alike named monthNames weekdayNames nameOf isSunday everyStep valuesOf bitOf including outside
+    judged areElements judgedAll listField starElement starField readField isBlank isQuote ofClass run skipped trimmed between
+    withCommand afterWord wordEntry answered fieldAt afterWeekday afterMonth afterDay afterHour afterMinute timedEntry onto
+    linesOf startsFields contentFrom contentOf readLine noEntries refusedTable emptyTable withEntry afterLine withLines tableOf
+    quotedAt nonEmpty nameAt closed valueAt afterEquals afterName settingLine same meanings meaningIn wordOf entryIn entryOf
+    firesAt dueAt dueIn dueOf refusedSetting shownAt settingFrom settingOf hasBit withBit put bothMust byDayRule matchesDay
+    matchesTime matchesDate matches checkNumber faultLine faultColumn dueNumber nameOffset nameLength valueOffset valueLength
+    answerOf dateAt yearOf monthOf weekdayOf walk yearDays leap monthDays monthLength monthTable
+by-entry = (refl, refl, refl, refl, refl, refl, refl, refl)
+
+-- `60` as a minute, on line 2 at column 3: 6
+by-fault :
+    (checkNumber (10 ∷ 32 ∷ 32 ∷ 54 ∷ 48 ∷ 32 ∷ 48 ∷ 32 ∷ 42 ∷ 32 ∷ 42 ∷ 32 ∷ 42 ∷ 32 ∷ 120 ∷ []) ≡ 4294967302) × (faultLine (10 ∷ 32 ∷ 32 ∷ 54 ∷ 48 ∷ 32 ∷ 48 ∷ 32 ∷ 42 ∷ 32 ∷ 42 ∷ 32 ∷ 42 ∷ 32 ∷ 120 ∷ []) ≡ 2) × (faultColumn (10 ∷ 32 ∷ 32 ∷ 54 ∷ 48 ∷ 32 ∷ 48 ∷ 32 ∷ 42 ∷ 32 ∷ 42 ∷ 32 ∷ 42 ∷ 32 ∷ 120 ∷ []) ≡ 3)
+unfolding until has before after afterEach split isDigit areDigits valueFrom numberOf isElement ranging numberOr endOf upperOf
+    afterDash elementOf lower alike named monthNames weekdayNames nameOf isSunday everyStep valuesOf bitOf including outside
+    judged areElements judgedAll listField starElement starField readField isBlank isQuote ofClass run skipped trimmed between
+    withCommand afterWord wordEntry answered fieldAt afterWeekday afterMonth afterDay afterHour afterMinute timedEntry onto
+    linesOf startsFields contentFrom contentOf readLine noEntries refusedTable emptyTable withEntry afterLine withLines tableOf
+    quotedAt nonEmpty nameAt closed valueAt afterEquals afterName settingLine same meanings meaningIn wordOf entryIn entryOf
+    firesAt dueAt dueIn dueOf refusedSetting shownAt settingFrom settingOf hasBit withBit put bothMust byDayRule matchesDay
+    matchesTime matchesDate matches checkNumber faultLine faultColumn dueNumber nameOffset nameLength valueOffset valueLength
+    answerOf dateAt yearOf monthOf weekdayOf walk yearDays leap monthDays monthLength monthTable
+by-fault = (refl, refl, refl)
+
+-- `A = "b c"` on line 2: where the name and the value stand, without the quotes; line 1 is 19
+by-setting :
+    (nameOffset (settingOf (10 ∷ 65 ∷ 32 ∷ 61 ∷ 32 ∷ 34 ∷ 98 ∷ 32 ∷ 99 ∷ 34 ∷ []) 2) ≡ 1)
+    × (nameLength (settingOf (10 ∷ 65 ∷ 32 ∷ 61 ∷ 32 ∷ 34 ∷ 98 ∷ 32 ∷ 99 ∷ 34 ∷ []) 2) ≡ 1)
+    × (valueOffset (settingOf (10 ∷ 65 ∷ 32 ∷ 61 ∷ 32 ∷ 34 ∷ 98 ∷ 32 ∷ 99 ∷ 34 ∷ []) 2) ≡ 6)
+    × (valueLength (settingOf (10 ∷ 65 ∷ 32 ∷ 61 ∷ 32 ∷ 34 ∷ 98 ∷ 32 ∷ 99 ∷ 34 ∷ []) 2) ≡ 3)
+    × (valueLength (settingOf (10 ∷ 65 ∷ 32 ∷ 61 ∷ 32 ∷ 34 ∷ 98 ∷ 32 ∷ 99 ∷ 34 ∷ []) 1) ≡ 4294967315)
+unfolding until has before after afterEach split isDigit areDigits valueFrom numberOf isElement ranging numberOr endOf upperOf
+    afterDash elementOf lower alike named monthNames weekdayNames nameOf isSunday everyStep valuesOf bitOf including outside
+    judged areElements judgedAll listField starElement starField readField isBlank isQuote ofClass run skipped trimmed between
+    withCommand afterWord wordEntry answered fieldAt afterWeekday afterMonth afterDay afterHour afterMinute timedEntry onto
+    linesOf startsFields contentFrom contentOf readLine noEntries refusedTable emptyTable withEntry afterLine withLines tableOf
+    quotedAt nonEmpty nameAt closed valueAt afterEquals afterName settingLine same meanings meaningIn wordOf entryIn entryOf
+    firesAt dueAt dueIn dueOf refusedSetting shownAt settingFrom settingOf hasBit withBit put bothMust byDayRule matchesDay
+    matchesTime matchesDate matches checkNumber faultLine faultColumn dueNumber nameOffset nameLength valueOffset valueLength
+    answerOf dateAt yearOf monthOf weekdayOf walk yearDays leap monthDays monthLength monthTable
+by-setting = (refl, refl, refl, refl, refl)

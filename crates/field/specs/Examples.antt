@@ -67,7 +67,9 @@ examples :
     × (read minuteLimits (54 ∷ 49 ∷ 45 ∷ 54 ∷ 48 ∷ 47 ∷ 48 ∷ []) ≡ Refused 6 1)
     × (read minuteLimits (49 ∷ 48 ∷ 45 ∷ 57 ∷ 47 ∷ 48 ∷ []) ≡ Refused 7 1)
     × (read minuteLimits (55 ∷ 48 ∷ 44 ∷ 49 ∷ 48 ∷ 45 ∷ 57 ∷ []) ≡ Refused 6 1)
-unfolding read readField judged judgedAll areElements listField starField starElement isElement ranging elementOf numberOr endOf upperOf isSunday afterDash split afterEach until has before after numberOf areDigits isDigit valueFrom nameOf named alike lower monthNames weekdayNames outside including put bitOf valuesOf everyStep withBit
+unfolding read readField judged judgedAll areElements listField starField starElement isElement ranging elementOf numberOr endOf
+    upperOf isSunday afterDash split afterEach until has before after numberOf areDigits isDigit valueFrom nameOf named alike
+    lower monthNames weekdayNames outside including put bitOf valuesOf everyStep withBit
 examples = (refl, refl, refl, refl, refl, refl, refl, refl, refl, refl, refl, refl, refl, refl, refl, refl, refl, refl, refl, refl, refl, refl, refl, refl, refl, refl, refl, refl)
 
 -- Ticket 2026-01: names wherever numbers stand.
@@ -96,7 +98,9 @@ names :
     × (read weekdayLimits (49 ∷ 45 ∷ 53 ∷ 47 ∷ 109 ∷ 111 ∷ 110 ∷ []) ≡ Refused 5 1)
     × (read weekdayLimits (106 ∷ 97 ∷ 110 ∷ []) ≡ Refused 5 1)
     × (read monthLimits (49 ∷ 45 ∷ 115 ∷ 117 ∷ 110 ∷ []) ≡ Refused 5 1)
-unfolding read readField judged judgedAll areElements listField starField starElement isElement ranging elementOf numberOr endOf upperOf isSunday afterDash split afterEach until has before after numberOf areDigits isDigit valueFrom nameOf named alike lower monthNames weekdayNames outside including put bitOf valuesOf everyStep withBit
+unfolding read readField judged judgedAll areElements listField starField starElement isElement ranging elementOf numberOr endOf
+    upperOf isSunday afterDash split afterEach until has before after numberOf areDigits isDigit valueFrom nameOf named alike
+    lower monthNames weekdayNames outside including put bitOf valuesOf everyStep withBit
 names = (refl, refl, refl, refl, refl, refl, refl, refl, refl, refl, refl, refl, refl, refl, refl, refl, refl, refl, refl)
 
 -- each name alone is the one value that it names
@@ -108,12 +112,16 @@ month-names :
     eachSet monthLimits
     ((106 ∷ 97 ∷ 110 ∷ []) ∷ (102 ∷ 101 ∷ 98 ∷ []) ∷ (109 ∷ 97 ∷ 114 ∷ []) ∷ (97 ∷ 112 ∷ 114 ∷ []) ∷ (109 ∷ 97 ∷ 121 ∷ []) ∷ (106 ∷ 117 ∷ 110 ∷ []) ∷ (106 ∷ 117 ∷ 108 ∷ []) ∷ (97 ∷ 117 ∷ 103 ∷ []) ∷ (115 ∷ 101 ∷ 112 ∷ []) ∷ (111 ∷ 99 ∷ 116 ∷ []) ∷ (110 ∷ 111 ∷ 118 ∷ []) ∷ (100 ∷ 101 ∷ 99 ∷ []) ∷ [])
     ≡ Values 2 false ∷ Values 4 false ∷ Values 8 false ∷ Values 16 false ∷ Values 32 false ∷ Values 64 false ∷ Values 128 false ∷ Values 256 false ∷ Values 512 false ∷ Values 1024 false ∷ Values 2048 false ∷ Values 4096 false ∷ []
-unfolding eachSet read readField judged judgedAll areElements listField isElement ranging elementOf numberOr endOf split afterEach until has before after numberOf areDigits isDigit valueFrom nameOf named alike lower monthNames weekdayNames outside including put bitOf valuesOf everyStep withBit
+unfolding eachSet read readField judged judgedAll areElements listField isElement ranging elementOf numberOr endOf split
+    afterEach until has before after numberOf areDigits isDigit valueFrom nameOf named alike lower monthNames weekdayNames
+    outside including put bitOf valuesOf everyStep withBit
 month-names = refl
 
 weekday-names :
     eachSet weekdayLimits
     ((115 ∷ 117 ∷ 110 ∷ []) ∷ (109 ∷ 111 ∷ 110 ∷ []) ∷ (116 ∷ 117 ∷ 101 ∷ []) ∷ (119 ∷ 101 ∷ 100 ∷ []) ∷ (116 ∷ 104 ∷ 117 ∷ []) ∷ (102 ∷ 114 ∷ 105 ∷ []) ∷ (115 ∷ 97 ∷ 116 ∷ []) ∷ [])
     ≡ Values 1 false ∷ Values 2 false ∷ Values 4 false ∷ Values 8 false ∷ Values 16 false ∷ Values 32 false ∷ Values 64 false ∷ []
-unfolding eachSet read readField judged judgedAll areElements listField isElement ranging elementOf numberOr endOf split afterEach until has before after numberOf areDigits isDigit valueFrom nameOf named alike lower monthNames weekdayNames outside including put bitOf valuesOf everyStep withBit
+unfolding eachSet read readField judged judgedAll areElements listField isElement ranging elementOf numberOr endOf split
+    afterEach until has before after numberOf areDigits isDigit valueFrom nameOf named alike lower monthNames weekdayNames
+    outside including put bitOf valuesOf everyStep withBit
 weekday-names = refl

@@ -1,4 +1,5 @@
--- Paper 01, "Fields": a field is `*`, or `*/step`, or a comma list of `n`, `n-m`, `n-m/step`. Its form is judged before its elements. A column is that of the field's first byte.
+-- Paper 01, "Fields": a field is `*`, or `*/step`, or a comma list of `n`, `n-m`, `n-m/step`. Its form is judged before its
+-- elements. A column is that of the field's first byte.
 -- Assumes nothing.
 use Prim.Native.Nat.{ℕ, _+_}
 use mathlib.Core.Bool.{Bool, true, false, cond, _&&_}

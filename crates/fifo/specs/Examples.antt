@@ -42,7 +42,8 @@ whole-run = refl
 refusals-run :
     map (answer three) (pop (take 7 (replicate 90 0)) ∷ pop (2 ∷ 0 ∷ 0 ∷ 0 ∷ 0 ∷ 0 ∷ 0 ∷ 0 ∷ []) ∷ tick 4223371680 (replicate 8 0) ∷ [])
     ≡ inr (NotPopped 28) ∷ inr (NotPopped 28) ∷ inl (NotTicked 14) ∷ []
-unfolding three answer tickStep popStep ticked joiners joins front popped isLine roomy laid image lineOf counted numbers bytes entriesOf has
+unfolding three answer tickStep popStep ticked joiners joins front popped isLine roomy laid image lineOf counted numbers bytes
+    entriesOf has
     pick
 refusals-run = refl
 
@@ -58,6 +59,7 @@ pair = record { count = 2; boot = λ e. false; matches = matching; last = 422337
 bound-is-met :
     map (answer pair) (callsOn pair (started pair 6 (replicate 6 0)) (tickIn 1 6 ∷ popIn 6 ∷ tickIn 2 6 ∷ popIn 6 ∷ tickIn 3 6 ∷ popIn 6 ∷ []))
     ≡ inl (Joined 1) ∷ inr (Entry 0) ∷ inl (Joined 2) ∷ inr (Entry 0) ∷ inl (Joined 1) ∷ inr (Entry 1) ∷ []
-unfolding pair answer callsOn callOn bufferAfter lent started initStep fresh roomAfter tickStep popStep ticked joiners joins front popped
+unfolding pair answer callsOn callOn bufferAfter lent started initStep fresh roomAfter tickStep popStep ticked joiners joins
+    front popped
     isLine roomy laid image lineOf counted numbers bytes entriesOf has pick
 bound-is-met = refl

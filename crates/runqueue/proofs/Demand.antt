@@ -51,15 +51,14 @@ unfolding jobsOf
 few table = omega (arith, table-sound table .few)
 
 -- a table that has an entry isn't refused
-good : (table : List ℕ) (e : ℕ) → e < jobsIn table .count → tableOf table .refusal ≡ 0
+pub entry-good : (table : List ℕ) (e : ℕ) → e < jobsIn table .count → tableOf table .refusal ≡ 0
 unfolding jobsOf
-good table e h =
+entry-good table e h =
     elim (decLe (tableOf table .refusal) 0) [ yes p ↦ omega arith | no n ↦ absurd (let z = table-sound table .empty (λ k. n (omega arith)) in omega arith) ]
 
 pub table-steps : TableSteps
 unfolding initOf tickOf popOf jobsOf
-table-steps table e h room minute =
-    let g = good table e h in
+table-steps table g room minute =
     (init-good (tableOf table) room g, tick-good (tableOf table) room g minute, pop-good (tableOf table) room g)
 
 -- the third demand
@@ -68,7 +67,7 @@ unfolding jobsOf
 table-fair table e t first second f = fair (jobsIn table) gap e t first second (few table) (f .entry) (f .timed) (recurs table e f)
 
 pub table-refused-only : TableRefusedOnly
-table-refused-only table cs = refused-only (jobsIn table) cs (few table)
+table-refused-only table cs g = refused-only (jobsIn table) cs (few table)
 
 pub table-fair-in-buffer : TableFairInBuffer
 unfolding jobsOf

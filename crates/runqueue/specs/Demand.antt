@@ -1,7 +1,8 @@
 -- The third demand for tables: one claim about whole lists of calls, made of the steps that `init`, `tick` and `pop` promise
--- (`initOf`, `tickOf`, `popOf` of Calls; for a table that has an entry they are the steps of `fifo`, which is `TableSteps`). The words of the claim are
--- those of fifo's Fairness, whose header lays the demand beside them sentence by sentence; here the jobs are a table's, the
--- calendar ends with its last minute, and the gap is the schedule's. That the claims hold is proved in proofs/Demand.
+-- (`initOf`, `tickOf`, `popOf` of Calls; for a table that isn't refused, as one that has an entry never is, they are the steps
+-- of `fifo`: `TableSteps`). The words of the claim are those of fifo's Fairness, whose header lays the demand beside them
+-- sentence by sentence; here the jobs are a table's, the calendar ends with its last minute, and the gap is the schedule's.
+-- That the claims hold is proved in proofs/Demand.
 --   "a table of N entries and a time-based entry in it that some minute of the cycle matches"
 --       `e < jobs .count`, `jobs .boot e ≡ false`, and a minute below 210,379,680 that matches.
 --   "up to minute t + 21,036,960 + N - 1, which must be on the calendar"
@@ -45,19 +46,19 @@ TableFair = (table : List ℕ) (e t : ℕ) (first second : List Call)
     → Paced (t + 1) (span jobs gap) true (unrefused jobs second)
     → Names jobs e (upTo (span jobs gap) (unrefused jobs second))
 
--- what the three functions promise, for a table that has an entry: the steps of which the claims speak
+-- what the three functions promise, for a table that isn't refused: the steps of which the claims speak
 abbrev pub TableSteps : Type 0
-TableSteps = (table : List ℕ) (e : ℕ)
+TableSteps = (table : List ℕ)
     → let jobs = jobsIn table in
-    e < jobs .count
+    tableOf table .refusal ≡ 0
     → (room : List ℕ) (minute : ℕ)
     → (initOf table room ≡ initStep jobs room)
     × (tickOf table minute room ≡ tickStep jobs minute room)
     × (popOf table room ≡ popStep (jobs .count) room)
 
--- in a list from the fresh line a call is refused only with 28 for too small a room or 14 for a minute off the calendar
+-- in a list from the fresh line of such a table a call is refused only with 28 for too small a room or 14 for a minute off the calendar
 abbrev pub TableRefusedOnly : Type 0
-TableRefusedOnly = (table : List ℕ) (cs : List Call) → Follows (jobsIn table) (fresh (jobsIn table)) cs → Expected (jobsIn table) cs
+TableRefusedOnly = (table : List ℕ) (cs : List Call) → tableOf table .refusal ≡ 0 → Follows (jobsIn table) (fresh (jobsIn table)) cs → Expected (jobsIn table) cs
 
 -- the same claim for one buffer, of which each call is lent the first bytes
 abbrev pub TableFairInBuffer : Type 0

@@ -69,7 +69,9 @@ pub known-days :
     × (nextAfter february30 0 ≡ Never)
     × (nextAfter mondays30 0 ≡ At 46080)
     × (nextAfter lastDay 4223371679 ≡ PastEnd)
-unfolding firesAt ever leapDay fridays february30 mondays30 lastDay quick dayFrom monthsFrom from leastOf someDay hasDate matchesOn matchesAt matchesIn matchesDay matchesTime byDayRule bothMust hasBit dateAt yearOf monthOf weekdayOf walk yearDays leap monthDays monthLength monthTable lengthOf
+unfolding firesAt ever leapDay fridays february30 mondays30 lastDay quick dayFrom monthsFrom from leastOf someDay hasDate
+    matchesOn matchesAt matchesIn matchesDay matchesTime byDayRule bothMust hasBit dateAt yearOf monthOf weekdayOf walk yearDays
+    leap monthDays monthLength monthTable lengthOf
 known-days = (
   fires leapDay 66355200 70561440 tt,
   fires fridays 0 270 tt,
@@ -84,5 +86,7 @@ pub gap-is : gap ≡ 21036960
 gap-is = refl
 
 pub gap-reached : nextAfter leapSundays 62147520 ≡ At (62147520 + gap)
-unfolding firesAt ever leapSundays quick dayFrom monthsFrom from leastOf someDay hasDate matchesOn matchesAt matchesIn matchesDay matchesTime byDayRule bothMust hasBit dateAt yearOf monthOf weekdayOf walk yearDays leap monthDays monthLength monthTable lengthOf
+unfolding firesAt ever leapSundays quick dayFrom monthsFrom from leastOf someDay hasDate matchesOn matchesAt matchesIn
+    matchesDay matchesTime byDayRule bothMust hasBit dateAt yearOf monthOf weekdayOf walk yearDays leap monthDays monthLength
+    monthTable lengthOf
 gap-reached = fires leapSundays 62147520 83184480 tt

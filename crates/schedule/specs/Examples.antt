@@ -105,58 +105,30 @@ leapSundays =
       stars = record { days = false; weekdays = true };
     }
 
--- 1970-01-01 04:30 is the 1st and no Friday; 1970-01-02 04:30 a Friday; 1970-01-03 04:30 neither
-first-of-month : matches fridays 270 ≡ true
-unfolding fridays matches matchesDate matchesDay matchesTime byDayRule bothMust hasBit dateAt yearOf monthOf weekdayOf walk yearDays leap monthDays monthLength monthTable
-first-of-month = refl
-
-friday : matches fridays 1710 ≡ true
-unfolding fridays matches matchesDate matchesDay matchesTime byDayRule bothMust hasBit dateAt yearOf monthOf weekdayOf walk yearDays leap monthDays monthLength monthTable
-friday = refl
-
-neither : matches fridays 3150 ≡ false
-unfolding fridays matches matchesDate matchesDay matchesTime byDayRule bothMust hasBit dateAt yearOf monthOf weekdayOf walk yearDays leap monthDays monthLength monthTable
-neither = refl
-
--- 2096-02-29 00:00, and a day and a minute later
-leap-day : matches leapDay 66355200 ≡ true
-unfolding leapDay matches matchesDate matchesDay matchesTime byDayRule bothMust hasBit dateAt yearOf monthOf weekdayOf walk yearDays leap monthDays monthLength monthTable
-leap-day = refl
-
-day-after : matches leapDay 66356640 ≡ false
-unfolding leapDay matches matchesDate matchesDay matchesTime byDayRule bothMust hasBit dateAt yearOf monthOf weekdayOf walk yearDays leap monthDays monthLength monthTable
-day-after = refl
-
-minute-after : matches leapDay 66355201 ≡ false
-unfolding leapDay matches matchesDate matchesDay matchesTime byDayRule bothMust hasBit dateAt yearOf monthOf weekdayOf walk yearDays leap monthDays monthLength monthTable
-minute-after = refl
-
--- 1970-01-01 is a Thursday, 1970-01-05 a Monday in January, 1970-02-02 one in February
-thursday : matches mondays 0 ≡ false
-unfolding mondays matches matchesDate matchesDay matchesTime byDayRule bothMust hasBit dateAt yearOf monthOf weekdayOf walk yearDays leap monthDays monthLength monthTable
-thursday = refl
-
-monday : matches mondays 5760 ≡ true
-unfolding mondays matches matchesDate matchesDay matchesTime byDayRule bothMust hasBit dateAt yearOf monthOf weekdayOf walk yearDays leap monthDays monthLength monthTable
-monday = refl
-
-january : matches mondays30 5760 ≡ false
-unfolding mondays30 matches matchesDate matchesDay matchesTime byDayRule bothMust hasBit dateAt yearOf monthOf weekdayOf walk yearDays leap monthDays monthLength monthTable
-january = refl
-
-february : matches mondays30 46080 ≡ true
-unfolding mondays30 matches matchesDate matchesDay matchesTime byDayRule bothMust hasBit dateAt yearOf monthOf weekdayOf walk yearDays leap monthDays monthLength monthTable
-february = refl
-
--- 1970-01-01 is an odd day and no Monday, 1970-01-05 an odd Monday, 1970-01-12 an even one
-odd-thursday : matches oddMondays 0 ≡ false
-unfolding oddMondays matches matchesDate matchesDay matchesTime byDayRule bothMust hasBit dateAt yearOf monthOf weekdayOf walk yearDays leap monthDays monthLength monthTable
-odd-thursday = refl
-
-odd-monday : matches oddMondays 5760 ≡ true
-unfolding oddMondays matches matchesDate matchesDay matchesTime byDayRule bothMust hasBit dateAt yearOf monthOf weekdayOf walk yearDays leap monthDays monthLength monthTable
-odd-monday = refl
-
-even-monday : matches oddMondays 15840 ≡ false
-unfolding oddMondays matches matchesDate matchesDay matchesTime byDayRule bothMust hasBit dateAt yearOf monthOf weekdayOf walk yearDays leap monthDays monthLength monthTable
-even-monday = refl
+-- Which minutes match.
+matching :
+    -- 1970-01-01 04:30 is the 1st and no Friday; 1970-01-02 04:30 a Friday; 1970-01-03 04:30 neither
+    (matches fridays 270 ≡ true)
+    × (matches fridays 1710 ≡ true)
+    × (matches fridays 3150 ≡ false)
+    -- 2096-02-29 00:00, and a day and a minute later
+    × (matches leapDay 66355200 ≡ true)
+    × (matches leapDay 66356640 ≡ false)
+    × (matches leapDay 66355201 ≡ false)
+    -- 1970-01-01 is a Thursday, 1970-01-05 a Monday
+    × (matches mondays 0 ≡ false)
+    × (matches mondays 5760 ≡ true)
+    -- 1970-01-05 is a Monday in January, 1970-02-02 one in February
+    × (matches mondays30 5760 ≡ false)
+    × (matches mondays30 46080 ≡ true)
+    -- 1970-01-01 is an odd day and no Monday, 1970-01-05 an odd Monday, 1970-01-12 an even one
+    × (matches oddMondays 0 ≡ false)
+    × (matches oddMondays 5760 ≡ true)
+    × (matches oddMondays 15840 ≡ false)
+    -- 2088-02-29 is a Sunday, 2092-02-29 a Friday
+    × (matches leapSundays 62147520 ≡ true)
+    × (matches leapSundays 64251360 ≡ false)
+unfolding leapDay fridays mondays30 mondays oddMondays leapSundays matches matchesDate matchesDay matchesTime byDayRule bothMust
+    hasBit
+    dateAt yearOf monthOf weekdayOf walk yearDays leap monthDays monthLength monthTable
+matching = (refl, refl, refl, refl, refl, refl, refl, refl, refl, refl, refl, refl, refl, refl, refl)

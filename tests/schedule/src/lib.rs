@@ -1,5 +1,5 @@
 //! The two functions of `libschedule_calls.a`, by which C calls the library's schedules. A schedule is handed over as six
-//! numbers: minutes, hours, days, months, weekdays, and both restrictions in bits 0 and 1. Hours and days are taken
+//! numbers: minutes, hours, days, months, weekdays, and both stars in bits 0 and 1. Hours and days are taken
 //! modulo 2^32, months modulo 2^16, weekdays modulo 2^8.
 
 use second::schedule::{Answer, REFUSED};
