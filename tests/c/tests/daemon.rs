@@ -4,8 +4,7 @@ use c::{build, root, run, scratch, told, word};
 use second::calendar::{date_of, minute_of};
 use second::command::split;
 use second::queue::Queue;
-use second::table::{calls::Calls, read, Part};
-use std::fmt::Write;
+use second::table::{calls::Calls, read, Part, Setting, Table};
 use std::fs;
 
 const WEEKDAYS: [&str; 7] = ["Sun", "Mon", "Tue", "Wed", "Thu", "Fri", "Sat"];
@@ -18,55 +17,65 @@ fn date(minute: u64) -> String {
 }
 
 /// What the daemon's log says of a table, a pace and spans of minutes.
-fn log(bytes: &[u8], pace: u64, spans: &[(u64, u64)]) -> String {
+fn log(bytes: &[u8], pace: u64, spans: &[(u64, u64)]) -> Vec<String> {
     let table = read(bytes).expect("a good table");
-    let calls = Calls::of(bytes);
     let mut queue = Queue::fresh(&table);
-    let mut log = String::new();
     let first = spans[0].0;
-    let text = |part: Part| shown(&bytes[part.offset..part.offset + part.length]);
-    for (_, setting) in &table.settings {
-        let (name, value) = (text(setting.name), text(setting.value));
-        writeln!(log, "setting   |{name}| = |{value}|").expect("a string");
-    }
-    for entry in 0..table.entries.len() as u64 {
-        let next = match calls.next(entry, first) {
-            Ok(minute) => format!("next {}", date(minute)),
-            Err(15) => "fires at boot only".to_string(),
-            Err(16) => "never fires".to_string(),
-            Err(_) => "fires no more before the year 10000".to_string(),
-        };
-        writeln!(log, "entry {entry:2}  {next}").expect("a string");
-    }
-    writeln!(log, "{}  boot, {} wait", date(first), queue.waiting.len()).expect("a string");
+    let mut log = opening(bytes, &table, first);
+    log.push(format!(
+        "{}  boot, {} wait",
+        date(first),
+        queue.waiting.len()
+    ));
     for minute in spans.iter().flat_map(|&(first, last)| first..=last) {
-        let joined = queue
-            .tick(&table, minute)
-            .expect("a minute of the calendar");
-        if joined > 0 {
-            writeln!(
-                log,
-                "{}  {joined} joined, {} wait",
-                date(minute),
-                queue.waiting.len()
-            )
-            .expect("a string");
-        }
-        for _ in 0..pace {
-            let Some(entry) = queue.pop(&table).expect("its line") else {
-                break;
-            };
-            let command = split(table.entries[entry as usize].command);
-            writeln!(
-                log,
-                "{}  start entry {entry:2}  |{}|",
-                date(minute),
-                shown(&command.shell)
-            )
-            .expect("a string");
-            if let Some(input) = command.input {
-                writeln!(log, "{:>38}  |{}|", "standard input", shown(&input)).expect("a string");
-            }
+        log.extend(lived(&table, &mut queue, minute, pace));
+    }
+    log
+}
+
+/// The settings, and when each entry fires next.
+fn opening(bytes: &[u8], table: &Table, first: u64) -> Vec<String> {
+    let text = |part: Part| shown(&bytes[part.offset..part.offset + part.length]);
+    let setting =
+        |(_, of): &(u64, Setting)| format!("setting   |{}| = |{}|", text(of.name), text(of.value));
+    let calls = Calls::of(bytes);
+    let next = |entry: u64| match calls.next(entry, first) {
+        Ok(minute) => format!("entry {entry:2}  next {}", date(minute)),
+        Err(15) => format!("entry {entry:2}  fires at boot only"),
+        Err(16) => format!("entry {entry:2}  never fires"),
+        Err(_) => format!("entry {entry:2}  fires no more before the year 10000"),
+    };
+    let entries = 0..table.entries.len() as u64;
+    table
+        .settings
+        .iter()
+        .map(setting)
+        .chain(entries.map(next))
+        .collect()
+}
+
+/// One minute: who joins, and who is taken.
+fn lived(table: &Table, queue: &mut Queue, minute: u64, pace: u64) -> Vec<String> {
+    let at = date(minute);
+    let mut log = Vec::new();
+    let joined = queue.tick(table, minute).expect("a minute of the calendar");
+    if joined > 0 {
+        log.push(format!(
+            "{at}  {joined} joined, {} wait",
+            queue.waiting.len()
+        ));
+    }
+    for _ in 0..pace {
+        let Some(entry) = queue.pop(table).expect("its line") else {
+            break;
+        };
+        let command = split(table.entries[entry as usize].command);
+        log.push(format!(
+            "{at}  start entry {entry:2}  |{}|",
+            shown(&command.shell)
+        ));
+        if let Some(input) = command.input {
+            log.push(format!("{:>38}  |{}|", "standard input", shown(&input)));
         }
     }
     log
@@ -118,11 +127,10 @@ fn the_log_is_the_second_programs() {
                         .flat_map(|&(first, last)| [argument(first), argument(last)]),
                 );
                 let output = run(&program, &arguments);
-                assert_eq!(
-                    told(&output),
-                    (log(table, pace, spans), Some(0)),
-                    "{arguments:?}"
-                );
+                let (text, status) = told(&output);
+                assert_eq!(status, Some(0), "{arguments:?}");
+                let lines: Vec<&str> = text.lines().collect();
+                assert_eq!(lines, log(table, pace, spans), "{arguments:?}");
             }
         }
     }
