@@ -24,7 +24,8 @@
 extern "C" {
 #endif
 
-#define EREMOTHYN_VERSION "1.0.0"
+/* The middle number counts the change requests that have landed. */
+#define EREMOTHYN_VERSION "1.3.0"
 
 /* The last minute of the calendar, 9999-12-31 23:59. */
 #define EREMOTHYN_LAST_MINUTE UINT64_C(4223371679)
