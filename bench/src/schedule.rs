@@ -66,7 +66,7 @@ pub fn run() {
         let walk = before.elapsed().as_nanos() as f64 / count as f64;
         let library = |start: u64| ::schedule::next_after(schedule.numbers(), start).ok();
         let found: Vec<Option<u64>> = starts.iter().map(|&start| library(start)).collect();
-        assert_eq!(found, walked, "{text}");
+        assert!(found == walked, "{text}: the library and the walk differ");
         let each = nanoseconds(&starts, library);
         let times = walk / each;
         println!("{text:<16}{count:>8}{each:>14.1}{walk:>18.0}{times:>10.0}");
