@@ -1,9 +1,9 @@
--- Commands and what becomes of them, computed from the definitions. Bytes stand in ASCII: newline is 10, `%` 37, a backslash 92,
--- `a` 97.
+-- Commands and what becomes of them, computed from the definitions.
 -- Assumes nothing.
 use Prim.Native.Nat.{ℕ}
 use mathlib.Core.Path.{_≡_, refl}
 use mathlib.Core.List.{List, [], _∷_}
+use Rattle.text.specs.Bytes.{text}
 use Rattle.command.specs.declared.SplitAnswer.the-variants.{Written, Refused}
 use Rattle.command.specs.declared.Input.the-variants.{None, Length}
 use Rattle.command.specs.Pieces.{alone, paired, pieces, byteOf, bytesOf}
@@ -20,34 +20,34 @@ both c = record { line = shellLine c; stdin = inputOf c }
 
 texts :
     -- `a\%b%c%%d%`, paper 01: shell line `a%b`; input `c`, newline, newline, `d`, newline
-    (both (97 ∷ 92 ∷ 37 ∷ 98 ∷ 37 ∷ 99 ∷ 37 ∷ 37 ∷ 100 ∷ 37 ∷ [])
-    ≡ record { line = 97 ∷ 37 ∷ 98 ∷ []; stdin = given (99 ∷ 10 ∷ 10 ∷ 100 ∷ 10 ∷ []) })
+    (both (text "a\\%b%c%%d%")
+    ≡ record { line = text "a%b"; stdin = given (text "c\n\nd\n") })
     -- `\\%x`: two backslashes, and an unescaped `%`
-    × (both (92 ∷ 92 ∷ 37 ∷ 120 ∷ []) ≡ record { line = 92 ∷ 92 ∷ []; stdin = given (120 ∷ []) })
+    × (both (text "\\\\%x") ≡ record { line = text "\\\\"; stdin = given (text "x") })
     -- `\\\%x`: two backslashes and an escaped `%`
-    × (both (92 ∷ 92 ∷ 92 ∷ 37 ∷ 120 ∷ []) ≡ record { line = 92 ∷ 92 ∷ 37 ∷ 120 ∷ []; stdin = absent })
+    × (both (text "\\\\\\%x") ≡ record { line = text "\\\\%x"; stdin = absent })
     -- `\a%\%`: a backslash before any other byte stays, and `\%` is a `%` in the input too
-    × (both (92 ∷ 97 ∷ 37 ∷ 92 ∷ 37 ∷ []) ≡ record { line = 92 ∷ 97 ∷ []; stdin = given (37 ∷ []) })
+    × (both (text "\\a%\\%") ≡ record { line = text "\\a"; stdin = given (text "%") })
     -- `a\`, and `%\`: a backslash at the very end stays
-    × (both (97 ∷ 92 ∷ []) ≡ record { line = 97 ∷ 92 ∷ []; stdin = absent })
-    × (both (37 ∷ 92 ∷ []) ≡ record { line = []; stdin = given (92 ∷ []) })
+    × (both (text "a\\") ≡ record { line = text "a\\"; stdin = absent })
+    × (both (text "%\\") ≡ record { line = []; stdin = given (text "\\") })
     -- nothing at all: no input
     × (both [] ≡ record { line = []; stdin = absent })
     -- `%` and `a%`: empty input
-    × (both (37 ∷ []) ≡ record { line = []; stdin = given [] })
-    × (both (97 ∷ 37 ∷ []) ≡ record { line = 97 ∷ []; stdin = given [] })
+    × (both (text "%") ≡ record { line = []; stdin = given [] })
+    × (both (text "a%") ≡ record { line = text "a"; stdin = given [] })
 unfolding both shellLine inputOf upToPercent restOf pieces alone paired bytesOf byteOf
 texts = (refl, refl, refl, refl, refl, refl, refl, refl, refl)
 
 buffers :
     -- `a%b` into buffers of two bytes, the second byte of each stays
-    (splitStep (97 ∷ 37 ∷ 98 ∷ []) (1 ∷ 2 ∷ []) (3 ∷ 4 ∷ [])
+    (splitStep (text "a%b") (1 ∷ 2 ∷ []) (3 ∷ 4 ∷ [])
     ≡ record { answer = Written 1 (Length 1); shell = 97 ∷ 2 ∷ []; input = 98 ∷ 4 ∷ [] })
     -- "no input" needs no room, and empty input none either
-    × (splitStep (97 ∷ []) (1 ∷ []) [] ≡ record { answer = Written 1 None; shell = 97 ∷ []; input = [] })
-    × (splitStep (97 ∷ 37 ∷ []) (1 ∷ []) [] ≡ record { answer = Written 1 (Length 0); shell = 97 ∷ []; input = [] })
+    × (splitStep (text "a") (1 ∷ []) [] ≡ record { answer = Written 1 None; shell = text "a"; input = [] })
+    × (splitStep (text "a%") (1 ∷ []) [] ≡ record { answer = Written 1 (Length 0); shell = text "a"; input = [] })
     -- either buffer too short: 18, and nothing written
-    × (splitStep (97 ∷ 37 ∷ 98 ∷ []) (1 ∷ []) [] ≡ record { answer = Refused 18; shell = 1 ∷ []; input = [] })
-    × (splitStep (97 ∷ 37 ∷ 98 ∷ []) [] (3 ∷ []) ≡ record { answer = Refused 18; shell = []; input = 3 ∷ [] })
+    × (splitStep (text "a%b") (1 ∷ []) [] ≡ record { answer = Refused 18; shell = 1 ∷ []; input = [] })
+    × (splitStep (text "a%b") [] (3 ∷ []) ≡ record { answer = Refused 18; shell = []; input = 3 ∷ [] })
 unfolding splitStep haveRoom laidFront inputLength textOf shellLine inputOf upToPercent restOf pieces alone paired bytesOf byteOf
 buffers = (refl, refl, refl, refl, refl)

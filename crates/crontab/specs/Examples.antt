@@ -4,6 +4,7 @@ use Prim.Native.Nat.{ℕ}
 use mathlib.Core.Path.{_≡_, refl}
 use mathlib.Core.Bool.{true, false}
 use mathlib.Core.List.{List, [], _∷_}
+use Rattle.text.specs.Bytes.{text}
 use Rattle.crontab.specs.declared.When.the-variants.{Reboot, Timed}
 use Rattle.crontab.specs.declared.line.Line.the-variants.{Ignored, Setting, Entry, Refused}
 use Rattle.schedule.specs.declared.Schedule.{Schedule}
@@ -35,62 +36,62 @@ weekdays5 =
 
 examples :
     -- `60 0 * * * x`: 6 at the first field
-    (readLine (54 ∷ 48 ∷ 32 ∷ 48 ∷ 32 ∷ 42 ∷ 32 ∷ 42 ∷ 32 ∷ 42 ∷ 32 ∷ 120 ∷ []) ≡ Refused (record { number = 6; column = 1 }))
+    (readLine (text "60 0 * * * x") ≡ Refused (record { number = 6; column = 1 }))
     -- `0 0 * * mon-fri x`: Monday to Friday; `0 0 * * fri-mon x`: 7, and `0 0 * * jan x`: 5, at the fifth field
-    × (readLine (48 ∷ 32 ∷ 48 ∷ 32 ∷ 42 ∷ 32 ∷ 42 ∷ 32 ∷ 109 ∷ 111 ∷ 110 ∷ 45 ∷ 102 ∷ 114 ∷ 105 ∷ 32 ∷ 120 ∷ []) ≡ Entry (record { when = Timed weekdays5; start = 16; end = 17 }))
-    × (readLine (48 ∷ 32 ∷ 48 ∷ 32 ∷ 42 ∷ 32 ∷ 42 ∷ 32 ∷ 102 ∷ 114 ∷ 105 ∷ 45 ∷ 109 ∷ 111 ∷ 110 ∷ 32 ∷ 120 ∷ []) ≡ Refused (record { number = 7; column = 9 }))
-    × (readLine (48 ∷ 32 ∷ 48 ∷ 32 ∷ 42 ∷ 32 ∷ 42 ∷ 32 ∷ 106 ∷ 97 ∷ 110 ∷ 32 ∷ 120 ∷ []) ≡ Refused (record { number = 5; column = 9 }))
+    × (readLine (text "0 0 * * mon-fri x") ≡ Entry (record { when = Timed weekdays5; start = 16; end = 17 }))
+    × (readLine (text "0 0 * * fri-mon x") ≡ Refused (record { number = 7; column = 9 }))
+    × (readLine (text "0 0 * * jan x") ≡ Refused (record { number = 5; column = 9 }))
     -- `0 0 */2 * 1 x`: Mondays on odd days, since the day field begins with a star
-    × (readLine (48 ∷ 32 ∷ 48 ∷ 32 ∷ 42 ∷ 47 ∷ 50 ∷ 32 ∷ 42 ∷ 32 ∷ 49 ∷ 32 ∷ 120 ∷ []) ≡ Entry (record { when = Timed oddMondays; start = 12; end = 13 }))
+    × (readLine (text "0 0 */2 * 1 x") ≡ Entry (record { when = Timed oddMondays; start = 12; end = 13 }))
     -- `0 0 * * * ` without a command: 9 after the last byte
-    × (readLine (48 ∷ 32 ∷ 48 ∷ 32 ∷ 42 ∷ 32 ∷ 42 ∷ 32 ∷ 42 ∷ 32 ∷ []) ≡ Refused (record { number = 9; column = 11 }))
+    × (readLine (text "0 0 * * * ") ≡ Refused (record { number = 9; column = 11 }))
     -- `5 5`: 4 after the last byte, but a bad field before it comes first
-    × (readLine (53 ∷ 32 ∷ 53 ∷ []) ≡ Refused (record { number = 4; column = 4 }))
-    × (readLine (54 ∷ 48 ∷ 32 ∷ 53 ∷ []) ≡ Refused (record { number = 6; column = 1 }))
+    × (readLine (text "5 5") ≡ Refused (record { number = 4; column = 4 }))
+    × (readLine (text "60 5") ≡ Refused (record { number = 6; column = 1 }))
     -- blanks before and after, and a comment
-    × (readLine (9 ∷ 32 ∷ 48 ∷ 32 ∷ 48 ∷ 32 ∷ 49 ∷ 32 ∷ 49 ∷ 32 ∷ 42 ∷ 32 ∷ 32 ∷ 97 ∷ 32 ∷ []) ≡ Entry (record { when = Timed yearly; start = 13; end = 15 }))
-    × (readLine (32 ∷ 35 ∷ 32 ∷ 48 ∷ []) ≡ Ignored)
+    × (readLine (text "\t 0 0 1 1 *  a ") ≡ Entry (record { when = Timed yearly; start = 13; end = 15 }))
+    × (readLine (text " # 0") ≡ Ignored)
     -- an `@` word is the whole run of non-blank bytes, in this case only
-    × (readLine (64 ∷ 114 ∷ 101 ∷ 98 ∷ 111 ∷ 111 ∷ 116 ∷ 32 ∷ 120 ∷ []) ≡ Entry (record { when = Reboot; start = 8; end = 9 }))
-    × (readLine (64 ∷ 82 ∷ 101 ∷ 98 ∷ 111 ∷ 111 ∷ 116 ∷ 32 ∷ 120 ∷ []) ≡ Refused (record { number = 10; column = 1 }))
-    × (readLine (32 ∷ 64 ∷ []) ≡ Refused (record { number = 10; column = 2 }))
-    × (readLine (64 ∷ 114 ∷ 101 ∷ 98 ∷ 111 ∷ 111 ∷ 116 ∷ 32 ∷ []) ≡ Refused (record { number = 9; column = 9 }))
+    × (readLine (text "@reboot x") ≡ Entry (record { when = Reboot; start = 8; end = 9 }))
+    × (readLine (text "@Reboot x") ≡ Refused (record { number = 10; column = 1 }))
+    × (readLine (text " @") ≡ Refused (record { number = 10; column = 2 }))
+    × (readLine (text "@reboot ") ≡ Refused (record { number = 9; column = 9 }))
     -- byte 0, in a comment too
     × (readLine (35 ∷ 0 ∷ []) ≡ Refused (record { number = 3; column = 2 }))
     -- `A = "b c" `, `'A B'=c'd ` and `A =`
-    × (readLine (65 ∷ 32 ∷ 61 ∷ 32 ∷ 34 ∷ 98 ∷ 32 ∷ 99 ∷ 34 ∷ 32 ∷ []) ≡ Setting (record { start = 0; end = 1 }) (record { start = 5; end = 8 }))
-    × (readLine (39 ∷ 65 ∷ 32 ∷ 66 ∷ 39 ∷ 61 ∷ 99 ∷ 39 ∷ 100 ∷ 32 ∷ []) ≡ Setting (record { start = 1; end = 4 }) (record { start = 6; end = 9 }))
-    × (readLine (65 ∷ 32 ∷ 61 ∷ []) ≡ Setting (record { start = 0; end = 1 }) (record { start = 3; end = 3 }))
+    × (readLine (text "A = \"b c\" ") ≡ Setting (record { start = 0; end = 1 }) (record { start = 5; end = 8 }))
+    × (readLine (text "'A B'=c'd ") ≡ Setting (record { start = 1; end = 4 }) (record { start = 6; end = 9 }))
+    × (readLine (text "A =") ≡ Setting (record { start = 0; end = 1 }) (record { start = 3; end = 3 }))
     -- ` A"B=c`, `"A'=c` and `A="b"c`: 11 at the first byte that isn't blank
-    × (readLine (32 ∷ 65 ∷ 34 ∷ 66 ∷ 61 ∷ 99 ∷ []) ≡ Refused (record { number = 11; column = 2 }))
-    × (readLine (34 ∷ 65 ∷ 39 ∷ 61 ∷ 99 ∷ []) ≡ Refused (record { number = 11; column = 1 }))
-    × (readLine (65 ∷ 61 ∷ 34 ∷ 98 ∷ 34 ∷ 99 ∷ []) ≡ Refused (record { number = 11; column = 1 }))
+    × (readLine (text " A\"B=c") ≡ Refused (record { number = 11; column = 2 }))
+    × (readLine (text "\"A'=c") ≡ Refused (record { number = 11; column = 1 }))
+    × (readLine (text "A=\"b\"c") ≡ Refused (record { number = 11; column = 1 }))
     -- the words mean what the five fields of the paper mean
     -- `0 0 1 1 *`, `@yearly`
-    × (readLine (48 ∷ 32 ∷ 48 ∷ 32 ∷ 49 ∷ 32 ∷ 49 ∷ 32 ∷ 42 ∷ 32 ∷ 120 ∷ []) ≡ Entry (record { when = Timed yearly; start = 10; end = 11 }))
-    × (readLine (64 ∷ 121 ∷ 101 ∷ 97 ∷ 114 ∷ 108 ∷ 121 ∷ 32 ∷ 120 ∷ []) ≡ Entry (record { when = Timed yearly; start = 8; end = 9 }))
+    × (readLine (text "0 0 1 1 * x") ≡ Entry (record { when = Timed yearly; start = 10; end = 11 }))
+    × (readLine (text "@yearly x") ≡ Entry (record { when = Timed yearly; start = 8; end = 9 }))
     -- `@annually`
-    × (readLine (64 ∷ 97 ∷ 110 ∷ 110 ∷ 117 ∷ 97 ∷ 108 ∷ 108 ∷ 121 ∷ 32 ∷ 120 ∷ []) ≡ Entry (record { when = Timed yearly; start = 10; end = 11 }))
+    × (readLine (text "@annually x") ≡ Entry (record { when = Timed yearly; start = 10; end = 11 }))
     -- `0 0 1 * *`, `@monthly`
-    × (readLine (48 ∷ 32 ∷ 48 ∷ 32 ∷ 49 ∷ 32 ∷ 42 ∷ 32 ∷ 42 ∷ 32 ∷ 120 ∷ []) ≡ Entry (record { when = Timed monthly; start = 10; end = 11 }))
-    × (readLine (64 ∷ 109 ∷ 111 ∷ 110 ∷ 116 ∷ 104 ∷ 108 ∷ 121 ∷ 32 ∷ 120 ∷ []) ≡ Entry (record { when = Timed monthly; start = 9; end = 10 }))
+    × (readLine (text "0 0 1 * * x") ≡ Entry (record { when = Timed monthly; start = 10; end = 11 }))
+    × (readLine (text "@monthly x") ≡ Entry (record { when = Timed monthly; start = 9; end = 10 }))
     -- `0 0 * * 0`, `@weekly`
-    × (readLine (48 ∷ 32 ∷ 48 ∷ 32 ∷ 42 ∷ 32 ∷ 42 ∷ 32 ∷ 48 ∷ 32 ∷ 120 ∷ []) ≡ Entry (record { when = Timed weekly; start = 10; end = 11 }))
-    × (readLine (64 ∷ 119 ∷ 101 ∷ 101 ∷ 107 ∷ 108 ∷ 121 ∷ 32 ∷ 120 ∷ []) ≡ Entry (record { when = Timed weekly; start = 8; end = 9 }))
+    × (readLine (text "0 0 * * 0 x") ≡ Entry (record { when = Timed weekly; start = 10; end = 11 }))
+    × (readLine (text "@weekly x") ≡ Entry (record { when = Timed weekly; start = 8; end = 9 }))
     -- `0 0 * * *`, `@daily`
-    × (readLine (48 ∷ 32 ∷ 48 ∷ 32 ∷ 42 ∷ 32 ∷ 42 ∷ 32 ∷ 42 ∷ 32 ∷ 120 ∷ []) ≡ Entry (record { when = Timed daily; start = 10; end = 11 }))
-    × (readLine (64 ∷ 100 ∷ 97 ∷ 105 ∷ 108 ∷ 121 ∷ 32 ∷ 120 ∷ []) ≡ Entry (record { when = Timed daily; start = 7; end = 8 }))
+    × (readLine (text "0 0 * * * x") ≡ Entry (record { when = Timed daily; start = 10; end = 11 }))
+    × (readLine (text "@daily x") ≡ Entry (record { when = Timed daily; start = 7; end = 8 }))
     -- `@midnight`
-    × (readLine (64 ∷ 109 ∷ 105 ∷ 100 ∷ 110 ∷ 105 ∷ 103 ∷ 104 ∷ 116 ∷ 32 ∷ 120 ∷ []) ≡ Entry (record { when = Timed daily; start = 10; end = 11 }))
+    × (readLine (text "@midnight x") ≡ Entry (record { when = Timed daily; start = 10; end = 11 }))
     -- `0 * * * *`, `@hourly`
-    × (readLine (48 ∷ 32 ∷ 42 ∷ 32 ∷ 42 ∷ 32 ∷ 42 ∷ 32 ∷ 42 ∷ 32 ∷ 120 ∷ []) ≡ Entry (record { when = Timed hourly; start = 10; end = 11 }))
-    × (readLine (64 ∷ 104 ∷ 111 ∷ 117 ∷ 114 ∷ 108 ∷ 121 ∷ 32 ∷ 120 ∷ []) ≡ Entry (record { when = Timed hourly; start = 8; end = 9 }))
+    × (readLine (text "0 * * * * x") ≡ Entry (record { when = Timed hourly; start = 10; end = 11 }))
+    × (readLine (text "@hourly x") ≡ Entry (record { when = Timed hourly; start = 8; end = 9 }))
     -- the empty table has no entries
     × (tableOf [] ≡ emptyTable)
     -- the three lines of the paper's whole run, the last without a newline
-    × (fault (42 ∷ 32 ∷ 42 ∷ 32 ∷ 42 ∷ 32 ∷ 42 ∷ 32 ∷ 42 ∷ 32 ∷ 97 ∷ 10 ∷ 64 ∷ 114 ∷ 101 ∷ 98 ∷ 111 ∷ 111 ∷ 116 ∷ 32 ∷ 98 ∷ 10 ∷ 48 ∷ 32 ∷ 42 ∷ 32 ∷ 42 ∷ 32 ∷ 42 ∷ 32 ∷ 42 ∷ 32 ∷ 99 ∷ []) ≡ 0 ∷ 0 ∷ 0 ∷ 3 ∷ [])
+    × (fault (text "* * * * * a\n@reboot b\n0 * * * * c") ≡ 0 ∷ 0 ∷ 0 ∷ 3 ∷ [])
     -- the first bad line, and no entry
-    × (fault (64 ∷ 114 ∷ 101 ∷ 98 ∷ 111 ∷ 111 ∷ 116 ∷ 32 ∷ 98 ∷ 10 ∷ 10 ∷ 54 ∷ 48 ∷ 32 ∷ 42 ∷ 32 ∷ 42 ∷ 32 ∷ 42 ∷ 32 ∷ 42 ∷ 32 ∷ 97 ∷ 10 ∷ 65 ∷ 10 ∷ []) ≡ 6 ∷ 3 ∷ 1 ∷ 0 ∷ [])
+    × (fault (text "@reboot b\n\n60 * * * * a\nA\n") ≡ 6 ∷ 3 ∷ 1 ∷ 0 ∷ [])
 unfolding weekdays5 oddMondays until has before after afterEach split isDigit areDigits valueFrom numberOf isElement ranging numberOr endOf
     upperOf afterDash elementOf lower alike named monthNames weekdayNames nameOf isSunday everyStep valuesOf bitOf put including
     outside judged areElements judgedAll listField starElement starField readField withBit isBlank isQuote ofClass run skipped

@@ -5,6 +5,7 @@ use Prim.Native.Nat.{ℕ}
 use mathlib.Core.Bool.{Bool, true, false, cond, _&&_}
 use mathlib.Core.List.{List, [], _∷_}
 use lib.Dec.{eqb}
+use Rattle.text.specs.Bytes.{text}
 use Rattle.schedule.specs.declared.Schedule.{Schedule}
 use Rattle.crontab.specs.declared.When.{When}
 use Rattle.crontab.specs.declared.When.the-variants.{Reboot, Timed}
@@ -50,17 +51,16 @@ pub record Meaning : Type 0 where
   pub word : List ℕ
   pub when : When
 
--- @reboot, @yearly, @annually, @monthly, @weekly, @daily, @midnight, @hourly
 unfoldable pub meanings : List Meaning
 meanings =
-    record { word = 64 ∷ 114 ∷ 101 ∷ 98 ∷ 111 ∷ 111 ∷ 116 ∷ []; when = Reboot }
-    ∷ record { word = 64 ∷ 121 ∷ 101 ∷ 97 ∷ 114 ∷ 108 ∷ 121 ∷ []; when = Timed yearly }
-    ∷ record { word = 64 ∷ 97 ∷ 110 ∷ 110 ∷ 117 ∷ 97 ∷ 108 ∷ 108 ∷ 121 ∷ []; when = Timed yearly }
-    ∷ record { word = 64 ∷ 109 ∷ 111 ∷ 110 ∷ 116 ∷ 104 ∷ 108 ∷ 121 ∷ []; when = Timed monthly }
-    ∷ record { word = 64 ∷ 119 ∷ 101 ∷ 101 ∷ 107 ∷ 108 ∷ 121 ∷ []; when = Timed weekly }
-    ∷ record { word = 64 ∷ 100 ∷ 97 ∷ 105 ∷ 108 ∷ 121 ∷ []; when = Timed daily }
-    ∷ record { word = 64 ∷ 109 ∷ 105 ∷ 100 ∷ 110 ∷ 105 ∷ 103 ∷ 104 ∷ 116 ∷ []; when = Timed daily }
-    ∷ record { word = 64 ∷ 104 ∷ 111 ∷ 117 ∷ 114 ∷ 108 ∷ 121 ∷ []; when = Timed hourly }
+    record { word = text "@reboot"; when = Reboot }
+    ∷ record { word = text "@yearly"; when = Timed yearly }
+    ∷ record { word = text "@annually"; when = Timed yearly }
+    ∷ record { word = text "@monthly"; when = Timed monthly }
+    ∷ record { word = text "@weekly"; when = Timed weekly }
+    ∷ record { word = text "@daily"; when = Timed daily }
+    ∷ record { word = text "@midnight"; when = Timed daily }
+    ∷ record { word = text "@hourly"; when = Timed hourly }
     ∷ []
 
 -- the meaning of a word in a row of words

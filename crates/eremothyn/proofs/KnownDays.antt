@@ -3,6 +3,7 @@
 use mathlib.Core.Path.{_≡_, refl, ap, _∙_}
 use mathlib.Core.List.{List, [], _∷_}
 use Prim.Native.Nat.{ℕ}
+use Rattle.text.specs.Bytes.{text}
 use Rattle.calendar.specs.Gregorian.{leap, yearDays, monthTable, monthLength, monthDays}
 use Rattle.calendar.specs.Walk.{span, walk}
 use Rattle.calendar.specs.Dates.{weekdayOf, yearOf, monthOf, dateAt, noDate, dateOf, exists, daysBefore, minuteAt, minuteOf}
@@ -42,12 +43,12 @@ firing s times start end m e = rw e
 
 -- the tables of KnownDays, in its order, and the ticket's
 entries :
-    reads (48 ∷ 32 ∷ 48 ∷ 32 ∷ 50 ∷ 57 ∷ 32 ∷ 50 ∷ 32 ∷ 42 ∷ 32 ∷ 97 ∷ []) leapDay 11 12
-    × reads (51 ∷ 48 ∷ 32 ∷ 52 ∷ 32 ∷ 49 ∷ 44 ∷ 49 ∷ 53 ∷ 32 ∷ 42 ∷ 32 ∷ 53 ∷ 32 ∷ 97 ∷ []) fridays 14 15
-    × reads (48 ∷ 32 ∷ 48 ∷ 32 ∷ 51 ∷ 48 ∷ 32 ∷ 50 ∷ 32 ∷ 42 ∷ 32 ∷ 97 ∷ []) february30 11 12
-    × reads (48 ∷ 32 ∷ 48 ∷ 32 ∷ 51 ∷ 48 ∷ 32 ∷ 50 ∷ 32 ∷ 49 ∷ 32 ∷ 97 ∷ []) mondays30 11 12
-    × reads (48 ∷ 32 ∷ 48 ∷ 32 ∷ 51 ∷ 49 ∷ 32 ∷ 49 ∷ 50 ∷ 32 ∷ 42 ∷ 32 ∷ 97 ∷ []) lastDay 12 13
-    × reads (48 ∷ 32 ∷ 48 ∷ 32 ∷ 50 ∷ 57 ∷ 32 ∷ 50 ∷ 32 ∷ 42 ∷ 47 ∷ 55 ∷ 32 ∷ 97 ∷ []) leapSundays 13 14
+    reads (text "0 0 29 2 * a") leapDay 11 12
+    × reads (text "30 4 1,15 * 5 a") fridays 14 15
+    × reads (text "0 0 30 2 * a") february30 11 12
+    × reads (text "0 0 30 2 1 a") mondays30 11 12
+    × reads (text "0 0 31 12 * a") lastDay 12 13
+    × reads (text "0 0 29 2 */7 a") leapSundays 13 14
 unfolding leapDay fridays february30 mondays30 lastDay leapSundays isBlank isQuote ofClass run skipped trimmed between
     withCommand answered
     fieldAt afterWeekday afterMonth afterDay afterHour afterMinute timedEntry startsFields contentFrom contentOf readLine onto
@@ -85,6 +86,6 @@ known-days = (
 )
 
 -- `0 0 29 2 */7` after 62,147,520 (2088-02-29): 83,184,480 (2128-02-29)
-pub gap-reached : nextNumber (nextOf (48 ∷ 32 ∷ 48 ∷ 32 ∷ 50 ∷ 57 ∷ 32 ∷ 50 ∷ 32 ∷ 42 ∷ 47 ∷ 55 ∷ 32 ∷ 97 ∷ []) 0 62147520) ≡ 83184480
+pub gap-reached : nextNumber (nextOf (text "0 0 29 2 */7 a") 0 62147520) ≡ 83184480
 unfolding nextNumber nextFound
 gap-reached = ap nextNumber (firing _ leapSundays 13 14 _ (entries .5) ∙ ap nextFound firings.gap-reached)

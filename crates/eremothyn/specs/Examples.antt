@@ -3,6 +3,7 @@
 use mathlib.Core.Path.{_≡_, refl}
 use mathlib.Core.List.{List, [], _∷_}
 use Prim.Native.Nat.{ℕ}
+use Rattle.text.specs.Bytes.{text}
 use Rattle.calendar.specs.Gregorian.{leap, yearDays, monthTable, monthLength, monthDays}
 use Rattle.calendar.specs.Walk.{span, walk}
 use Rattle.calendar.specs.Dates.{weekdayOf, yearOf, monthOf, dateAt, noDate, dateOf, exists, daysBefore, minuteAt, minuteOf}
@@ -72,17 +73,27 @@ refused-numbers :
 unfolding splitNumber tickNumber popNumber
 refused-numbers = (refl, refl, refl)
 
--- a table of two entries, `@reboot x` and `0 * * * * y`: its count; due at minute 60, not at 61, and a boot job never; entry 2 is 13, a
--- minute off the calendar 14
-by-entry :
-    (checkNumber (64 ∷ 114 ∷ 101 ∷ 98 ∷ 111 ∷ 111 ∷ 116 ∷ 32 ∷ 120 ∷ 10 ∷ 48 ∷ 32 ∷ 42 ∷ 32 ∷ 42 ∷ 32 ∷ 42 ∷ 32 ∷ 42 ∷ 32 ∷ 121 ∷ []) ≡ 2)
-    × (dueNumber (dueOf (64 ∷ 114 ∷ 101 ∷ 98 ∷ 111 ∷ 111 ∷ 116 ∷ 32 ∷ 120 ∷ 10 ∷ 48 ∷ 32 ∷ 42 ∷ 32 ∷ 42 ∷ 32 ∷ 42 ∷ 32 ∷ 42 ∷ 32 ∷ 121 ∷ []) 1 60) ≡ 1)
-    × (dueNumber (dueOf (64 ∷ 114 ∷ 101 ∷ 98 ∷ 111 ∷ 111 ∷ 116 ∷ 32 ∷ 120 ∷ 10 ∷ 48 ∷ 32 ∷ 42 ∷ 32 ∷ 42 ∷ 32 ∷ 42 ∷ 32 ∷ 42 ∷ 32 ∷ 121 ∷ []) 1 61) ≡ 0)
-    × (dueNumber (dueOf (64 ∷ 114 ∷ 101 ∷ 98 ∷ 111 ∷ 111 ∷ 116 ∷ 32 ∷ 120 ∷ 10 ∷ 48 ∷ 32 ∷ 42 ∷ 32 ∷ 42 ∷ 32 ∷ 42 ∷ 32 ∷ 42 ∷ 32 ∷ 121 ∷ []) 0 60) ≡ 0)
-    × (dueNumber (dueOf (64 ∷ 114 ∷ 101 ∷ 98 ∷ 111 ∷ 111 ∷ 116 ∷ 32 ∷ 120 ∷ 10 ∷ 48 ∷ 32 ∷ 42 ∷ 32 ∷ 42 ∷ 32 ∷ 42 ∷ 32 ∷ 42 ∷ 32 ∷ 121 ∷ []) 2 60) ≡ 4294967309)
-    × (dueNumber (dueOf (64 ∷ 114 ∷ 101 ∷ 98 ∷ 111 ∷ 111 ∷ 116 ∷ 32 ∷ 120 ∷ 10 ∷ 48 ∷ 32 ∷ 42 ∷ 32 ∷ 42 ∷ 32 ∷ 42 ∷ 32 ∷ 42 ∷ 32 ∷ 121 ∷ []) 1 4223371680) ≡ 4294967310)
-    × (faultLine (64 ∷ 114 ∷ 101 ∷ 98 ∷ 111 ∷ 111 ∷ 116 ∷ 32 ∷ 120 ∷ 10 ∷ 48 ∷ 32 ∷ 42 ∷ 32 ∷ 42 ∷ 32 ∷ 42 ∷ 32 ∷ 42 ∷ 32 ∷ 121 ∷ []) ≡ 0)
-    × (faultColumn (64 ∷ 114 ∷ 101 ∷ 98 ∷ 111 ∷ 111 ∷ 116 ∷ 32 ∷ 120 ∷ 10 ∷ 48 ∷ 32 ∷ 42 ∷ 32 ∷ 42 ∷ 32 ∷ 42 ∷ 32 ∷ 42 ∷ 32 ∷ 121 ∷ []) ≡ 0)
+-- Small tables, by their bytes.
+by-bytes :
+    -- two entries: due at minute 60, not at 61, and a boot job never; entry 2 is 13, a minute off the calendar 14
+    (checkNumber (text "@reboot x\n0 * * * * y") ≡ 2)
+    × (dueNumber (dueOf (text "@reboot x\n0 * * * * y") 1 60) ≡ 1)
+    × (dueNumber (dueOf (text "@reboot x\n0 * * * * y") 1 61) ≡ 0)
+    × (dueNumber (dueOf (text "@reboot x\n0 * * * * y") 0 60) ≡ 0)
+    × (dueNumber (dueOf (text "@reboot x\n0 * * * * y") 2 60) ≡ 4294967309)
+    × (dueNumber (dueOf (text "@reboot x\n0 * * * * y") 1 4223371680) ≡ 4294967310)
+    × (faultLine (text "@reboot x\n0 * * * * y") ≡ 0)
+    × (faultColumn (text "@reboot x\n0 * * * * y") ≡ 0)
+    -- 60 as a minute, on line 2 at column 3: 6
+    × (checkNumber (text "\n  60 0 * * * x") ≡ 4294967302)
+    × (faultLine (text "\n  60 0 * * * x") ≡ 2)
+    × (faultColumn (text "\n  60 0 * * * x") ≡ 3)
+    -- a setting on line 2: where its name and its value stand, without the quotes; line 1 is 19
+    × (nameOffset (settingOf (text "\nA = \"b c\"") 2) ≡ 1)
+    × (nameLength (settingOf (text "\nA = \"b c\"") 2) ≡ 1)
+    × (valueOffset (settingOf (text "\nA = \"b c\"") 2) ≡ 6)
+    × (valueLength (settingOf (text "\nA = \"b c\"") 2) ≡ 3)
+    × (valueLength (settingOf (text "\nA = \"b c\"") 1) ≡ 4294967315)
 unfolding until has before after afterEach split isDigit areDigits valueFrom numberOf isElement ranging numberOr endOf upperOf
     afterDash elementOf lower alike named monthNames weekdayNames nameOf isSunday everyStep valuesOf bitOf including outside
     judged areElements judgedAll listField starElement starField readField isBlank isQuote ofClass run skipped trimmed between
@@ -92,36 +103,4 @@ unfolding until has before after afterEach split isDigit areDigits valueFrom num
     firesAt dueAt dueIn dueOf refusedSetting shownAt settingFrom settingOf hasBit withBit put bothMust byDayRule matchesDay
     matchesTime matchesDate matches checkNumber faultLine faultColumn dueNumber nameOffset nameLength valueOffset valueLength
     answerOf dateAt yearOf monthOf weekdayOf walk yearDays leap monthDays monthLength monthTable
-by-entry = (refl, refl, refl, refl, refl, refl, refl, refl)
-
--- `60` as a minute, on line 2 at column 3: 6
-by-fault :
-    (checkNumber (10 ∷ 32 ∷ 32 ∷ 54 ∷ 48 ∷ 32 ∷ 48 ∷ 32 ∷ 42 ∷ 32 ∷ 42 ∷ 32 ∷ 42 ∷ 32 ∷ 120 ∷ []) ≡ 4294967302) × (faultLine (10 ∷ 32 ∷ 32 ∷ 54 ∷ 48 ∷ 32 ∷ 48 ∷ 32 ∷ 42 ∷ 32 ∷ 42 ∷ 32 ∷ 42 ∷ 32 ∷ 120 ∷ []) ≡ 2) × (faultColumn (10 ∷ 32 ∷ 32 ∷ 54 ∷ 48 ∷ 32 ∷ 48 ∷ 32 ∷ 42 ∷ 32 ∷ 42 ∷ 32 ∷ 42 ∷ 32 ∷ 120 ∷ []) ≡ 3)
-unfolding until has before after afterEach split isDigit areDigits valueFrom numberOf isElement ranging numberOr endOf upperOf
-    afterDash elementOf lower alike named monthNames weekdayNames nameOf isSunday everyStep valuesOf bitOf including outside
-    judged areElements judgedAll listField starElement starField readField isBlank isQuote ofClass run skipped trimmed between
-    withCommand afterWord wordEntry answered fieldAt afterWeekday afterMonth afterDay afterHour afterMinute timedEntry onto
-    linesOf startsFields contentFrom contentOf readLine noEntries refusedTable emptyTable withEntry afterLine withLines tableOf
-    quotedAt nonEmpty nameAt closed valueAt afterEquals afterName settingLine same meanings meaningIn wordOf entryIn entryOf
-    firesAt dueAt dueIn dueOf refusedSetting shownAt settingFrom settingOf hasBit withBit put bothMust byDayRule matchesDay
-    matchesTime matchesDate matches checkNumber faultLine faultColumn dueNumber nameOffset nameLength valueOffset valueLength
-    answerOf dateAt yearOf monthOf weekdayOf walk yearDays leap monthDays monthLength monthTable
-by-fault = (refl, refl, refl)
-
--- `A = "b c"` on line 2: where the name and the value stand, without the quotes; line 1 is 19
-by-setting :
-    (nameOffset (settingOf (10 ∷ 65 ∷ 32 ∷ 61 ∷ 32 ∷ 34 ∷ 98 ∷ 32 ∷ 99 ∷ 34 ∷ []) 2) ≡ 1)
-    × (nameLength (settingOf (10 ∷ 65 ∷ 32 ∷ 61 ∷ 32 ∷ 34 ∷ 98 ∷ 32 ∷ 99 ∷ 34 ∷ []) 2) ≡ 1)
-    × (valueOffset (settingOf (10 ∷ 65 ∷ 32 ∷ 61 ∷ 32 ∷ 34 ∷ 98 ∷ 32 ∷ 99 ∷ 34 ∷ []) 2) ≡ 6)
-    × (valueLength (settingOf (10 ∷ 65 ∷ 32 ∷ 61 ∷ 32 ∷ 34 ∷ 98 ∷ 32 ∷ 99 ∷ 34 ∷ []) 2) ≡ 3)
-    × (valueLength (settingOf (10 ∷ 65 ∷ 32 ∷ 61 ∷ 32 ∷ 34 ∷ 98 ∷ 32 ∷ 99 ∷ 34 ∷ []) 1) ≡ 4294967315)
-unfolding until has before after afterEach split isDigit areDigits valueFrom numberOf isElement ranging numberOr endOf upperOf
-    afterDash elementOf lower alike named monthNames weekdayNames nameOf isSunday everyStep valuesOf bitOf including outside
-    judged areElements judgedAll listField starElement starField readField isBlank isQuote ofClass run skipped trimmed between
-    withCommand afterWord wordEntry answered fieldAt afterWeekday afterMonth afterDay afterHour afterMinute timedEntry onto
-    linesOf startsFields contentFrom contentOf readLine noEntries refusedTable emptyTable withEntry afterLine withLines tableOf
-    quotedAt nonEmpty nameAt closed valueAt afterEquals afterName settingLine same meanings meaningIn wordOf entryIn entryOf
-    firesAt dueAt dueIn dueOf refusedSetting shownAt settingFrom settingOf hasBit withBit put bothMust byDayRule matchesDay
-    matchesTime matchesDate matches checkNumber faultLine faultColumn dueNumber nameOffset nameLength valueOffset valueLength
-    answerOf dateAt yearOf monthOf weekdayOf walk yearDays leap monthDays monthLength monthTable
-by-setting = (refl, refl, refl, refl, refl)
+by-bytes = (refl, refl, refl, refl, refl, refl, refl, refl, refl, refl, refl, refl, refl, refl, refl, refl)

@@ -1,9 +1,10 @@
--- The examples of paper 01, and some beside them, computed from the definitions. A field's bytes stand in ASCII: `*` is 42, `,` 44, `-` 45, `/` 47, `0` 48.
+-- The examples of paper 01, and some beside them, computed from the definitions.
 -- Assumes nothing.
 use Prim.Native.Nat.{ℕ}
 use mathlib.Core.Path.{_≡_, refl}
 use mathlib.Core.Bool.{true, false}
 use mathlib.Core.List.{List, [], _∷_}
+use Rattle.text.specs.Bytes.{text}
 use Rattle.field.specs.declared.Limits.{Limits}
 use Rattle.field.specs.declared.Answer.{Answer}
 use Rattle.field.specs.declared.Answer.the-variants.{Values, Refused}
@@ -23,50 +24,50 @@ read l s = readField l 1 s
 
 examples :
     -- `*/2` as month: 1, 3, 5, 7, 9, 11, and it begins with a star
-    (read monthLimits (42 ∷ 47 ∷ 50 ∷ []) ≡ Values 2730 true)
+    (read monthLimits (text "*/2") ≡ Values 2730 true)
     -- `5-7` as weekday: Friday, Saturday, Sunday
-    × (read weekdayLimits (53 ∷ 45 ∷ 55 ∷ []) ≡ Values 97 false)
+    × (read weekdayLimits (text "5-7") ≡ Values 97 false)
     -- `*/7` as weekday: 0 and 7, both Sunday
-    × (read weekdayLimits (42 ∷ 47 ∷ 55 ∷ []) ≡ Values 1 true)
+    × (read weekdayLimits (text "*/7") ≡ Values 1 true)
     -- `*` as weekday: each of the seven, and a star
-    × (read weekdayLimits (42 ∷ []) ≡ Values 127 true)
+    × (read weekdayLimits (text "*") ≡ Values 127 true)
     -- `10-10` is 10
-    × (read minuteLimits (49 ∷ 48 ∷ 45 ∷ 49 ∷ 48 ∷ []) ≡ Values 1024 false)
+    × (read minuteLimits (text "10-10") ≡ Values 1024 false)
     -- `10-9` is refused with 7
-    × (read minuteLimits (49 ∷ 48 ∷ 45 ∷ 57 ∷ []) ≡ Refused 7 1)
+    × (read minuteLimits (text "10-9") ≡ Refused 7 1)
     -- `5/2` is refused with 5
-    × (read minuteLimits (53 ∷ 47 ∷ 50 ∷ []) ≡ Refused 5 1)
+    × (read minuteLimits (text "5/2") ≡ Refused 5 1)
     -- `*,5` is refused with 5
-    × (read minuteLimits (42 ∷ 44 ∷ 53 ∷ []) ≡ Refused 5 1)
+    × (read minuteLimits (text "*,5") ≡ Refused 5 1)
     -- `60` as minute is refused with 6
-    × (read minuteLimits (54 ∷ 48 ∷ []) ≡ Refused 6 1)
+    × (read minuteLimits (text "60") ≡ Refused 6 1)
     -- `*/0` is refused with 8
-    × (read minuteLimits (42 ∷ 47 ∷ 48 ∷ []) ≡ Refused 8 1)
+    × (read minuteLimits (text "*/0") ≡ Refused 8 1)
     -- `Mon` as weekday is Monday
-    × (read weekdayLimits (77 ∷ 111 ∷ 110 ∷ []) ≡ Values 2 false)
+    × (read weekdayLimits (text "Mon") ≡ Values 2 false)
     -- `0000` is 0, `00000` is no number
-    × (read hourLimits (48 ∷ 48 ∷ 48 ∷ 48 ∷ []) ≡ Values 1 false)
-    × (read hourLimits (48 ∷ 48 ∷ 48 ∷ 48 ∷ 48 ∷ []) ≡ Refused 5 1)
+    × (read hourLimits (text "0000") ≡ Values 1 false)
+    × (read hourLimits (text "00000") ≡ Refused 5 1)
     -- the second element of `1,70` is refused at its own first byte, and only where the whole field is of the form
-    × (read minuteLimits (49 ∷ 44 ∷ 55 ∷ 48 ∷ []) ≡ Refused 6 3)
-    × (read minuteLimits (49 ∷ 44 ∷ 55 ∷ 48 ∷ 44 ∷ []) ≡ Refused 5 1)
+    × (read minuteLimits (text "1,70") ≡ Refused 6 3)
+    × (read minuteLimits (text "1,70,") ≡ Refused 5 1)
     -- `*` in the other four: first to last
-    × (read minuteLimits (42 ∷ []) ≡ Values 1152921504606846975 true)
-    × (read hourLimits (42 ∷ []) ≡ Values 16777215 true)
-    × (read dayLimits (42 ∷ []) ≡ Values 4294967294 true)
-    × (read monthLimits (42 ∷ []) ≡ Values 8190 true)
+    × (read minuteLimits (text "*") ≡ Values 1152921504606846975 true)
+    × (read hourLimits (text "*") ≡ Values 16777215 true)
+    × (read dayLimits (text "*") ≡ Values 4294967294 true)
+    × (read monthLimits (text "*") ≡ Values 8190 true)
     -- `0` and `32` as day, `13` as month, `8` as weekday, `24` as hour are refused with 6
-    × (read dayLimits (48 ∷ []) ≡ Refused 6 1)
-    × (read dayLimits (51 ∷ 50 ∷ []) ≡ Refused 6 1)
-    × (read monthLimits (49 ∷ 51 ∷ []) ≡ Refused 6 1)
-    × (read weekdayLimits (56 ∷ []) ≡ Refused 6 1)
-    × (read hourLimits (50 ∷ 52 ∷ []) ≡ Refused 6 1)
+    × (read dayLimits (text "0") ≡ Refused 6 1)
+    × (read dayLimits (text "32") ≡ Refused 6 1)
+    × (read monthLimits (text "13") ≡ Refused 6 1)
+    × (read weekdayLimits (text "8") ≡ Refused 6 1)
+    × (read hourLimits (text "24") ≡ Refused 6 1)
     -- `10-20/5` is 10, 15, 20
-    × (read minuteLimits (49 ∷ 48 ∷ 45 ∷ 50 ∷ 48 ∷ 47 ∷ 53 ∷ []) ≡ Values 1082368 false)
+    × (read minuteLimits (text "10-20/5") ≡ Values 1082368 false)
     -- in an element 6 comes before 7, and 7 before 8; the first bad element decides
-    × (read minuteLimits (54 ∷ 49 ∷ 45 ∷ 54 ∷ 48 ∷ 47 ∷ 48 ∷ []) ≡ Refused 6 1)
-    × (read minuteLimits (49 ∷ 48 ∷ 45 ∷ 57 ∷ 47 ∷ 48 ∷ []) ≡ Refused 7 1)
-    × (read minuteLimits (55 ∷ 48 ∷ 44 ∷ 49 ∷ 48 ∷ 45 ∷ 57 ∷ []) ≡ Refused 6 1)
+    × (read minuteLimits (text "61-60/0") ≡ Refused 6 1)
+    × (read minuteLimits (text "10-9/0") ≡ Refused 7 1)
+    × (read minuteLimits (text "70,10-9") ≡ Refused 6 1)
 unfolding read readField judged judgedAll areElements listField starField starElement isElement ranging elementOf numberOr endOf
     upperOf isSunday afterDash split afterEach until has before after numberOf areDigits isDigit valueFrom nameOf named alike
     lower monthNames weekdayNames outside including put bitOf valuesOf everyStep withBit
@@ -75,29 +76,29 @@ examples = (refl, refl, refl, refl, refl, refl, refl, refl, refl, refl, refl, re
 -- Ticket 2026-01: names wherever numbers stand.
 names :
     -- `mon-fri` is Monday to Friday, `jan,jul` two months, `FRI-Sun` 5 to 7, `sun-sun` Sunday alone
-    (read weekdayLimits (109 ∷ 111 ∷ 110 ∷ 45 ∷ 102 ∷ 114 ∷ 105 ∷ []) ≡ Values 62 false)
-    × (read monthLimits (106 ∷ 97 ∷ 110 ∷ 44 ∷ 106 ∷ 117 ∷ 108 ∷ []) ≡ Values 130 false)
-    × (read weekdayLimits (70 ∷ 82 ∷ 73 ∷ 45 ∷ 83 ∷ 117 ∷ 110 ∷ []) ≡ Values 97 false)
-    × (read weekdayLimits (115 ∷ 117 ∷ 110 ∷ 45 ∷ 115 ∷ 117 ∷ 110 ∷ []) ≡ Values 1 false)
+    (read weekdayLimits (text "mon-fri") ≡ Values 62 false)
+    × (read monthLimits (text "jan,jul") ≡ Values 130 false)
+    × (read weekdayLimits (text "FRI-Sun") ≡ Values 97 false)
+    × (read weekdayLimits (text "sun-sun") ≡ Values 1 false)
     -- `fri-mon` is refused with 7, `mon,sat-tue` at its second element
-    × (read weekdayLimits (102 ∷ 114 ∷ 105 ∷ 45 ∷ 109 ∷ 111 ∷ 110 ∷ []) ≡ Refused 7 1)
-    × (read weekdayLimits (109 ∷ 111 ∷ 110 ∷ 44 ∷ 115 ∷ 97 ∷ 116 ∷ 45 ∷ 116 ∷ 117 ∷ 101 ∷ []) ≡ Refused 7 5)
+    × (read weekdayLimits (text "fri-mon") ≡ Refused 7 1)
+    × (read weekdayLimits (text "mon,sat-tue") ≡ Refused 7 5)
     -- mixed: `1-fri`, `mon,3`, `mon-5/2`
-    × (read weekdayLimits (49 ∷ 45 ∷ 102 ∷ 114 ∷ 105 ∷ []) ≡ Values 62 false)
-    × (read weekdayLimits (109 ∷ 111 ∷ 110 ∷ 44 ∷ 51 ∷ []) ≡ Values 10 false)
-    × (read weekdayLimits (109 ∷ 111 ∷ 110 ∷ 45 ∷ 53 ∷ 47 ∷ 50 ∷ []) ≡ Values 42 false)
+    × (read weekdayLimits (text "1-fri") ≡ Values 62 false)
+    × (read weekdayLimits (text "mon,3") ≡ Values 10 false)
+    × (read weekdayLimits (text "mon-5/2") ≡ Values 42 false)
     -- `sun` goes by how the ends are written: `0-sun` and `sun-7` are every day, `7-sun` and `sun-0` Sunday, `mon-0` is refused with 7
-    × (read weekdayLimits (48 ∷ 45 ∷ 115 ∷ 117 ∷ 110 ∷ []) ≡ Values 127 false)
-    × (read weekdayLimits (115 ∷ 117 ∷ 110 ∷ 45 ∷ 55 ∷ []) ≡ Values 127 false)
-    × (read weekdayLimits (55 ∷ 45 ∷ 115 ∷ 117 ∷ 110 ∷ []) ≡ Values 1 false)
-    × (read weekdayLimits (115 ∷ 117 ∷ 110 ∷ 45 ∷ 48 ∷ []) ≡ Values 1 false)
-    × (read weekdayLimits (109 ∷ 111 ∷ 110 ∷ 45 ∷ 48 ∷ []) ≡ Refused 7 1)
+    × (read weekdayLimits (text "0-sun") ≡ Values 127 false)
+    × (read weekdayLimits (text "sun-7") ≡ Values 127 false)
+    × (read weekdayLimits (text "7-sun") ≡ Values 1 false)
+    × (read weekdayLimits (text "sun-0") ≡ Values 1 false)
+    × (read weekdayLimits (text "mon-0") ≡ Refused 7 1)
     -- no name as a step, and none of the other field: `mon/2`, `*/mon`, `1-5/mon`, `jan` as weekday, `1-sun` as month are refused with 5
-    × (read weekdayLimits (109 ∷ 111 ∷ 110 ∷ 47 ∷ 50 ∷ []) ≡ Refused 5 1)
-    × (read weekdayLimits (42 ∷ 47 ∷ 109 ∷ 111 ∷ 110 ∷ []) ≡ Refused 5 1)
-    × (read weekdayLimits (49 ∷ 45 ∷ 53 ∷ 47 ∷ 109 ∷ 111 ∷ 110 ∷ []) ≡ Refused 5 1)
-    × (read weekdayLimits (106 ∷ 97 ∷ 110 ∷ []) ≡ Refused 5 1)
-    × (read monthLimits (49 ∷ 45 ∷ 115 ∷ 117 ∷ 110 ∷ []) ≡ Refused 5 1)
+    × (read weekdayLimits (text "mon/2") ≡ Refused 5 1)
+    × (read weekdayLimits (text "*/mon") ≡ Refused 5 1)
+    × (read weekdayLimits (text "1-5/mon") ≡ Refused 5 1)
+    × (read weekdayLimits (text "jan") ≡ Refused 5 1)
+    × (read monthLimits (text "1-sun") ≡ Refused 5 1)
 unfolding read readField judged judgedAll areElements listField starField starElement isElement ranging elementOf numberOr endOf
     upperOf isSunday afterDash split afterEach until has before after numberOf areDigits isDigit valueFrom nameOf named alike
     lower monthNames weekdayNames outside including put bitOf valuesOf everyStep withBit
@@ -110,7 +111,7 @@ eachSet l (s ∷ ss) = read l s ∷ eachSet l ss
 
 month-names :
     eachSet monthLimits
-    ((106 ∷ 97 ∷ 110 ∷ []) ∷ (102 ∷ 101 ∷ 98 ∷ []) ∷ (109 ∷ 97 ∷ 114 ∷ []) ∷ (97 ∷ 112 ∷ 114 ∷ []) ∷ (109 ∷ 97 ∷ 121 ∷ []) ∷ (106 ∷ 117 ∷ 110 ∷ []) ∷ (106 ∷ 117 ∷ 108 ∷ []) ∷ (97 ∷ 117 ∷ 103 ∷ []) ∷ (115 ∷ 101 ∷ 112 ∷ []) ∷ (111 ∷ 99 ∷ 116 ∷ []) ∷ (110 ∷ 111 ∷ 118 ∷ []) ∷ (100 ∷ 101 ∷ 99 ∷ []) ∷ [])
+    (text "jan" ∷ text "feb" ∷ text "mar" ∷ text "apr" ∷ text "may" ∷ text "jun" ∷ text "jul" ∷ text "aug" ∷ text "sep" ∷ text "oct" ∷ text "nov" ∷ text "dec" ∷ [])
     ≡ Values 2 false ∷ Values 4 false ∷ Values 8 false ∷ Values 16 false ∷ Values 32 false ∷ Values 64 false ∷ Values 128 false ∷ Values 256 false ∷ Values 512 false ∷ Values 1024 false ∷ Values 2048 false ∷ Values 4096 false ∷ []
 unfolding eachSet read readField judged judgedAll areElements listField isElement ranging elementOf numberOr endOf split
     afterEach until has before after numberOf areDigits isDigit valueFrom nameOf named alike lower monthNames weekdayNames
@@ -119,7 +120,7 @@ month-names = refl
 
 weekday-names :
     eachSet weekdayLimits
-    ((115 ∷ 117 ∷ 110 ∷ []) ∷ (109 ∷ 111 ∷ 110 ∷ []) ∷ (116 ∷ 117 ∷ 101 ∷ []) ∷ (119 ∷ 101 ∷ 100 ∷ []) ∷ (116 ∷ 104 ∷ 117 ∷ []) ∷ (102 ∷ 114 ∷ 105 ∷ []) ∷ (115 ∷ 97 ∷ 116 ∷ []) ∷ [])
+    (text "sun" ∷ text "mon" ∷ text "tue" ∷ text "wed" ∷ text "thu" ∷ text "fri" ∷ text "sat" ∷ [])
     ≡ Values 1 false ∷ Values 2 false ∷ Values 4 false ∷ Values 8 false ∷ Values 16 false ∷ Values 32 false ∷ Values 64 false ∷ []
 unfolding eachSet read readField judged judgedAll areElements listField isElement ranging elementOf numberOr endOf split
     afterEach until has before after numberOf areDigits isDigit valueFrom nameOf named alike lower monthNames weekdayNames

@@ -4,6 +4,7 @@ use Prim.Native.Nat.{ℕ, suc, _+_}
 use mathlib.Core.Bool.{Bool, true, false, cond, _&&_}
 use mathlib.Core.List.{List, [], _∷_}
 use lib.Dec.{leb, eqb}
+use Rattle.text.specs.Bytes.{text}
 use Rattle.field.specs.declared.Names.{Names}
 use Rattle.field.specs.declared.Names.the-variants.{None, Months, Weekdays}
 use Rattle.field.specs.declared.number.Number.{Number}
@@ -20,38 +21,17 @@ alike (b ∷ s) (x ∷ name) = eqb (lower b) x && alike s name
 alike [] (x ∷ name) = false
 alike (b ∷ s) [] = false
 
--- jan, feb, mar, apr, may, jun, jul, aug, sep, oct, nov, dec
 unfoldable pub monthNames : List (List ℕ)
 monthNames =
-    (106 ∷ 97 ∷ 110 ∷ [])
-    ∷ (102 ∷ 101 ∷ 98 ∷ [])
-    ∷ (109 ∷ 97 ∷ 114 ∷ [])
-    ∷ (97 ∷ 112 ∷ 114 ∷ [])
-    ∷ (109 ∷ 97 ∷ 121 ∷ [])
-    ∷ (106 ∷ 117 ∷ 110 ∷ [])
-    ∷ (106 ∷ 117 ∷ 108 ∷ [])
-    ∷ (97 ∷ 117 ∷ 103 ∷ [])
-    ∷ (115 ∷ 101 ∷ 112 ∷ [])
-    ∷ (111 ∷ 99 ∷ 116 ∷ [])
-    ∷ (110 ∷ 111 ∷ 118 ∷ [])
-    ∷ (100 ∷ 101 ∷ 99 ∷ [])
+    text "jan" ∷ text "feb" ∷ text "mar" ∷ text "apr" ∷ text "may" ∷ text "jun"
+    ∷ text "jul" ∷ text "aug" ∷ text "sep" ∷ text "oct" ∷ text "nov" ∷ text "dec"
     ∷ []
 
--- sun
 abbrev pub sunday : List ℕ
-sunday = 115 ∷ 117 ∷ 110 ∷ []
+sunday = text "sun"
 
--- sun, mon, tue, wed, thu, fri, sat
 unfoldable pub weekdayNames : List (List ℕ)
-weekdayNames =
-    sunday
-    ∷ (109 ∷ 111 ∷ 110 ∷ [])
-    ∷ (116 ∷ 117 ∷ 101 ∷ [])
-    ∷ (119 ∷ 101 ∷ 100 ∷ [])
-    ∷ (116 ∷ 104 ∷ 117 ∷ [])
-    ∷ (102 ∷ 114 ∷ 105 ∷ [])
-    ∷ (115 ∷ 97 ∷ 116 ∷ [])
-    ∷ []
+weekdayNames = sunday ∷ text "mon" ∷ text "tue" ∷ text "wed" ∷ text "thu" ∷ text "fri" ∷ text "sat" ∷ []
 
 -- the number of a name in a row of names, of which the first has the number n
 unfoldable pub named : ℕ → List (List ℕ) → List ℕ → Number
