@@ -35,17 +35,17 @@ weekdays5 =
     record { minutes = 1; hours = 1; days = 4294967294; months = 8190; weekdays = 62; stars = record { days = true; weekdays = false } }
 
 examples :
-    -- `60 0 * * * x`: 6 at the first field
+    -- at the first field
     (readLine (text "60 0 * * * x") ≡ Refused (record { number = 6; column = 1 }))
-    -- `0 0 * * mon-fri x`: Monday to Friday; `0 0 * * fri-mon x`: 7, and `0 0 * * jan x`: 5, at the fifth field
+    -- Monday to Friday; and at the fifth field from high to low, and a name of another field
     × (readLine (text "0 0 * * mon-fri x") ≡ Entry (record { when = Timed weekdays5; start = 16; end = 17 }))
     × (readLine (text "0 0 * * fri-mon x") ≡ Refused (record { number = 7; column = 9 }))
     × (readLine (text "0 0 * * jan x") ≡ Refused (record { number = 5; column = 9 }))
-    -- `0 0 */2 * 1 x`: Mondays on odd days, since the day field begins with a star
+    -- Mondays on odd days, since the day field begins with a star
     × (readLine (text "0 0 */2 * 1 x") ≡ Entry (record { when = Timed oddMondays; start = 12; end = 13 }))
-    -- `0 0 * * * ` without a command: 9 after the last byte
+    -- no command: after the last byte, blanks counted
     × (readLine (text "0 0 * * * ") ≡ Refused (record { number = 9; column = 11 }))
-    -- `5 5`: 4 after the last byte, but a bad field before it comes first
+    -- too few fields: after the last byte, but a bad field before it comes first
     × (readLine (text "5 5") ≡ Refused (record { number = 4; column = 4 }))
     × (readLine (text "60 5") ≡ Refused (record { number = 6; column = 1 }))
     -- blanks before and after, and a comment
@@ -58,32 +58,25 @@ examples :
     × (readLine (text "@reboot ") ≡ Refused (record { number = 9; column = 9 }))
     -- byte 0, in a comment too
     × (readLine (35 ∷ 0 ∷ []) ≡ Refused (record { number = 3; column = 2 }))
-    -- `A = "b c" `, `'A B'=c'd ` and `A =`
+    -- settings: without their quotes and the last blanks
     × (readLine (text "A = \"b c\" ") ≡ Setting (record { start = 0; end = 1 }) (record { start = 5; end = 8 }))
     × (readLine (text "'A B'=c'd ") ≡ Setting (record { start = 1; end = 4 }) (record { start = 6; end = 9 }))
     × (readLine (text "A =") ≡ Setting (record { start = 0; end = 1 }) (record { start = 3; end = 3 }))
-    -- ` A"B=c`, `"A'=c` and `A="b"c`: 11 at the first byte that isn't blank
+    -- no settings: at the first byte that isn't blank
     × (readLine (text " A\"B=c") ≡ Refused (record { number = 11; column = 2 }))
     × (readLine (text "\"A'=c") ≡ Refused (record { number = 11; column = 1 }))
     × (readLine (text "A=\"b\"c") ≡ Refused (record { number = 11; column = 1 }))
     -- the words mean what the five fields of the paper mean
-    -- `0 0 1 1 *`, `@yearly`
     × (readLine (text "0 0 1 1 * x") ≡ Entry (record { when = Timed yearly; start = 10; end = 11 }))
     × (readLine (text "@yearly x") ≡ Entry (record { when = Timed yearly; start = 8; end = 9 }))
-    -- `@annually`
     × (readLine (text "@annually x") ≡ Entry (record { when = Timed yearly; start = 10; end = 11 }))
-    -- `0 0 1 * *`, `@monthly`
     × (readLine (text "0 0 1 * * x") ≡ Entry (record { when = Timed monthly; start = 10; end = 11 }))
     × (readLine (text "@monthly x") ≡ Entry (record { when = Timed monthly; start = 9; end = 10 }))
-    -- `0 0 * * 0`, `@weekly`
     × (readLine (text "0 0 * * 0 x") ≡ Entry (record { when = Timed weekly; start = 10; end = 11 }))
     × (readLine (text "@weekly x") ≡ Entry (record { when = Timed weekly; start = 8; end = 9 }))
-    -- `0 0 * * *`, `@daily`
     × (readLine (text "0 0 * * * x") ≡ Entry (record { when = Timed daily; start = 10; end = 11 }))
     × (readLine (text "@daily x") ≡ Entry (record { when = Timed daily; start = 7; end = 8 }))
-    -- `@midnight`
     × (readLine (text "@midnight x") ≡ Entry (record { when = Timed daily; start = 10; end = 11 }))
-    -- `0 * * * *`, `@hourly`
     × (readLine (text "0 * * * * x") ≡ Entry (record { when = Timed hourly; start = 10; end = 11 }))
     × (readLine (text "@hourly x") ≡ Entry (record { when = Timed hourly; start = 8; end = 9 }))
     -- the empty table has no entries

@@ -23,46 +23,41 @@ read : Limits → List ℕ → Answer
 read l s = readField l 1 s
 
 examples :
-    -- `*/2` as month: 1, 3, 5, 7, 9, 11, and it begins with a star
+    -- 1, 3, 5, 7, 9, 11, and it begins with a star
     (read monthLimits (text "*/2") ≡ Values 2730 true)
-    -- `5-7` as weekday: Friday, Saturday, Sunday
+    -- Friday, Saturday, Sunday
     × (read weekdayLimits (text "5-7") ≡ Values 97 false)
-    -- `*/7` as weekday: 0 and 7, both Sunday
+    -- 0 and 7, both Sunday
     × (read weekdayLimits (text "*/7") ≡ Values 1 true)
-    -- `*` as weekday: each of the seven, and a star
+    -- each of the seven
     × (read weekdayLimits (text "*") ≡ Values 127 true)
-    -- `10-10` is 10
+    -- 10 alone
     × (read minuteLimits (text "10-10") ≡ Values 1024 false)
-    -- `10-9` is refused with 7
     × (read minuteLimits (text "10-9") ≡ Refused 7 1)
-    -- `5/2` is refused with 5
     × (read minuteLimits (text "5/2") ≡ Refused 5 1)
-    -- `*,5` is refused with 5
     × (read minuteLimits (text "*,5") ≡ Refused 5 1)
-    -- `60` as minute is refused with 6
     × (read minuteLimits (text "60") ≡ Refused 6 1)
-    -- `*/0` is refused with 8
     × (read minuteLimits (text "*/0") ≡ Refused 8 1)
-    -- `Mon` as weekday is Monday
+    -- Monday
     × (read weekdayLimits (text "Mon") ≡ Values 2 false)
-    -- `0000` is 0, `00000` is no number
+    -- four digits are a number, five are none
     × (read hourLimits (text "0000") ≡ Values 1 false)
     × (read hourLimits (text "00000") ≡ Refused 5 1)
-    -- the second element of `1,70` is refused at its own first byte, and only where the whole field is of the form
+    -- the second element is refused at its own first byte, and only where the whole field is of the form
     × (read minuteLimits (text "1,70") ≡ Refused 6 3)
     × (read minuteLimits (text "1,70,") ≡ Refused 5 1)
-    -- `*` in the other four: first to last
+    -- first to last
     × (read minuteLimits (text "*") ≡ Values 1152921504606846975 true)
     × (read hourLimits (text "*") ≡ Values 16777215 true)
     × (read dayLimits (text "*") ≡ Values 4294967294 true)
     × (read monthLimits (text "*") ≡ Values 8190 true)
-    -- `0` and `32` as day, `13` as month, `8` as weekday, `24` as hour are refused with 6
+    -- outside the limits
     × (read dayLimits (text "0") ≡ Refused 6 1)
     × (read dayLimits (text "32") ≡ Refused 6 1)
     × (read monthLimits (text "13") ≡ Refused 6 1)
     × (read weekdayLimits (text "8") ≡ Refused 6 1)
     × (read hourLimits (text "24") ≡ Refused 6 1)
-    -- `10-20/5` is 10, 15, 20
+    -- 10, 15, 20
     × (read minuteLimits (text "10-20/5") ≡ Values 1082368 false)
     -- in an element 6 comes before 7, and 7 before 8; the first bad element decides
     × (read minuteLimits (text "61-60/0") ≡ Refused 6 1)
@@ -75,25 +70,25 @@ examples = (refl, refl, refl, refl, refl, refl, refl, refl, refl, refl, refl, re
 
 -- Ticket 2026-01: names wherever numbers stand.
 names :
-    -- `mon-fri` is Monday to Friday, `jan,jul` two months, `FRI-Sun` 5 to 7, `sun-sun` Sunday alone
+    -- 1 to 5, two months, 5 to 7 in any letter case, Sunday alone
     (read weekdayLimits (text "mon-fri") ≡ Values 62 false)
     × (read monthLimits (text "jan,jul") ≡ Values 130 false)
     × (read weekdayLimits (text "FRI-Sun") ≡ Values 97 false)
     × (read weekdayLimits (text "sun-sun") ≡ Values 1 false)
-    -- `fri-mon` is refused with 7, `mon,sat-tue` at its second element
+    -- from high to low, also in the second element
     × (read weekdayLimits (text "fri-mon") ≡ Refused 7 1)
     × (read weekdayLimits (text "mon,sat-tue") ≡ Refused 7 5)
-    -- mixed: `1-fri`, `mon,3`, `mon-5/2`
+    -- mixed
     × (read weekdayLimits (text "1-fri") ≡ Values 62 false)
     × (read weekdayLimits (text "mon,3") ≡ Values 10 false)
     × (read weekdayLimits (text "mon-5/2") ≡ Values 42 false)
-    -- `sun` goes by how the ends are written: `0-sun` and `sun-7` are every day, `7-sun` and `sun-0` Sunday, `mon-0` is refused with 7
+    -- `sun` goes by how the ends are written: every day twice, Sunday twice, and from high to low
     × (read weekdayLimits (text "0-sun") ≡ Values 127 false)
     × (read weekdayLimits (text "sun-7") ≡ Values 127 false)
     × (read weekdayLimits (text "7-sun") ≡ Values 1 false)
     × (read weekdayLimits (text "sun-0") ≡ Values 1 false)
     × (read weekdayLimits (text "mon-0") ≡ Refused 7 1)
-    -- no name as a step, and none of the other field: `mon/2`, `*/mon`, `1-5/mon`, `jan` as weekday, `1-sun` as month are refused with 5
+    -- no name as a step, and none of the other field
     × (read weekdayLimits (text "mon/2") ≡ Refused 5 1)
     × (read weekdayLimits (text "*/mon") ≡ Refused 5 1)
     × (read weekdayLimits (text "1-5/mon") ≡ Refused 5 1)

@@ -15,7 +15,8 @@ use Rattle.fifo.specs.Line.{has}
 use Rattle.fifo.specs.Steps.{fresh, joins, joiners}
 use Rattle.fifo.proofs.Lines.{pick-same}
 use Rattle.runqueue.specs.declared.Called.the-variants.{AtBoot, On}
-use Rattle.runqueue.specs.Jobs.{isBoot, whenOf, jobsOf, isCalled, joining}
+use Rattle.runqueue.specs.Jobs.{isBoot, whenOf, jobsOf}
+use Rattle.runqueue.specs.Joining.{isCalled, joining}
 
 -- an entry that matches the date of a minute is time-based and fires at that minute
 fires-timed : (w : When) (minute : ℕ) (date : Date) → date ≡ dateAt minute → firesOn w date ≡ (not (isBoot w) && firesAt w minute)

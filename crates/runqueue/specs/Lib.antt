@@ -1,3 +1,4 @@
 pub mod Jobs
+pub mod Joining
 pub mod Calls
 pub mod Demand

@@ -1,7 +1,7 @@
 -- `runqueue::is_called` meets its contract, case by case.
 -- Assumes nothing.
 use borrow.Author.Needs.{needs}
-use Rattle.runqueue.specs.Jobs.{isCalled}
+use Rattle.runqueue.specs.Joining.{isCalled}
 use Rattle.runqueue.proofs.is_called.Statement.{statement}
 use Rattle.runqueue.proofs.is_called.Tie as tie
 

@@ -9,7 +9,8 @@ use Rattle.fifo.specs.Line.{has}
 use Rattle.fifo.specs.Layout.{lineOf}
 use Rattle.fifo.proofs.Rooms.{laid-line}
 use Rattle.fifo.proofs.Filling.{Fills, fills-none, fills-more, offer-next}
-use Rattle.runqueue.specs.Jobs.{whenOf, isCalled, joining}
+use Rattle.runqueue.specs.Jobs.{whenOf}
+use Rattle.runqueue.specs.Joining.{isCalled, joining}
 use Rattle.runqueue.proofs.offer_all.Statement.{statement}
 use Rattle.runqueue.proofs.offer_all.Tie as tie
 

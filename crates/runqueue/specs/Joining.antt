@@ -1,0 +1,21 @@
+-- Who joins, as the loop over a table's entries goes by it. Only the inner functions' contracts cite this; what a reader must believe is
+-- in Jobs, and in Steps of `fifo`.
+-- Assumes nothing.
+use Prim.Native.Nat.{ℕ}
+use mathlib.Core.Bool.{Bool, not, _&&_}
+use mathlib.Core.List.{List}
+use Rattle.crontab.specs.declared.When.{When}
+use Rattle.crontab.specs.declared.Table.{Table}
+use Rattle.crontab.specs.Answers.{firesOn}
+use Rattle.fifo.specs.Line.{has, pick}
+use Rattle.runqueue.specs.declared.Called.{Called}
+use Rattle.runqueue.specs.declared.Called.the-variants.{AtBoot, On}
+use Rattle.runqueue.specs.Jobs.{isBoot, whenOf}
+
+unfoldable pub isCalled : Called → When → Bool
+isCalled AtBoot when = isBoot when
+isCalled (On date) when = firesOn when date
+
+-- the entries that a call lets join a line, in file order
+unfoldable pub joining : Table → Called → List ℕ → List ℕ
+joining t called l = pick (λ e. not (has e l) && isCalled called (whenOf t e)) (t .count)
