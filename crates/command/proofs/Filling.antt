@@ -11,7 +11,7 @@ use lib.ListN.{length, take, drop, set, length-drop}
 use lib.Seq.{length-take-le}
 use borrow.Author.Tests.{ltb-true, ltb-false}
 use Rattle.command.specs.Pieces.{bytesOf}
-use Rattle.command.specs.Buffers.{laidFront}
+use Rattle.bytes.specs.Laid.{laid}
 use Rattle.command.specs.Steps.{ahead}
 use Rattle.command.proofs.Ahead.{ahead-end}
 
@@ -49,6 +49,6 @@ goes-on c t second i k e h = go (ltb i (length c)) refl
         absurd (omega (arith, ap length n, length-drop k t))
 
 -- the front of a text that was written is laid at the front
-pub laid-take : (t room : List ℕ) (n : ℕ) → n ≤ length t → take n t ++ drop n room ≡ laidFront (take n t) room
-unfolding laidFront
+pub laid-take : (t room : List ℕ) (n : ℕ) → n ≤ length t → take n t ++ drop n room ≡ laid (take n t) room
+unfolding laid
 laid-take t room n h = rw (length-take-le n t h)

@@ -3,17 +3,14 @@
 -- Assumes nothing.
 use Prim.Native.Nat.{ℕ}
 use mathlib.Core.Bool.{Bool, cond, _&&_}
-use mathlib.Core.List.{List, _++_}
+use mathlib.Core.List.{List}
 use lib.Dec.{leb}
-use lib.ListN.{length, drop}
+use lib.ListN.{length}
+use Rattle.bytes.specs.Laid.{laid}
 use Rattle.command.specs.declared.SplitAnswer.{SplitAnswer}
 use Rattle.command.specs.declared.SplitAnswer.the-variants.{Written, Refused}
 use Rattle.command.specs.Parts.{shellLine, inputOf, textOf, inputLength}
 use Rattle.command.specs.Answers.{tooShort}
-
--- a buffer with a text at its front
-unfoldable pub laidFront : List ℕ → List ℕ → List ℕ
-laidFront t room = t ++ drop (length t) room
 
 -- whether both texts have room; "no input" needs none
 unfoldable pub haveRoom : List ℕ → List ℕ → List ℕ → Bool
@@ -30,7 +27,7 @@ splitStep c shell input =
     cond (haveRoom c shell input)
     (record {
       answer = Written (length (shellLine c)) (inputLength (inputOf c));
-      shell = laidFront (shellLine c) shell;
-      input = laidFront (textOf (inputOf c)) input;
+      shell = laid (shellLine c) shell;
+      input = laid (textOf (inputOf c)) input;
     })
     (record { answer = Refused tooShort; shell = shell; input = input })

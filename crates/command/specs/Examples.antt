@@ -3,12 +3,13 @@
 use Prim.Native.Nat.{ℕ}
 use mathlib.Core.Path.{_≡_, refl}
 use mathlib.Core.List.{List, [], _∷_}
-use Rattle.text.specs.Bytes.{text}
+use Rattle.bytes.specs.Texts.{text}
 use Rattle.command.specs.declared.SplitAnswer.the-variants.{Written, Refused}
 use Rattle.command.specs.declared.Input.the-variants.{None, Length}
 use Rattle.command.specs.Pieces.{alone, paired, pieces, byteOf, bytesOf}
 use Rattle.command.specs.Parts.{Stdin, absent, given, upToPercent, restOf, shellLine, inputOf, textOf, inputLength}
-use Rattle.command.specs.Buffers.{laidFront, haveRoom, splitStep}
+use Rattle.bytes.specs.Laid.{laid}
+use Rattle.command.specs.Buffers.{haveRoom, splitStep}
 
 -- the shell line and the standard input of a command
 record Both : Type 0 where
@@ -49,5 +50,5 @@ buffers :
     -- either buffer too short: 18, and nothing written
     × (splitStep (text "a%b") (1 ∷ []) [] ≡ record { answer = Refused 18; shell = 1 ∷ []; input = [] })
     × (splitStep (text "a%b") [] (3 ∷ []) ≡ record { answer = Refused 18; shell = []; input = 3 ∷ [] })
-unfolding splitStep haveRoom laidFront inputLength textOf shellLine inputOf upToPercent restOf pieces alone paired bytesOf byteOf
+unfolding splitStep haveRoom laid inputLength textOf shellLine inputOf upToPercent restOf pieces alone paired bytesOf byteOf
 buffers = (refl, refl, refl, refl, refl)

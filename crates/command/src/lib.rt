@@ -7,7 +7,8 @@ ghost use lib.Dec.{eqb};
 ghost use lib.ListN.{length, getD, drop, take};
 ghost use Rattle.command.specs.Pieces.{percent, pieces, byteOf, bytesOf};
 ghost use Rattle.command.specs.Parts.{lengthsOf};
-ghost use Rattle.command.specs.Buffers.{laidFront, splitStep};
+ghost use Rattle.bytes.specs.Laid.{laid};
+ghost use Rattle.command.specs.Buffers.{splitStep};
 ghost use Rattle.command.specs.Steps.{textStep, StepIs, ShellIs};
 
 // The refusal of a lent buffer that is too short for its text.
@@ -156,7 +157,7 @@ fn count(c: &[u8], from: usize) -> usize
 // Writes the first n bytes of the text from a place on to the front of a buffer.
 fn fill(c: &[u8], from: usize, n: usize, out: &mut [u8])
     requires { ⌜ (n ≤ length (pieces false (drop from (now c)))) × (n ≤ length (now out)) ⌝ }
-    ensures { λ _. ⌜ now (out .exit) ≡ laidFront (take n (bytesOf (pieces false (drop from (now (c .entry)))))) (now (out .entry)) ⌝ }
+    ensures { λ _. ⌜ now (out .exit) ≡ laid (take n (bytesOf (pieces false (drop from (now (c .entry)))))) (now (out .entry)) ⌝ }
 {
     let mut i = from;
     let mut second = false;

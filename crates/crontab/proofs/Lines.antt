@@ -8,10 +8,11 @@ use native.Mathlib.Omega.{arith}
 use lib.ListN.{length, take, drop, length-drop}
 use lib.Seq.{length-take-le, drop-drop}
 use lib.Dec.{eqb}
-use Rattle.crontab.specs.declared.class.Class.the-variants.{Not, InLine}
-use Rattle.crontab.specs.Bytes.{ofClass, run, skipped}
+use Rattle.bytes.specs.declared.class.Class.the-variants.{Not, InLine}
+use Rattle.bytes.specs.Classes.{ofClass}
+use Rattle.bytes.specs.Runs.{run, skipped}
 use Rattle.crontab.specs.Lines.{onto, linesOf}
-use Rattle.crontab.proofs.Runs.{skipped-from, skipped-within}
+use Rattle.bytes.proofs.Runs.{skipped-from, skipped-within}
 
 -- ---- the first line of what is left
 

@@ -16,7 +16,7 @@ use Rattle.field.specs.Limits.{minuteLimits, hourLimits, dayLimits, monthLimits
 use Rattle.field.specs.Fields.{readField}
 use Rattle.crontab.specs.declared.When.{When}
 use Rattle.crontab.specs.declared.When.the-variants.{Timed}
-use Rattle.crontab.specs.declared.class.Class.the-variants.{Blank, Solid, Name, Not}
+use Rattle.bytes.specs.declared.class.Class.the-variants.{Blank, Solid, Name, Not}
 use Rattle.crontab.specs.declared.Entry.{Entry}
 use Rattle.crontab.specs.declared.Part.{Part}
 use Rattle.crontab.specs.declared.word.Word.{Word}
@@ -30,13 +30,14 @@ use Rattle.crontab.specs.declared.line.Fault.{Fault}
 use Rattle.crontab.specs.declared.line.Line.{Line}
 use Rattle.crontab.specs.declared.line.Line.the-variants as line
 use Rattle.crontab.specs.Limits.{maxLine}
-use Rattle.crontab.specs.Bytes.{isQuote, skipped, trimmed, between}
+use Rattle.bytes.specs.Classes.{isQuote}
+use Rattle.bytes.specs.Runs.{skipped, trimmed, between}
 use Rattle.crontab.specs.Words.{wordOf}
 use Rattle.crontab.specs.Entries.{withCommand, afterWord, wordEntry}
 use Rattle.crontab.specs.Times.{answered, fieldAt, afterMinute, afterHour, afterDay, afterMonth, afterWeekday, timedEntry}
 use Rattle.crontab.specs.Assignments.{quotedAt, nonEmpty, nameAt, closed, valueAt, afterEquals, afterName, settingLine}
 use Rattle.crontab.specs.Lines.{startsFields, contentFrom, contentOf, readLine}
-use Rattle.crontab.proofs.Runs.{skipped-from, skipped-within, byte-within, trimmed-le}
+use Rattle.bytes.proofs.Runs.{skipped-from, skipped-within, byte-within, trimmed-le}
 use Rattle.field.proofs.Refusals.{FieldNumber, field-number}
 use Rattle.crontab.proofs.Times.{fieldBytes}
 

@@ -6,7 +6,7 @@ use Prim.Native.Nat.{ℕ, zero, suc, _+_, _-_, _≤_, _<_}
 use native.Mathlib.Omega.{arith}
 use lib.ListN.{length, drop, drop-of-length-le}
 use borrow.Author.Tests.{ne-eqb}
-use Rattle.crontab.specs.Bytes.{between}
+use Rattle.bytes.specs.Runs.{between}
 use Rattle.crontab.specs.Lines.{linesOf, readLine}
 use Rattle.crontab.specs.Settings.{refusedSetting, shownAt, settingFrom}
 use Rattle.crontab.proofs.Lines.{lineEnd, lines-first, next-start}

@@ -12,11 +12,11 @@ use Rattle.field.specs.declared.Answer.{Answer}
 use Rattle.field.specs.declared.Answer.the-variants as answer
 use Rattle.field.specs.Limits.{hourLimits, dayLimits, monthLimits, weekdayLimits}
 use Rattle.field.specs.Fields.{readField}
-use Rattle.field.proofs.Theorems.{hour-fits, day-fits, month-fits, weekday-fits}
-use Rattle.crontab.specs.declared.class.Class.the-variants.{Blank, Solid}
+use Rattle.field.proofs.Theorems.{set-fits}
+use Rattle.bytes.specs.declared.class.Class.the-variants.{Blank, Solid}
 use Rattle.crontab.specs.declared.time.Values.{Values}
 use Rattle.crontab.specs.declared.time.Field.the-variants.{Read, Refused}
-use Rattle.crontab.specs.Bytes.{skipped, between}
+use Rattle.bytes.specs.Runs.{skipped, between}
 use Rattle.crontab.specs.Times.{answered, fieldAt}
 
 -- the bytes of the field at a place
@@ -44,13 +44,13 @@ field-values l s at {v} e = go (leb (length s) at) e
 -- the width of its set
 module _ (s : List ℕ) (at : ℕ) {v : Values} where
   pub hours-fit : fieldAt hourLimits s at ≡ Read v → v .set < 2 ^ 24
-  hours-fit e = hour-fits _ _ (field-values hourLimits s at e)
+  hours-fit e = set-fits hourLimits (omega arith) _ _ (field-values hourLimits s at e)
 
   pub days-fit : fieldAt dayLimits s at ≡ Read v → v .set < 2 ^ 32
-  days-fit e = day-fits _ _ (field-values dayLimits s at e)
+  days-fit e = set-fits dayLimits (omega arith) _ _ (field-values dayLimits s at e)
 
   pub months-fit : fieldAt monthLimits s at ≡ Read v → v .set < 2 ^ 13
-  months-fit e = month-fits _ _ (field-values monthLimits s at e)
+  months-fit e = set-fits monthLimits (omega arith) _ _ (field-values monthLimits s at e)
 
   pub weekdays-fit : fieldAt weekdayLimits s at ≡ Read v → v .set < 2 ^ 7
-  weekdays-fit e = weekday-fits _ _ (field-values weekdayLimits s at e)
+  weekdays-fit e = set-fits weekdayLimits (omega arith) _ _ (field-values weekdayLimits s at e)

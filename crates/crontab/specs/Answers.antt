@@ -22,7 +22,7 @@ use Rattle.crontab.specs.declared.DueAnswer.the-variants as due
 use Rattle.crontab.specs.declared.NextAnswer.{NextAnswer}
 use Rattle.crontab.specs.declared.NextAnswer.the-variants as firing
 use Rattle.crontab.specs.Limits.{noSuchEntry, atBootOnly}
-use Rattle.crontab.specs.Bytes.{between}
+use Rattle.bytes.specs.Runs.{between}
 use Rattle.crontab.specs.Tables.{blankEntry, tableOf}
 
 -- ---- an entry by its number

@@ -6,14 +6,15 @@ use mathlib.Core.Bool.{cond}
 use mathlib.Core.List.{List}
 use lib.ListN.{length, drop, getD}
 use lib.Dec.{eqb, ltb, leb}
-use Rattle.crontab.specs.declared.class.Class.the-variants.{Blank, Name, Not}
+use Rattle.bytes.specs.declared.class.Class.the-variants.{Blank, Name, Not}
 use Rattle.crontab.specs.declared.Part.{Part}
 use Rattle.crontab.specs.declared.assignment.Text.{Text}
 use Rattle.crontab.specs.declared.assignment.Text.the-variants.{Found, Malformed}
 use Rattle.crontab.specs.declared.line.Line.{Line}
 use Rattle.crontab.specs.declared.line.Line.the-variants.{Setting, Refused}
 use Rattle.crontab.specs.Limits.{badSetting}
-use Rattle.crontab.specs.Bytes.{equalsSign, isQuote, skipped, trimmed}
+use Rattle.bytes.specs.Classes.{equalsSign, isQuote}
+use Rattle.bytes.specs.Runs.{skipped, trimmed}
 
 -- from the quote at a place to the next quote of its kind
 unfoldable pub quotedAt : List ℕ → ℕ → Text

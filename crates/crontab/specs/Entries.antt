@@ -6,14 +6,14 @@ use mathlib.Core.Bool.{cond}
 use mathlib.Core.List.{List}
 use lib.ListN.{length}
 use lib.Dec.{ltb}
-use Rattle.crontab.specs.declared.class.Class.the-variants.{Blank, Solid}
+use Rattle.bytes.specs.declared.class.Class.the-variants.{Blank, Solid}
 use Rattle.crontab.specs.declared.When.{When}
 use Rattle.crontab.specs.declared.word.Word.{Word}
 use Rattle.crontab.specs.declared.word.Word.the-variants.{Known, Unknown}
 use Rattle.crontab.specs.declared.line.Line.{Line}
 use Rattle.crontab.specs.declared.line.Line.the-variants.{Entry, Refused}
 use Rattle.crontab.specs.Limits.{noCommand, unknownWord}
-use Rattle.crontab.specs.Bytes.{skipped, between}
+use Rattle.bytes.specs.Runs.{skipped, between}
 use Rattle.crontab.specs.Words.{wordOf}
 
 -- the command from a place to the line's end

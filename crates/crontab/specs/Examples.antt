@@ -4,20 +4,21 @@ use Prim.Native.Nat.{ℕ}
 use mathlib.Core.Path.{_≡_, refl}
 use mathlib.Core.Bool.{true, false}
 use mathlib.Core.List.{List, [], _∷_}
-use Rattle.text.specs.Bytes.{text}
+use Rattle.bytes.specs.Texts.{text}
 use Rattle.crontab.specs.declared.When.the-variants.{Reboot, Timed}
 use Rattle.crontab.specs.declared.line.Line.the-variants.{Ignored, Setting, Entry, Refused}
 use Rattle.schedule.specs.declared.Schedule.{Schedule}
 use Rattle.schedule.specs.Examples.{oddMondays}
-use Rattle.field.specs.Parts.{until, has, before, after, afterEach, split}
+use Rattle.field.specs.Parts.{contains, before, after, afterEach, split}
 use Rattle.field.specs.Numbers.{isDigit, areDigits, valueFrom, numberOf}
 use Rattle.field.specs.Elements.{isElement, ranging, numberOr, endOf, upperOf, afterDash, elementOf}
 use Rattle.field.specs.Names.{lower, alike, named, monthNames, weekdayNames, nameOf, isSunday}
 use Rattle.field.specs.Values.{everyStep, valuesOf, bitOf, including}
 use Rattle.field.specs.Judgement.{outside, judged}
 use Rattle.field.specs.Fields.{areElements, judgedAll, listField, starElement, starField, readField}
-use Rattle.schedule.specs.Sets.{withBit, put}
-use Rattle.crontab.specs.Bytes.{isBlank, isQuote, ofClass, run, skipped, trimmed, between}
+use Rattle.bytes.specs.Sets.{withBit, put}
+use Rattle.bytes.specs.Classes.{isBlank, isQuote, ofClass}
+use Rattle.bytes.specs.Runs.{run, skipped, trimmed, between}
 use Rattle.crontab.specs.Assignments.{quotedAt, nonEmpty, nameAt, closed, valueAt, afterEquals, afterName, settingLine}
 use Rattle.crontab.specs.Words.{same, yearly, monthly, weekly, daily, hourly, meanings, meaningIn, wordOf}
 use Rattle.crontab.specs.Entries.{withCommand, afterWord, wordEntry}
@@ -85,7 +86,7 @@ examples :
     × (fault (text "* * * * * a\n@reboot b\n0 * * * * c") ≡ 0 ∷ 0 ∷ 0 ∷ 3 ∷ [])
     -- the first bad line, and no entry
     × (fault (text "@reboot b\n\n60 * * * * a\nA\n") ≡ 6 ∷ 3 ∷ 1 ∷ 0 ∷ [])
-unfolding weekdays5 oddMondays until has before after afterEach split isDigit areDigits valueFrom numberOf isElement ranging numberOr endOf
+unfolding weekdays5 oddMondays contains before after afterEach split isDigit areDigits valueFrom numberOf isElement ranging numberOr endOf
     upperOf afterDash elementOf lower alike named monthNames weekdayNames nameOf isSunday everyStep valuesOf bitOf put including
     outside judged areElements judgedAll listField starElement starField readField withBit isBlank isQuote ofClass run skipped
     trimmed between quotedAt nonEmpty nameAt closed valueAt afterEquals afterName settingLine same meanings meaningIn wordOf

@@ -1,5 +1,4 @@
 pub mod Limits
-pub mod Bytes
 pub mod Assignments
 pub mod Words
 pub mod Entries

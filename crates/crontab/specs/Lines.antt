@@ -7,11 +7,12 @@ use lib.ListN.{length, getD}
 use lib.Dec.{eqb, leb, ltb}
 use Rattle.field.specs.Numbers.{isDigit}
 use Rattle.field.specs.Fields.{asterisk}
-use Rattle.crontab.specs.declared.class.Class.the-variants.{Blank, Not}
+use Rattle.bytes.specs.declared.class.Class.the-variants.{Blank, Not}
 use Rattle.crontab.specs.declared.line.Line.{Line}
 use Rattle.crontab.specs.declared.line.Line.the-variants.{Ignored, Refused}
 use Rattle.crontab.specs.Limits.{maxLine, lineTooLong, nulByte}
-use Rattle.crontab.specs.Bytes.{newline, skipped}
+use Rattle.bytes.specs.Classes.{newline}
+use Rattle.bytes.specs.Runs.{skipped}
 use Rattle.crontab.specs.Assignments.{settingLine}
 use Rattle.crontab.specs.Entries.{wordEntry}
 use Rattle.crontab.specs.Times.{timedEntry}

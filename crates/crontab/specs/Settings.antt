@@ -10,7 +10,7 @@ use Rattle.crontab.specs.declared.SettingAnswer.{SettingAnswer}
 use Rattle.crontab.specs.declared.line.Line.{Line}
 use Rattle.crontab.specs.declared.line.Line.the-variants as line
 use Rattle.crontab.specs.Limits.{noSetting}
-use Rattle.crontab.specs.Bytes.{between}
+use Rattle.bytes.specs.Runs.{between}
 use Rattle.crontab.specs.Lines.{linesOf, readLine}
 use Rattle.crontab.specs.Tables.{tableOf}
 

@@ -11,7 +11,7 @@ use Rattle.field.specs.declared.Answer.the-variants as answer
 use Rattle.field.specs.Limits.{minuteLimits, hourLimits, dayLimits, monthLimits, weekdayLimits}
 use Rattle.field.specs.Fields.{readField}
 use Rattle.schedule.specs.declared.Schedule.{Schedule}
-use Rattle.crontab.specs.declared.class.Class.the-variants.{Blank, Solid}
+use Rattle.bytes.specs.declared.class.Class.the-variants.{Blank, Solid}
 use Rattle.crontab.specs.declared.When.the-variants.{Timed}
 use Rattle.crontab.specs.declared.time.Values.{Values}
 use Rattle.crontab.specs.declared.time.Field.{Field}
@@ -19,7 +19,7 @@ use Rattle.crontab.specs.declared.time.Field.the-variants.{Read, Refused
 use Rattle.crontab.specs.declared.line.Line.{Line}
 use Rattle.crontab.specs.declared.line.Line.the-variants as line
 use Rattle.crontab.specs.Limits.{tooFewFields}
-use Rattle.crontab.specs.Bytes.{skipped, between}
+use Rattle.bytes.specs.Runs.{skipped, between}
 use Rattle.crontab.specs.Entries.{withCommand}
 
 -- ---- one field, at a place

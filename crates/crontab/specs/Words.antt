@@ -5,7 +5,7 @@ use Prim.Native.Nat.{ℕ}
 use mathlib.Core.Bool.{Bool, true, false, cond, _&&_}
 use mathlib.Core.List.{List, [], _∷_}
 use lib.Dec.{eqb}
-use Rattle.text.specs.Bytes.{text}
+use Rattle.bytes.specs.Texts.{text}
 use Rattle.schedule.specs.declared.Schedule.{Schedule}
 use Rattle.crontab.specs.declared.When.{When}
 use Rattle.crontab.specs.declared.When.the-variants.{Reboot, Timed}

@@ -5,11 +5,11 @@ ghost use lib.ListN.{length};
 ghost use Rattle.crontab.specs.Assignments.{quotedAt, nonEmpty, nameAt, closed, valueAt, settingLine};
 use crate::BAD_SETTING;
 use crate::Part;
-use crate::class::Class;
-use crate::class::byte_at;
-use crate::class::is_quote;
-use crate::class::skip;
-use crate::class::trimmed_end;
+use bytes::class::Class;
+use bytes::run::byte_at;
+use bytes::class::is_quote;
+use bytes::run::skip;
+use bytes::run::trimmed_end;
 use crate::line::Fault;
 use crate::line::Line;
 

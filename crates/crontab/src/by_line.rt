@@ -3,14 +3,14 @@ ghost use mathlib.Core.Path.{_≡_};
 ghost use Prim.Native.Nat.{_≤_};
 ghost use lib.ListN.{length};
 ghost use Rattle.crontab.specs.Limits.{maxTable, maxLine};
-ghost use Rattle.crontab.specs.Bytes.{between};
+ghost use Rattle.bytes.specs.Runs.{between};
 ghost use Rattle.crontab.specs.Lines.{linesOf, readLine};
 ghost use Rattle.crontab.specs.Settings.{refusedSetting, moved, shownAt, settingFrom};
 use crate::NO_SETTING;
 use crate::Part;
 use crate::SettingAnswer;
-use crate::class::Class;
-use crate::class::skip;
+use bytes::class::Class;
+use bytes::run::skip;
 use crate::line;
 use crate::line::Line;
 

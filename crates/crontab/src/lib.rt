@@ -1,7 +1,6 @@
 // A table of paper 01, from its bytes to its entries and settings, or its one refusal.
 mod assignment;
 mod by_line;
-mod class;
 pub mod firing;
 mod line;
 mod time;
@@ -13,8 +12,8 @@ ghost use Rattle.crontab.specs.Limits.{maxTable, maxLine};
 ghost use Rattle.crontab.specs.Tables.{refusedTable, placed, tableOf};
 ghost use Rattle.crontab.specs.Answers.{entryOf, commandOf, dueOf, nextOf};
 ghost use Rattle.crontab.specs.Settings.{settingOf, partBytes};
-use class::Class;
-use class::skip;
+use bytes::class::Class;
+use bytes::run::skip;
 use line::Line;
 use schedule::Schedule;
 

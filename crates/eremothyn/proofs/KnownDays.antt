@@ -3,16 +3,16 @@
 use mathlib.Core.Path.{_≡_, refl, ap, _∙_}
 use mathlib.Core.List.{List, [], _∷_}
 use Prim.Native.Nat.{ℕ}
-use Rattle.text.specs.Bytes.{text}
+use Rattle.bytes.specs.Texts.{text}
 use Rattle.calendar.specs.Gregorian.{leap, yearDays, monthTable, monthLength, monthDays}
 use Rattle.calendar.specs.Walk.{span, walk}
 use Rattle.calendar.specs.Dates.{weekdayOf, yearOf, monthOf, dateAt, noDate, dateOf, exists, daysBefore, minuteAt, minuteOf}
 use Rattle.schedule.specs.declared.Schedule.{Schedule}
-use Rattle.schedule.specs.Sets.{withBit, put}
+use Rattle.bytes.specs.Sets.{withBit, put}
 use Rattle.schedule.specs.Next.{nextAfter}
 use Rattle.schedule.specs.Examples.{leapDay, fridays, february30, mondays30, lastDay, leapSundays}
 use Rattle.schedule.proofs.KnownDays as firings
-use Rattle.field.specs.Parts.{until, has, before, after, afterEach, split}
+use Rattle.field.specs.Parts.{contains, before, after, afterEach, split}
 use Rattle.field.specs.Numbers.{isDigit, areDigits, valueFrom, numberOf}
 use Rattle.field.specs.Elements.{isElement, ranging, numberOr, endOf, upperOf, afterDash, elementOf}
 use Rattle.field.specs.Names.{lower, alike, named, monthNames, weekdayNames, nameOf, isSunday}
@@ -21,7 +21,8 @@ use Rattle.field.specs.Judgement.{outside, judged}
 use Rattle.field.specs.Fields.{areElements, judgedAll, listField, starElement, starField, readField}
 use Rattle.crontab.specs.declared.When.the-variants.{Timed}
 use Rattle.crontab.specs.declared.EntryAnswer.the-variants.{Found}
-use Rattle.crontab.specs.Bytes.{isBlank, isQuote, ofClass, run, skipped, trimmed, between}
+use Rattle.bytes.specs.Classes.{isBlank, isQuote, ofClass}
+use Rattle.bytes.specs.Runs.{run, skipped, trimmed, between}
 use Rattle.crontab.specs.Entries.{withCommand}
 use Rattle.crontab.specs.Times.{answered, fieldAt, afterWeekday, afterMonth, afterDay, afterHour, afterMinute, timedEntry}
 use Rattle.crontab.specs.Lines.{onto, linesOf, startsFields, contentFrom, contentOf, readLine}
@@ -52,7 +53,7 @@ entries :
 unfolding leapDay fridays february30 mondays30 lastDay leapSundays isBlank isQuote ofClass run skipped trimmed between
     withCommand answered
     fieldAt afterWeekday afterMonth afterDay afterHour afterMinute timedEntry startsFields contentFrom contentOf readLine onto
-    linesOf noEntries refusedTable emptyTable withEntry afterLine withLines tableOf entryIn entryOf until has before after
+    linesOf noEntries refusedTable emptyTable withEntry afterLine withLines tableOf entryIn entryOf contains before after
     afterEach split isDigit areDigits valueFrom numberOf isElement ranging numberOr endOf upperOf afterDash elementOf lower
     alike named monthNames weekdayNames nameOf isSunday everyStep valuesOf bitOf put including outside judged areElements
     judgedAll listField starElement starField readField withBit
@@ -60,7 +61,7 @@ entries = (refl, refl, refl, refl, refl, refl)
 
 pub known-days : KnownDays
 unfolding nextNumber nextFound dateOf dateAt yearOf monthOf weekdayOf walk yearDays leap monthDays monthLength monthTable noDate minuteOf
-    minuteAt daysBefore exists span until has before after afterEach split isDigit areDigits valueFrom numberOf isElement
+    minuteAt daysBefore exists span run ofClass contains before after afterEach split isDigit areDigits valueFrom numberOf isElement
     ranging numberOr endOf upperOf afterDash elementOf lower alike named monthNames weekdayNames nameOf isSunday everyStep
     valuesOf bitOf put including outside judged areElements judgedAll listField starElement starField readField withBit
     alone paired pieces byteOf bytesOf upToPercent restOf shellLine inputOf

@@ -5,7 +5,7 @@ use Prim.Native.Nat.{ℕ, _+_}
 use mathlib.Core.List.{List}
 use Rattle.crontab.specs.declared.EntryAnswer.{EntryAnswer}
 use Rattle.crontab.specs.declared.EntryAnswer.the-variants as entry
-use Rattle.crontab.specs.Bytes.{between}
+use Rattle.bytes.specs.Runs.{between}
 use Rattle.crontab.specs.Answers.{entryOf}
 use Rattle.command.specs.declared.Input.{Input}
 use Rattle.command.specs.declared.Input.the-variants.{None, Length}

@@ -3,20 +3,21 @@
 use mathlib.Core.Path.{_≡_, refl}
 use mathlib.Core.List.{List, [], _∷_}
 use Prim.Native.Nat.{ℕ}
-use Rattle.text.specs.Bytes.{text}
+use Rattle.bytes.specs.Texts.{text}
 use Rattle.calendar.specs.Gregorian.{leap, yearDays, monthTable, monthLength, monthDays}
 use Rattle.calendar.specs.Walk.{span, walk}
 use Rattle.calendar.specs.Dates.{weekdayOf, yearOf, monthOf, dateAt, noDate, dateOf, exists, daysBefore, minuteAt, minuteOf}
-use Rattle.schedule.specs.Sets.{hasBit, withBit, put}
+use Rattle.bytes.specs.Sets.{hasBit, withBit, put}
 use Rattle.schedule.specs.Match.{bothMust, byDayRule, matchesDay, matchesTime, matchesDate, matches}
-use Rattle.field.specs.Parts.{until, has, before, after, afterEach, split}
+use Rattle.field.specs.Parts.{contains, before, after, afterEach, split}
 use Rattle.field.specs.Numbers.{isDigit, areDigits, valueFrom, numberOf}
 use Rattle.field.specs.Elements.{isElement, ranging, numberOr, endOf, upperOf, afterDash, elementOf}
 use Rattle.field.specs.Names.{lower, alike, named, monthNames, weekdayNames, nameOf, isSunday}
 use Rattle.field.specs.Values.{everyStep, valuesOf, bitOf, including}
 use Rattle.field.specs.Judgement.{outside, judged}
 use Rattle.field.specs.Fields.{areElements, judgedAll, listField, starElement, starField, readField}
-use Rattle.crontab.specs.Bytes.{isBlank, isQuote, ofClass, run, skipped, trimmed, between}
+use Rattle.bytes.specs.Classes.{isBlank, isQuote, ofClass}
+use Rattle.bytes.specs.Runs.{run, skipped, trimmed, between}
 use Rattle.crontab.specs.Entries.{withCommand, afterWord, wordEntry}
 use Rattle.crontab.specs.Times.{answered, fieldAt, afterWeekday, afterMonth, afterDay, afterHour, afterMinute, timedEntry}
 use Rattle.crontab.specs.Lines.{onto, linesOf, startsFields, contentFrom, contentOf, readLine}
@@ -94,7 +95,7 @@ by-bytes :
     × (valueOffset (settingOf (text "\nA = \"b c\"") 2) ≡ 6)
     × (valueLength (settingOf (text "\nA = \"b c\"") 2) ≡ 3)
     × (valueLength (settingOf (text "\nA = \"b c\"") 1) ≡ 4294967315)
-unfolding until has before after afterEach split isDigit areDigits valueFrom numberOf isElement ranging numberOr endOf upperOf
+unfolding contains before after afterEach split isDigit areDigits valueFrom numberOf isElement ranging numberOr endOf upperOf
     afterDash elementOf lower alike named monthNames weekdayNames nameOf isSunday everyStep valuesOf bitOf including outside
     judged areElements judgedAll listField starElement starField readField isBlank isQuote ofClass run skipped trimmed between
     withCommand afterWord wordEntry answered fieldAt afterWeekday afterMonth afterDay afterHour afterMinute timedEntry onto

@@ -4,7 +4,7 @@
 use mathlib.Core.Path.{_≡_}
 use mathlib.Core.Bool.{true, false}
 use mathlib.Core.List.{[], _∷_}
-use Rattle.text.specs.Bytes.{text}
+use Rattle.bytes.specs.Texts.{text}
 use Rattle.calendar.specs.Dates.{dateOf, minuteOf}
 use Rattle.field.specs.declared.Answer.the-variants.{Values, Refused}
 use Rattle.field.specs.Limits.{minuteLimits, monthLimits, weekdayLimits}

@@ -36,18 +36,18 @@ abbrev pub Each : Limits → List Element → Type 0
 Each l [] = Unit {0}
 Each l (e ∷ es) = Accepts l e × Each l es
 
-abbrev pub withElement : Names → ℕ → Element → ℕ
-withElement names set (Range low high step) = including names set (valuesOf low high step)
-withElement names set Malformed = set
+abbrev pub withElement : Limits → ℕ → Element → ℕ
+withElement l set (Range low high step) = including l set (valuesOf low high step)
+withElement l set Malformed = set
 
-abbrev pub withElements : Names → ℕ → List Element → ℕ
-withElements names set [] = set
-withElements names set (e ∷ es) = withElements names (withElement names set e) es
+abbrev pub withElements : Limits → ℕ → List Element → ℕ
+withElements l set [] = set
+withElements l set (e ∷ es) = withElements l (withElement l set e) es
 
 -- from one set and flag to another by elements
 pub record Gathered (l : Limits) (set : ℕ) (star : Bool) (es : List Element) (set' : ℕ) (star' : Bool) : Type 0 where
   pub accepted : Each l es
-  pub sets : set' ≡ withElements (l .names) set es
+  pub sets : set' ≡ withElements l set es
   pub flag : star' ≡ star
 
 clash : {number column set : ℕ} {star : Bool} → Refused number column ≡ Values set star → ⊥
@@ -69,7 +69,7 @@ module _ (l : Limits) where
       go (outside l low || outside l high) (ltb high low) (eqb step 0) refl refl refl q
     where
       go : (o r z : Bool) → (outside l low || outside l high) ≡ o → ltb high low ≡ r → eqb step 0 ≡ z
-          → cond o (Refused 6 column) (cond r (Refused 7 column) (cond z (Refused 8 column) (Values (including (l .names) set (valuesOf low high step)) star)))
+          → cond o (Refused 6 column) (cond r (Refused 7 column) (cond z (Refused 8 column) (Values (including l set (valuesOf low high step)) star)))
           ≡ Values set' star'
           → Gathered l set star (Range low high step ∷ []) set' star'
       go true r z a b c q = absurd (clash q)

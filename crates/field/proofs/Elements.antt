@@ -8,22 +8,26 @@ use native.Mathlib.Omega.{arith}
 use lib.ListN.{length, take, drop, length-drop}
 use lib.Seq.{take-all, drop-drop}
 use borrow.Author.Tests.{lt-ltb, le-ltb}
+use Rattle.bytes.specs.declared.class.Class.the-variants.{Not}
+use Rattle.bytes.specs.Runs.{run, skipped}
 use Rattle.field.specs.declared.Names.{Names}
 use Rattle.field.specs.declared.number.Number.the-variants.{Value}
-use Rattle.field.specs.Parts.{until, has, before, after}
+use Rattle.field.specs.Parts.{contains, before, after}
 use Rattle.field.specs.Numbers.{numberOf}
 use Rattle.field.specs.Elements.{ranging, endOf, upperOf, afterDash, elementOf}
 
-module _ (names : Names) (s : List ℕ) (d : ℕ) (at-dash : d ≡ 0 + until 45 (drop 0 s)) where
-  place : until 45 s ≡ d
+module _ (names : Names) (s : List ℕ) (d : ℕ) (at-dash : d ≡ skipped (Not 45) s 0) where
+  place : run (Not 45) s ≡ d
+  unfolding skipped
   place = omega arith
 
   pub element-number : d ≡ length s → elementOf names s ≡ ranging (endOf names (take d s)) (endOf names (take d s)) (Value 1)
-  unfolding elementOf has
+  unfolding elementOf contains
   element-number e = rw (place, le-ltb d (length s) (omega arith), take-all d s (omega arith))
 
-  module _ (inside : d < length s) (e : ℕ) (at-slash : e ≡ d + 1 + until 47 (drop (d + 1) s)) where
-    rest-place : until 47 (drop (suc d) s) ≡ e - suc d
+  module _ (inside : d < length s) (e : ℕ) (at-slash : e ≡ skipped (Not 47) s (d + 1)) where
+    rest-place : run (Not 47) (drop (suc d) s) ≡ e - suc d
+    unfolding skipped
     rest-place = rw (← add-one d) (omega arith)
 
     rest-length : length (drop (suc d) s) ≡ length s - suc d
@@ -31,7 +35,7 @@ module _ (names : Names) (s : List ℕ) (d : ℕ) (at-dash : d ≡ 0 + until 45 
 
     pub element-range : e ≡ length s
         → elementOf names s ≡ ranging (endOf names (take d s)) (upperOf names (take d s) (take (e - (d + 1)) (drop (d + 1) s))) (Value 1)
-    unfolding elementOf afterDash has before after
+    unfolding elementOf afterDash contains before after skipped
     element-range k =
         rw
         (place, lt-ltb d (length s) inside, rest-place, le-ltb (e - suc d) (length (drop (suc d) s)) (omega (arith, rest-length)), add-one d)
@@ -41,7 +45,7 @@ module _ (names : Names) (s : List ℕ) (d : ℕ) (at-dash : d ≡ 0 + until 45 
         → elementOf names s
         ≡ ranging (endOf names (take d s)) (upperOf names (take d s) (take (e - (d + 1)) (drop (d + 1) s)))
         (numberOf (take (length s - (e + 1)) (drop (e + 1) s)))
-    unfolding elementOf afterDash has before after
+    unfolding elementOf afterDash contains before after skipped
     element-step k =
         let t : suc d + suc (e - suc d) ≡ suc e = omega arith in
         rw

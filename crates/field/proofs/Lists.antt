@@ -9,10 +9,12 @@ use native.Mathlib.Omega.{arith}
 use lib.ListN.{length, take, drop, length-drop}
 use lib.Seq.{length-take-le, drop-drop}
 use borrow.Author.Tests.{lt-ltb, le-ltb}
+use Rattle.bytes.specs.declared.class.Class.the-variants.{Not}
+use Rattle.bytes.specs.Runs.{run, skipped}
 use Rattle.field.specs.declared.Limits.{Limits}
 use Rattle.field.specs.declared.Answer.{Answer}
 use Rattle.field.specs.declared.Answer.the-variants.{Values, Refused}
-use Rattle.field.specs.Parts.{until, has, before, after, split}
+use Rattle.field.specs.Parts.{contains, before, after, split}
 use Rattle.field.specs.Elements.{isElement, elementOf}
 use Rattle.field.specs.Judgement.{judged}
 use Rattle.field.specs.Fields.{areElements, judgedAll, listField}
@@ -45,15 +47,19 @@ module _ (l : Limits) (column : ℕ) (s : List ℕ) where
   unfolding reading whole listField
   reading-starts = rw (add-zero column)
 
-  module _ (at end : ℕ) (answer : Answer) (found : end ≡ at + until 44 (drop at s)) where
+  module _ (at end : ℕ) (answer : Answer) (found : end ≡ skipped (Not 44) s at) where
     abbrev part : List ℕ
     part = take (end - at) (drop at s)
 
+    found-run : run (Not 44) (drop at s) ≡ end - at
+    unfolding skipped
+    found-run = omega arith
+
     here : before 44 (drop at s) ≡ part
     unfolding before
-    here = let e : until 44 (drop at s) ≡ end - at = omega arith in rw e
+    here = rw found-run
 
-    parts : split 44 (drop at s) ≡ part ∷ cond (has 44 (drop at s)) (split 44 (after 44 (drop at s))) []
+    parts : split 44 (drop at s) ≡ part ∷ cond (contains 44 (drop at s)) (split 44 (after 44 (drop at s))) []
     parts = split-first 44 (drop at s) ∙ rw here
 
     pub reading-other : isElement (elementOf (l .names) part) ≡ false → reading at answer ≡ Refused 5 column
@@ -62,17 +68,17 @@ module _ (l : Limits) (column : ℕ) (s : List ℕ) where
 
     module _ (e : isElement (elementOf (l .names) part) ≡ true) where
       pub reading-last : end ≡ length s → reading at answer ≡ judged l (column + at) answer (elementOf (l .names) part)
-      unfolding reading has
+      unfolding reading contains skipped
       reading-last k =
-          rw (parts, le-ltb (until 44 (drop at s)) (length (drop at s)) (omega (arith, length-drop at s)))
+          rw (parts, le-ltb (run (Not 44) (drop at s)) (length (drop at s)) (omega (arith, length-drop at s)))
           (whole-next _ _ _ _ _ _ e ∙ whole-none _ _ _ _)
 
       pub reading-next : end < length s → reading at answer ≡ reading (end + 1) (judged l (column + at) answer (elementOf (l .names) part))
-      unfolding reading has after
+      unfolding reading contains after skipped
       reading-next k =
           let p : length part ≡ end - at = length-take-le (end - at) (drop at s) (omega (arith, length-drop at s)) in
           let q : column + at + length part + 1 ≡ column + (end + 1) = omega arith in
-          let r : at + suc (until 44 (drop at s)) ≡ end + 1 = omega arith in
+          let r : at + suc (run (Not 44) (drop at s)) ≡ end + 1 = omega arith in
           rw
-          (parts, lt-ltb (until 44 (drop at s)) (length (drop at s)) (omega (arith, length-drop at s)), drop-drop (suc (until 44 (drop at s))) at s, r, ← q)
+          (parts, lt-ltb (run (Not 44) (drop at s)) (length (drop at s)) (omega (arith, length-drop at s)), drop-drop (suc (run (Not 44) (drop at s))) at s, r, ← q)
           (whole-next _ _ _ _ _ _ e)

@@ -29,7 +29,7 @@ module _ (l : Limits) where
   judged-number column (Values set star) (Range low high step) h = go (outside l low || outside l high) (ltb high low) (eqb step 0)
     where
       go : (o r z : Bool)
-          → FieldNumber (cond o (Refused 6 column) (cond r (Refused 7 column) (cond z (Refused 8 column) (Values (including (l .names) set (valuesOf low high step)) star))))
+          → FieldNumber (cond o (Refused 6 column) (cond r (Refused 7 column) (cond z (Refused 8 column) (Values (including l set (valuesOf low high step)) star))))
       go true r z = omega arith
       go false true z = omega arith
       go false false true = omega arith

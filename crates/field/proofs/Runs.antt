@@ -8,9 +8,10 @@ use native.Mathlib.Omega.{arith}
 use lib.Bits.{bitOr, or-shifted-r}
 use lib.Pow.{pow-pos, pow-mono, pow-lt}
 use borrow.Author.Tests.{lt-ltb}
-use Rattle.schedule.specs.Sets.{withBit, put}
-use Rattle.field.specs.declared.Names.{Names}
+use Rattle.bytes.specs.Sets.{withBit, put}
+use Rattle.field.specs.declared.Limits.{Limits}
 use Rattle.field.specs.Values.{everyStep, valuesOf, bitOf, including}
+use Rattle.field.proofs.Steps.{own-bit}
 
 or-top : (v b : ℕ) → b < 2 ^ v → bitOr b (2 ^ v) ≡ 2 ^ v + b
 or-top v b h = ap (bitOr b) (sym (one-mul (2 ^ v))) ∙ or-shifted-r 1 v b h ∙ ap (λ (x : ℕ). x + b) (one-mul (2 ^ v))
@@ -31,19 +32,19 @@ shifted-high high h =
     let k : suc high < 64 = omega arith in
     ap (λ (x : ℕ). x % 2 ^ 64) (sym (pow-succ' 2 high)) ∙ mod-eq-of-lt (pow-lt k) ∙ ap (λ (x : ℕ). 2 ^ x) (sym (add-one high))
 
-module _ (names : Names) (own : (v : ℕ) → bitOf names v ≡ v) where
-  run-bits : (low v n : ℕ) → low ≤ v → v + n ≤ 64 → including names (2 ^ v - 2 ^ low) (everyStep v 1 n) ≡ 2 ^ (v + n) - 2 ^ low
+module _ (l : Limits) where
+  run-bits : (low v n : ℕ) → low ≤ v → v + n ≤ 64 → v + n ≤ l .bits → including l (2 ^ v - 2 ^ low) (everyStep v 1 n) ≡ 2 ^ (v + n) - 2 ^ low
   unfolding including everyStep
-  run-bits low v zero h k = rw (add-zero v)
-  run-bits low v (suc n) h k =
+  run-bits low v zero h k b = rw (add-zero v)
+  run-bits low v (suc n) h k b =
       let e : v + 1 + n ≡ v + suc n = omega arith in
-      let f : put (2 ^ v - 2 ^ low) (bitOf names v) ≡ 2 ^ (v + 1) - 2 ^ low = ap (put (2 ^ v - 2 ^ low)) (own v) ∙ run-next low v h (omega arith) in
-      ap (λ (x : ℕ). including names x (everyStep (v + 1) 1 n)) f
-      ∙ run-bits low (v + 1) n (omega arith) (omega arith)
+      let f : put (2 ^ v - 2 ^ low) (bitOf l v) ≡ 2 ^ (v + 1) - 2 ^ low = ap (put (2 ^ v - 2 ^ low)) (own-bit l v (omega arith)) ∙ run-next low v h (omega arith) in
+      ap (λ (x : ℕ). including l x (everyStep (v + 1) 1 n)) f
+      ∙ run-bits low (v + 1) n (omega arith) (omega arith) (omega arith)
       ∙ ap (λ (x : ℕ). 2 ^ x - 2 ^ low) e
 
-  pub run-values : (low high : ℕ) → low ≤ high → high < 63 → including names 0 (valuesOf low high 1) ≡ 2 ^ (high + 1) - 2 ^ low
+  pub run-values : (low high : ℕ) → low ≤ high → high < 63 → high < l .bits → including l 0 (valuesOf low high 1) ≡ 2 ^ (high + 1) - 2 ^ low
   unfolding valuesOf
-  run-values low high h k =
+  run-values low high h k b =
       let e : low + suc (high - low) ≡ high + 1 = omega arith in
-      rw (div-one (high - low), ← sub-self (2 ^ low)) (run-bits low low (suc (high - low)) (omega arith) (omega arith) ∙ rw e)
+      rw (div-one (high - low), ← sub-self (2 ^ low)) (run-bits low low (suc (high - low)) (omega arith) (omega arith) (omega arith) ∙ rw e)

@@ -6,9 +6,8 @@ use Prim.Native.Nat.{ℕ, suc, _+_, _-_, _/_, _≤_, _<_}
 use native.Mathlib.Nat.{add-div-right, div-eq-of-lt}
 use native.Mathlib.Numerals.{add-one}
 use native.Mathlib.Omega.{arith}
-use borrow.Author.Tests.{ne-eqb}
-use Rattle.field.specs.declared.Names.{Names}
-use Rattle.field.specs.declared.Names.the-variants.{None, Months, Weekdays}
+use borrow.Author.Tests.{lt-ltb}
+use Rattle.field.specs.declared.Limits.{Limits}
 use Rattle.field.specs.Values.{everyStep, valuesOf, bitOf}
 
 module _ (high step : ℕ) where
@@ -39,9 +38,7 @@ module _ (high step : ℕ) where
   unfolding remaining everyStep left
   remaining-end v p h = rw (div-eq-of-lt {n = high + step - v} {m = step} (omega arith))
 
--- every value but 7 has its own bit
-pub bit-other : (names : Names) (v : ℕ) → (v ≡ 7 → ⊥) → v ≡ bitOf names v
+-- a value below the bits has its own
+pub own-bit : (l : Limits) (v : ℕ) → v < l .bits → bitOf l v ≡ v
 unfolding bitOf
-bit-other None v h = refl
-bit-other Months v h = refl
-bit-other Weekdays v h = rw (ne-eqb v 7 h)
+own-bit l v h = rw (lt-ltb v (l .bits) h)

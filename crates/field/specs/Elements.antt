@@ -10,7 +10,7 @@ use Rattle.field.specs.declared.number.Number.the-variants.{Value}
 use Rattle.field.specs.declared.number.Number.the-variants as number
 use Rattle.field.specs.declared.element.Element.{Element}
 use Rattle.field.specs.declared.element.Element.the-variants.{Range, Malformed}
-use Rattle.field.specs.Parts.{has, before, after}
+use Rattle.field.specs.Parts.{contains, before, after}
 use Rattle.field.specs.declared.Names.{Names}
 use Rattle.field.specs.Numbers.{numberOf}
 use Rattle.field.specs.Names.{nameOf, isSunday}
@@ -52,12 +52,12 @@ upperOf names low high = cond (isSunday names high && not (isSunday names low)) 
 -- what follows the dash: `m`, or `m/step`
 unfoldable pub afterDash : Names → List ℕ → List ℕ → Element
 afterDash names low s =
-    cond (has slash s)
+    cond (contains slash s)
     (ranging (endOf names low) (upperOf names low (before slash s)) (numberOf (after slash s)))
     (ranging (endOf names low) (upperOf names low s) (Value 1))
 
 unfoldable pub elementOf : Names → List ℕ → Element
 elementOf names s =
-    cond (has dash s)
+    cond (contains dash s)
     (afterDash names (before dash s) (after dash s))
     (ranging (endOf names s) (endOf names s) (Value 1))

@@ -4,12 +4,14 @@ use Prim.Native.Nat.{ℕ}
 use mathlib.Core.Path.{_≡_, refl}
 use mathlib.Core.Bool.{true, false}
 use mathlib.Core.List.{List, [], _∷_}
-use Rattle.text.specs.Bytes.{text}
+use Rattle.bytes.specs.Texts.{text}
 use Rattle.field.specs.declared.Limits.{Limits}
 use Rattle.field.specs.declared.Answer.{Answer}
 use Rattle.field.specs.declared.Answer.the-variants.{Values, Refused}
-use Rattle.schedule.specs.Sets.{withBit, put}
-use Rattle.field.specs.Parts.{until, has, before, after, afterEach, split}
+use Rattle.bytes.specs.Classes.{ofClass}
+use Rattle.bytes.specs.Runs.{run}
+use Rattle.bytes.specs.Sets.{withBit, put}
+use Rattle.field.specs.Parts.{contains, before, after, afterEach, split}
 use Rattle.field.specs.Numbers.{isDigit, areDigits, valueFrom, numberOf}
 use Rattle.field.specs.Elements.{isElement, ranging, numberOr, endOf, upperOf, afterDash, elementOf}
 use Rattle.field.specs.Names.{lower, alike, monthNames, weekdayNames, named, nameOf, isSunday}
@@ -64,7 +66,7 @@ examples :
     × (read minuteLimits (text "10-9/0") ≡ Refused 7 1)
     × (read minuteLimits (text "70,10-9") ≡ Refused 6 1)
 unfolding read readField judged judgedAll areElements listField starField starElement isElement ranging elementOf numberOr endOf
-    upperOf isSunday afterDash split afterEach until has before after numberOf areDigits isDigit valueFrom nameOf named alike
+    upperOf isSunday afterDash split afterEach run ofClass contains before after numberOf areDigits isDigit valueFrom nameOf named alike
     lower monthNames weekdayNames outside including put bitOf valuesOf everyStep withBit
 examples = (refl, refl, refl, refl, refl, refl, refl, refl, refl, refl, refl, refl, refl, refl, refl, refl, refl, refl, refl, refl, refl, refl, refl, refl, refl, refl, refl, refl)
 
@@ -95,7 +97,7 @@ names :
     × (read weekdayLimits (text "jan") ≡ Refused 5 1)
     × (read monthLimits (text "1-sun") ≡ Refused 5 1)
 unfolding read readField judged judgedAll areElements listField starField starElement isElement ranging elementOf numberOr endOf
-    upperOf isSunday afterDash split afterEach until has before after numberOf areDigits isDigit valueFrom nameOf named alike
+    upperOf isSunday afterDash split afterEach run ofClass contains before after numberOf areDigits isDigit valueFrom nameOf named alike
     lower monthNames weekdayNames outside including put bitOf valuesOf everyStep withBit
 names = (refl, refl, refl, refl, refl, refl, refl, refl, refl, refl, refl, refl, refl, refl, refl, refl, refl, refl, refl)
 
@@ -109,7 +111,7 @@ month-names :
     (text "jan" ∷ text "feb" ∷ text "mar" ∷ text "apr" ∷ text "may" ∷ text "jun" ∷ text "jul" ∷ text "aug" ∷ text "sep" ∷ text "oct" ∷ text "nov" ∷ text "dec" ∷ [])
     ≡ Values 2 false ∷ Values 4 false ∷ Values 8 false ∷ Values 16 false ∷ Values 32 false ∷ Values 64 false ∷ Values 128 false ∷ Values 256 false ∷ Values 512 false ∷ Values 1024 false ∷ Values 2048 false ∷ Values 4096 false ∷ []
 unfolding eachSet read readField judged judgedAll areElements listField isElement ranging elementOf numberOr endOf split
-    afterEach until has before after numberOf areDigits isDigit valueFrom nameOf named alike lower monthNames weekdayNames
+    afterEach run ofClass contains before after numberOf areDigits isDigit valueFrom nameOf named alike lower monthNames weekdayNames
     outside including put bitOf valuesOf everyStep withBit
 month-names = refl
 
@@ -118,6 +120,6 @@ weekday-names :
     (text "sun" ∷ text "mon" ∷ text "tue" ∷ text "wed" ∷ text "thu" ∷ text "fri" ∷ text "sat" ∷ [])
     ≡ Values 1 false ∷ Values 2 false ∷ Values 4 false ∷ Values 8 false ∷ Values 16 false ∷ Values 32 false ∷ Values 64 false ∷ []
 unfolding eachSet read readField judged judgedAll areElements listField isElement ranging elementOf numberOr endOf split
-    afterEach until has before after numberOf areDigits isDigit valueFrom nameOf named alike lower monthNames weekdayNames
+    afterEach run ofClass contains before after numberOf areDigits isDigit valueFrom nameOf named alike lower monthNames weekdayNames
     outside including put bitOf valuesOf everyStep withBit
 weekday-names = refl

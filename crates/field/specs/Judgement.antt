@@ -40,4 +40,4 @@ judged l column (Values set star) (Range low high step) =
     (Refused reversed column)
     (cond (eqb step 0)
     (Refused stepZero column)
-    (Values (including (l .names) set (valuesOf low high step)) star)))
+    (Values (including l set (valuesOf low high step)) star)))

@@ -1,19 +1,20 @@
--- Paper 01: "minute 0-59, hour 0-23, day 1-31, month 1-12, weekday 0-7, where 0 and 7 are Sunday".
+-- Paper 01: "minute 0-59, hour 0-23, day 1-31, month 1-12, weekday 0-7, where 0 and 7 are Sunday"; "Sunday has only bit 0", so weekdays
+-- have seven bits.
 -- Assumes nothing.
 use Rattle.field.specs.declared.Limits.{Limits}
 use Rattle.field.specs.declared.Names.the-variants.{None, Months, Weekdays}
 
 abbrev pub minuteLimits : Limits
-minuteLimits = record { first = 0; last = 59; names = None }
+minuteLimits = record { first = 0; last = 59; bits = 60; names = None }
 
 abbrev pub hourLimits : Limits
-hourLimits = record { first = 0; last = 23; names = None }
+hourLimits = record { first = 0; last = 23; bits = 24; names = None }
 
 abbrev pub dayLimits : Limits
-dayLimits = record { first = 1; last = 31; names = None }
+dayLimits = record { first = 1; last = 31; bits = 32; names = None }
 
 abbrev pub monthLimits : Limits
-monthLimits = record { first = 1; last = 12; names = Months }
+monthLimits = record { first = 1; last = 12; bits = 13; names = Months }
 
 abbrev pub weekdayLimits : Limits
-weekdayLimits = record { first = 0; last = 7; names = Weekdays }
+weekdayLimits = record { first = 0; last = 7; bits = 7; names = Weekdays }

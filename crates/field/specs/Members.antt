@@ -5,7 +5,6 @@ use Prim.Native.Nat.{ℕ, _-_, _%_}
 use mathlib.Core.Bool.{Bool, false, cond, _&&_, _||_}
 use mathlib.Core.List.{List, [], _∷_, _++_, map}
 use lib.Dec.{leb, eqb}
-use Rattle.field.specs.declared.Names.{Names}
 use Rattle.field.specs.declared.Limits.{Limits}
 use Rattle.field.specs.declared.element.Element.{Element}
 use Rattle.field.specs.declared.element.Element.the-variants.{Range, Malformed}
@@ -19,8 +18,8 @@ isIn n [] = false
 isIn n (v ∷ vs) = eqb v n || isIn n vs
 
 -- in the range, and a multiple of the step after its first value
-unfoldable pub contains : ℕ → ℕ → ℕ → ℕ → Bool
-contains low high step v = leb low v && (leb v high && eqb ((v - low) % step) 0)
+unfoldable pub isStep : ℕ → ℕ → ℕ → ℕ → Bool
+isStep low high step v = leb low v && (leb v high && eqb ((v - low) % step) 0)
 
 -- begins with `*`
 unfoldable pub isStar : List ℕ → Bool
@@ -33,10 +32,10 @@ elementsOf l [] = []
 elementsOf l (b ∷ s) = cond (eqb b asterisk) (starElement l s ∷ []) (map (elementOf (l .names)) (split comma (b ∷ s)))
 
 -- the bits of all the values of elements
-unfoldable pub elementBits : Names → Element → List ℕ
-elementBits names (Range low high step) = map (bitOf names) (valuesOf low high step)
-elementBits names Malformed = []
+unfoldable pub elementBits : Limits → Element → List ℕ
+elementBits l (Range low high step) = map (bitOf l) (valuesOf low high step)
+elementBits l Malformed = []
 
-unfoldable pub bitsOf : Names → List Element → List ℕ
-bitsOf names [] = []
-bitsOf names (e ∷ es) = elementBits names e ++ bitsOf names es
+unfoldable pub bitsOf : Limits → List Element → List ℕ
+bitsOf l [] = []
+bitsOf l (e ∷ es) = elementBits l e ++ bitsOf l es

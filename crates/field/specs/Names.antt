@@ -4,7 +4,7 @@ use Prim.Native.Nat.{ℕ, suc, _+_}
 use mathlib.Core.Bool.{Bool, true, false, cond, _&&_}
 use mathlib.Core.List.{List, [], _∷_}
 use lib.Dec.{leb, eqb}
-use Rattle.text.specs.Bytes.{text}
+use Rattle.bytes.specs.Texts.{text}
 use Rattle.field.specs.declared.Names.{Names}
 use Rattle.field.specs.declared.Names.the-variants.{None, Months, Weekdays}
 use Rattle.field.specs.declared.number.Number.{Number}

@@ -5,20 +5,17 @@ use mathlib.Core.Bool.{Bool, cond}
 use mathlib.Core.List.{List, [], _∷_}
 use lib.ListN.{length, take, drop}
 use lib.Dec.{eqb, ltb}
+use Rattle.bytes.specs.declared.class.Class.the-variants.{Not}
+use Rattle.bytes.specs.Runs.{run}
 
--- how many bytes stand before the first b, or in all where there is none
-unfoldable pub until : ℕ → List ℕ → ℕ
-until b [] = 0
-until b (x ∷ s) = let more = until b s in cond (eqb x b) 0 (suc more)
-
-unfoldable pub has : ℕ → List ℕ → Bool
-has b s = ltb (until b s) (length s)
+unfoldable pub contains : ℕ → List ℕ → Bool
+contains b s = ltb (run (Not b) s) (length s)
 
 unfoldable pub before : ℕ → List ℕ → List ℕ
-before b s = take (until b s) s
+before b s = take (run (Not b) s) s
 
 unfoldable pub after : ℕ → List ℕ → List ℕ
-after b s = drop (suc (until b s)) s
+after b s = drop (suc (run (Not b) s)) s
 
 -- a part after each b, up to the next
 unfoldable pub afterEach : ℕ → List ℕ → List (List ℕ)

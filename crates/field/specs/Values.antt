@@ -4,10 +4,9 @@
 use Prim.Native.Nat.{ℕ, zero, suc, _+_, _-_, _/_}
 use mathlib.Core.Bool.{cond}
 use mathlib.Core.List.{List, [], _∷_}
-use lib.Dec.{eqb}
-use Rattle.field.specs.declared.Names.{Names}
-use Rattle.field.specs.declared.Names.the-variants.{None, Months, Weekdays}
-use Rattle.schedule.specs.Sets.{put}
+use lib.Dec.{ltb}
+use Rattle.field.specs.declared.Limits.{Limits}
+use Rattle.bytes.specs.Sets.{put}
 
 -- n values from v on, each step-th
 unfoldable pub everyStep : ℕ → ℕ → ℕ → List ℕ
@@ -18,12 +17,10 @@ everyStep v step (suc n) = v ∷ everyStep (v + step) step n
 unfoldable pub valuesOf : ℕ → ℕ → ℕ → List ℕ
 valuesOf low high step = everyStep low step (suc ((high - low) / step))
 
--- the bit of a value
-unfoldable pub bitOf : Names → ℕ → ℕ
-bitOf None v = v
-bitOf Months v = v
-bitOf Weekdays v = cond (eqb v 7) 0 v
+-- the bit of a value: its own, or where the field has no such bit, counted from 0 again
+unfoldable pub bitOf : Limits → ℕ → ℕ
+bitOf l v = cond (ltb v (l .bits)) v (v - l .bits)
 
-unfoldable pub including : Names → ℕ → List ℕ → ℕ
-including names set [] = set
-including names set (v ∷ vs) = including names (put set (bitOf names v)) vs
+unfoldable pub including : Limits → ℕ → List ℕ → ℕ
+including l set [] = set
+including l set (v ∷ vs) = including l (put set (bitOf l v)) vs

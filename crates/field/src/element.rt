@@ -5,7 +5,8 @@ use crate::Names;
 use crate::name;
 use crate::number;
 use crate::number::Number;
-use crate::part::find;
+use bytes::class::Class;
+use bytes::run::skip;
 
 // The values from low to high, of which every step-th counts, or bytes that are no element.
 pub(crate) enum Element {
@@ -68,12 +69,12 @@ fn upper(low: &[u8], high: &[u8], names: Names) -> Number
 pub(crate) fn read(s: &[u8], names: Names) -> Element
     ensures { λ r. ⌜ r ≡ elementOf names (now (s .entry)) ⌝ }
 {
-    let dash = find(s, 0, b'-');
+    let dash = skip(s, 0, Class::Not(b'-'));
     let low = end(&s[..dash], names);
     if dash == s.len() {
         return range(low, low, Number::Value(1));
     }
-    let slash = find(s, dash + 1, b'/');
+    let slash = skip(s, dash + 1, Class::Not(b'/'));
     let high = upper(&s[..dash], &s[dash + 1..slash], names);
     if slash == s.len() {
         return range(low, high, Number::Value(1));

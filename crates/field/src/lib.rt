@@ -3,7 +3,6 @@ mod element;
 mod list;
 mod name;
 mod number;
-mod part;
 mod values;
 
 ghost use mathlib.Core.Path.{_≡_};
@@ -27,10 +26,12 @@ pub enum Names {
     Weekdays,
 }
 
-// What a field's numbers may be, first to last. As a weekday, 7 is Sunday as 0 is.
+// What a field's numbers may be, first to last, and how many bits its set has. A number past the bits begins again from 0: as a
+// weekday, 7 is Sunday as 0 is.
 pub struct Limits {
     pub first: u8,
     pub last: u8,
+    pub bits: u8,
     pub names: Names,
 }
 
@@ -45,30 +46,35 @@ pub enum Answer {
 pub const MINUTE: Limits = Limits {
     first: 0,
     last: 59,
+    bits: 60,
     names: Names::None,
 };
 
 pub const HOUR: Limits = Limits {
     first: 0,
     last: 23,
+    bits: 24,
     names: Names::None,
 };
 
 pub const DAY: Limits = Limits {
     first: 1,
     last: 31,
+    bits: 32,
     names: Names::None,
 };
 
 pub const MONTH: Limits = Limits {
     first: 1,
     last: 12,
+    bits: 13,
     names: Names::Months,
 };
 
 pub const WEEKDAY: Limits = Limits {
     first: 0,
     last: 7,
+    bits: 7,
     names: Names::Weekdays,
 };
 

@@ -6,8 +6,9 @@ use crate::Answer;
 use crate::Limits;
 use crate::MALFORMED;
 use crate::element;
-use crate::part::find;
 use crate::values::judge;
+use bytes::class::Class;
+use bytes::run::skip;
 
 // The elements one after the other. A refusal of an element only counts once all the others are found to be elements.
 pub(crate) fn read(s: &[u8], column: u64, limits: Limits) -> Answer
@@ -22,7 +23,7 @@ pub(crate) fn read(s: &[u8], column: u64, limits: Limits) -> Answer
     let mut answer = start;
     let mut at = 0;
     loop {
-        let end = find(s, at, b',');
+        let end = skip(s, at, Class::Not(b','));
         let element = element::read(&s[at..end], names);
         if element::is_element(element) {
             answer = judge(limits, column + at as u64, answer, element);

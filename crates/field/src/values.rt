@@ -1,57 +1,41 @@
 // The values of an element within a field's limits, put into the field's set.
 ghost use mathlib.Core.Path.{_≡_};
-ghost use mathlib.Core.Bool.{true};
-ghost use Prim.Native.Nat.{ℕ, _+_, _-_, _^_, _≤_, _<_};
+ghost use Prim.Native.Nat.{_+_, _-_, _^_, _≤_, _<_};
 ghost use Rattle.field.specs.Values.{bitOf, valuesOf, including};
 ghost use Rattle.field.specs.Judgement.{outside, judged};
 use crate::Answer;
 use crate::Limits;
 use crate::MALFORMED;
-use crate::Names;
 use crate::OUT_OF_LIMITS;
 use crate::REVERSED;
 use crate::STEP_ZERO;
 use crate::element::Element;
 
-// The bit of a value: as a weekday, 7 is Sunday and so has Sunday's bit, 0.
-fn bit_of(names: Names, value: u64) -> u64
-    ensures { λ r. ⌜ r ≡ bitOf names value ⌝ }
+// The bit of a value: as a weekday, 7 is Sunday as 0 is, since there are bits for seven days.
+fn bit_of(limits: Limits, value: u64) -> u64
+    ensures { λ r. ⌜ r ≡ bitOf limits value ⌝ }
 {
-    if value == 7 {
-        return match names {
-            Names::Weekdays => 0,
-            Names::None => value,
-            Names::Months => value,
-        };
+    let bits = limits.bits as u64;
+    if value < bits {
+        return value;
     }
-    value
+    value - bits
 }
 
 // The set with low and each step-th value after it, up to high.
-fn with_range(set: u64, names: Names, low: u16, high: u16, step: u16) -> u64
+fn with_range(set: u64, limits: Limits, low: u16, high: u16, step: u16) -> u64
     requires { ⌜ (low ≤ high) × (0 < step) ⌝ }
-    ensures { λ r. ⌜ r ≡ including names set (valuesOf low high step) ⌝ }
+    ensures { λ r. ⌜ r ≡ including limits set (valuesOf low high step) ⌝ }
 {
     let last = high as u64;
     let by = step as u64;
     let mut set = set;
     let mut value = low as u64;
     while value <= last {
-        set = schedule::set::with(set, bit_of(names, value));
+        set = bytes::set::with(set, bit_of(limits, value));
         value += by;
     }
     set
-}
-
-// Whether each value has the bit of its own number.
-fn has_own_bits(names: Names) -> bool
-    ensures { λ r. ⌜ (r ≡ true → (v : ℕ) → bitOf names v ≡ v) ⌝ }
-{
-    match names {
-        Names::None => true,
-        Names::Months => true,
-        Names::Weekdays => false,
-    }
 }
 
 // The bits from low to high with no gap.
@@ -62,15 +46,15 @@ fn run(low: u16, high: u16) -> u64
     (2 << high as u64) - (1 << low as u64)
 }
 
-// As with_range does, but a single run at once.
-fn with_values(set: u64, names: Names, low: u16, high: u16, step: u16) -> u64
+// As with_range does, but a single run of values that have their own bits at once.
+fn with_values(set: u64, limits: Limits, low: u16, high: u16, step: u16) -> u64
     requires { ⌜ (low ≤ high) × (0 < step) ⌝ }
-    ensures { λ r. ⌜ r ≡ including names set (valuesOf low high step) ⌝ }
+    ensures { λ r. ⌜ r ≡ including limits set (valuesOf low high step) ⌝ }
 {
-    if (set == 0) & (step == 1) & (high < 63) & has_own_bits(names) {
+    if (set == 0) & (step == 1) & (high < 63) & (high < limits.bits as u16) {
         return run(low, high);
     }
-    with_range(set, names, low, high, step)
+    with_range(set, limits, low, high, step)
 }
 
 // Whether a number lies outside the limits.
@@ -111,7 +95,6 @@ pub(crate) fn judge(limits: Limits, column: u64, answer: Answer, element: Elemen
             column,
         };
     }
-    let names = limits.names;
-    let set = with_values(set, names, low, high, step);
+    let set = with_values(set, limits, low, high, step);
     Answer::Values { set, star }
 }

@@ -10,7 +10,7 @@ use Rattle.calendar.specs.Dates.{calendarDays, dateAt}
 use Rattle.calendar.proofs.Minutes.{midnight-weekday}
 use Rattle.calendar.proofs.Months.{lengthOf, firstOf, month-next, month-mono, months-end, day-month, day-day, day-in-month}
 use Rattle.schedule.specs.declared.Schedule.{Schedule}
-use Rattle.schedule.specs.Sets.{hasBit}
+use Rattle.bytes.specs.Sets.{hasBit}
 use Rattle.schedule.specs.Match.{matchesDay, matchesOn}
 use Rattle.schedule.specs.Search.{from}
 use Rattle.schedule.specs.Days.{matchesIn}

@@ -14,7 +14,7 @@ use Rattle.calendar.specs.Dates.{calendarDays, lastMinute, weekdayOf, yearOf, m
 use Rattle.calendar.proofs.Months.{lengthOf}
 use Rattle.schedule.specs.declared.Schedule.{Schedule}
 use Rattle.schedule.specs.declared.Next.the-variants.{At, Never, PastEnd}
-use Rattle.schedule.specs.Sets.{hasBit}
+use Rattle.bytes.specs.Sets.{hasBit}
 use Rattle.schedule.specs.Match.{bothMust, byDayRule, matchesDay, matchesTime, matches, matchesOn, matchesAt}
 use Rattle.schedule.specs.Search.{leastOf, from}
 use Rattle.schedule.specs.Days.{matchesIn, hasDate, someDay}

@@ -13,7 +13,7 @@ use Rattle.calendar.proofs.Tests.{and-true, or-true, true-or}
 use Rattle.calendar.proofs.Dates.{OnCalendar}
 use Rattle.calendar.proofs.Minutes.{dateAt-on, midnight-weekday}
 use Rattle.schedule.specs.declared.Schedule.{Schedule}
-use Rattle.schedule.specs.Sets.{hasBit}
+use Rattle.bytes.specs.Sets.{hasBit}
 use Rattle.schedule.specs.Match.{bothMust, byDayRule, matchesDay, matchesOn}
 use Rattle.schedule.specs.Search.{from}
 use Rattle.schedule.specs.Days.{hasDate, someDay}

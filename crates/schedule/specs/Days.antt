@@ -7,7 +7,7 @@ use lib.Dec.{ltb}
 use Rattle.calendar.specs.Gregorian.{monthDays}
 use Rattle.calendar.specs.Dates.{weekdayOf}
 use Rattle.schedule.specs.declared.Schedule.{Schedule}
-use Rattle.schedule.specs.Sets.{hasBit}
+use Rattle.bytes.specs.Sets.{hasBit}
 use Rattle.schedule.specs.Match.{bothMust, matchesDay}
 use Rattle.schedule.specs.Search.{from}
 

@@ -6,7 +6,7 @@ use Rattle.calendar.specs.Gregorian.{leap, yearDays, monthTable, monthLength, m
 use Rattle.calendar.specs.Walk.{walk}
 use Rattle.calendar.specs.Dates.{weekdayOf, yearOf, monthOf, dateAt}
 use Rattle.schedule.specs.declared.Schedule.{Schedule}
-use Rattle.schedule.specs.Sets.{hasBit}
+use Rattle.bytes.specs.Sets.{hasBit}
 use Rattle.schedule.specs.Match.{bothMust, byDayRule, matchesDay, matchesTime, matchesDate, matches}
 
 -- `0 0 29 2 *`

@@ -1,4 +1,3 @@
-pub mod Sets
 pub mod Match
 pub mod Search
 pub mod Next

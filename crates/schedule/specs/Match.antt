@@ -6,7 +6,7 @@ use lib.Dec.{leb}
 use Rattle.calendar.specs.declared.Date.{Date}
 use Rattle.calendar.specs.Dates.{lastMinute, dateAt}
 use Rattle.schedule.specs.declared.Schedule.{Schedule}
-use Rattle.schedule.specs.Sets.{hasBit}
+use Rattle.bytes.specs.Sets.{hasBit}
 
 -- ticket 2026-03: if either day field begins with `*`, both must match; otherwise either may
 unfoldable pub bothMust : Schedule → Bool

@@ -6,7 +6,7 @@ ghost use Rattle.schedule.specs.Match.{matchesDay, matchesOn};
 ghost use Rattle.schedule.specs.Search.{from};
 ghost use Rattle.schedule.specs.Days.{matchesIn};
 use crate::Schedule;
-use crate::set::has;
+use bytes::set::has;
 use calendar::CALENDAR_DAYS;
 use calendar::DAY_MINUTES;
 

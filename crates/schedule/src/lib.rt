@@ -1,7 +1,7 @@
 // What an entry's five sets mean (paper 01, "Match"): whether a minute matches, and when the entry fires next.
 mod day;
 mod never;
-pub mod set;
+mod set;
 mod time;
 
 ghost use mathlib.Core.Path.{_≡_};
@@ -77,7 +77,7 @@ pub fn matches_date(s: Schedule, date: Date) -> bool
     ensures { λ r. ⌜ r ≡ matchesDate s date ⌝ }
 {
     matches_day(s, date.month, date.day, date.weekday)
-        & (set::has(s.hours as u64, date.hour) & set::has(s.minutes, date.minute))
+        & (bytes::set::has(s.hours as u64, date.hour) & bytes::set::has(s.minutes, date.minute))
 }
 
 // Whether a minute of the calendar matches; no other does.

@@ -4,7 +4,7 @@ ghost use Rattle.schedule.specs.Search.{from};
 ghost use Rattle.schedule.specs.Days.{hasDate, someDay};
 ghost use Rattle.schedule.specs.Next.{canFire};
 use crate::Schedule;
-use crate::set::has;
+use bytes::set::has;
 use crate::set::next;
 use crate::time::time_from;
 use calendar::DAY_MINUTES;

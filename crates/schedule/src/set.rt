@@ -1,30 +1,11 @@
-// Sets of small numbers in the bits of a word: bit n stands for the value n.
+// The least value of a set.
 ghost use mathlib.Core.Path.{_≡_};
-ghost use Rattle.schedule.specs.Sets.{hasBit, put};
+ghost use Rattle.bytes.specs.Sets.{hasBit};
 ghost use Rattle.schedule.specs.Search.{from};
-
-// Whether the set has n.
-pub fn has(set: u64, n: u64) -> bool
-    ensures { λ r. ⌜ r ≡ hasBit set n ⌝ }
-{
-    if n < 64 {
-        return (set >> n) % 2 == 1;
-    }
-    false
-}
-
-// The set with n in it; a number that a word has no bit for changes nothing.
-pub fn with(set: u64, n: u64) -> u64
-    ensures { λ r. ⌜ r ≡ put set n ⌝ }
-{
-    if n < 64 {
-        return set | 1 << n;
-    }
-    set
-}
+use bytes::set::has;
 
 // The least value of the set from `at` on and below `end`, or `end` where there is none; `at` where that isn't below `end`.
-pub fn next(set: u64, at: u64, end: u64) -> u64
+pub(crate) fn next(set: u64, at: u64, end: u64) -> u64
     ensures { λ r. ⌜ r ≡ from (hasBit set) end at ⌝ }
 {
     let mut n = at;

@@ -4,7 +4,7 @@ ghost use Prim.Native.Nat.{_<_};
 ghost use Rattle.schedule.specs.Match.{matchesAt};
 ghost use Rattle.schedule.specs.Search.{from};
 use crate::Schedule;
-use crate::set::has;
+use bytes::set::has;
 use crate::set::next;
 use calendar::DAY_MINUTES;
 

@@ -1,7 +1,7 @@
 -- `crontab::command` meets its contract.
 -- Assumes nothing.
 use mathlib.Core.Path.{sym, _∙_}
-use Rattle.crontab.specs.Bytes.{between}
+use Rattle.bytes.specs.Runs.{between}
 use Rattle.crontab.specs.Answers.{commandIn, commandOf}
 use Rattle.crontab.proofs.Theorems.{entry-sound}
 use borrow.Author.Needs.{needs}

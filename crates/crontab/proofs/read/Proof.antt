@@ -6,10 +6,10 @@ use Prim.Native.Nat.{_+_, _-_, _≤_}
 use native.Mathlib.Omega.{arith}
 use lib.ListN.{length, length-set}
 use borrow.Author.Tests.{lt-ltb}
-use Rattle.crontab.specs.declared.class.Class.the-variants.{Not}
+use Rattle.bytes.specs.declared.class.Class.the-variants.{Not}
 use Rattle.crontab.specs.Limits.{maxEntries}
 use Rattle.crontab.specs.Tables.{noEntries, refusedTable, emptyTable, withEntry, tableOf}
-use Rattle.crontab.proofs.Runs.{skipped-within}
+use Rattle.bytes.proofs.Runs.{skipped-within}
 use Rattle.crontab.proofs.Proper.{entry-proper}
 use Rattle.crontab.proofs.Lines.{end-found, nul-found}
 use Rattle.crontab.proofs.Tables.{good, reading, reading-starts, reading-end, reading-ignored, reading-setting, reading-refused, reading-entry, reading-full}

@@ -1,6 +1,6 @@
 -- `crontab::setting_name` meets its contract: the name lies within the table.
 -- Assumes nothing.
-use Rattle.crontab.specs.Bytes.{between}
+use Rattle.bytes.specs.Runs.{between}
 use Rattle.crontab.proofs.Theorems.{setting-inside}
 use Rattle.crontab.proofs.setting_name.Statement.{statement}
 use Rattle.crontab.proofs.setting_name.Tie as tie

@@ -1,6 +1,6 @@
 -- `crontab::setting_value` meets its contract: the value lies within the table.
 -- Assumes nothing.
-use Rattle.crontab.specs.Bytes.{between}
+use Rattle.bytes.specs.Runs.{between}
 use Rattle.crontab.proofs.Theorems.{setting-inside}
 use Rattle.crontab.proofs.setting_value.Statement.{statement}
 use Rattle.crontab.proofs.setting_value.Tie as tie

@@ -1,9 +1,9 @@
 -- `crontab::assignment::read` meets its contract.
 -- Assumes nothing.
 use borrow.Author.Tests.{eq-eqb, ne-eqb}
-use Rattle.crontab.specs.declared.class.Class.the-variants.{Blank}
+use Rattle.bytes.specs.declared.class.Class.the-variants.{Blank}
 use Rattle.crontab.specs.Assignments.{settingLine, afterName, afterEquals}
-use Rattle.crontab.proofs.Runs.{byte-within, skipped-within}
+use Rattle.bytes.proofs.Runs.{byte-within, skipped-within}
 use borrow.Author.Needs.{needs}
 use native.Mathlib.Omega.{arith}
 use Rattle.crontab.proofs.assignment.read.Statement.{statement}

@@ -2,7 +2,7 @@
 -- Assumes nothing.
 use mathlib.Core.Path.{sym, _∙_}
 use Rattle.crontab.specs.Assignments.{valueAt}
-use Rattle.crontab.proofs.Runs.{quote-within}
+use Rattle.bytes.proofs.Runs.{quote-within}
 use borrow.Author.Needs.{needs}
 use Rattle.crontab.proofs.assignment.value_at.Statement.{statement}
 use Rattle.crontab.proofs.assignment.value_at.Tie as tie

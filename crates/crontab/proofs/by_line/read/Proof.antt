@@ -4,10 +4,10 @@ use mathlib.Core.Path.{_≡_, refl, sym, _∙_}
 use Prim.Native.Nat.{_+_, _-_}
 use native.Mathlib.Omega.{arith}
 use lib.ListN.{length, drop}
-use Rattle.crontab.specs.declared.class.Class.the-variants.{Not}
+use Rattle.bytes.specs.declared.class.Class.the-variants.{Not}
 use Rattle.crontab.specs.Lines.{linesOf}
 use Rattle.crontab.specs.Settings.{settingFrom}
-use Rattle.crontab.proofs.Runs.{skipped-within}
+use Rattle.bytes.proofs.Runs.{skipped-within}
 use Rattle.crontab.proofs.Settings.{setting-zero, setting-end, setting-here, setting-next}
 use Rattle.crontab.proofs.by_line.read.Statement.{statement}
 use Rattle.crontab.proofs.by_line.read.Tie as tie

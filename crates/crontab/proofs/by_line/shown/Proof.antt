@@ -2,7 +2,7 @@
 -- Assumes nothing.
 use mathlib.Core.Path.{sym, _∙_}
 use native.Mathlib.Omega.{arith}
-use Rattle.crontab.specs.Bytes.{between}
+use Rattle.bytes.specs.Runs.{between}
 use Rattle.crontab.specs.Settings.{shownAt}
 use Rattle.crontab.proofs.Proper.{setting-proper}
 use borrow.Author.Needs.{needs}

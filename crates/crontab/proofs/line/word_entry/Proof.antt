@@ -1,10 +1,10 @@
 -- `crontab::line::word_entry` meets its contract.
 -- Assumes nothing.
 use mathlib.Core.Path.{_∙_}
-use Rattle.crontab.specs.declared.class.Class.the-variants.{Solid}
-use Rattle.crontab.specs.Bytes.{between}
+use Rattle.bytes.specs.declared.class.Class.the-variants.{Solid}
+use Rattle.bytes.specs.Runs.{between}
 use Rattle.crontab.specs.Entries.{wordEntry, afterWord}
-use Rattle.crontab.proofs.Runs.{skipped-within}
+use Rattle.bytes.proofs.Runs.{skipped-within}
 use borrow.Author.Needs.{needs}
 use native.Mathlib.Omega.{arith}
 use Rattle.crontab.proofs.line.word_entry.Statement.{statement}

@@ -1,10 +1,10 @@
 -- `crontab::time::field_at` meets its contract.
 -- Assumes nothing.
 use borrow.Author.Tests.{le-leb, lt-leb}
-use Rattle.crontab.specs.declared.class.Class.the-variants.{Solid}
-use Rattle.crontab.specs.Bytes.{between}
+use Rattle.bytes.specs.declared.class.Class.the-variants.{Solid}
+use Rattle.bytes.specs.Runs.{between}
 use Rattle.crontab.specs.Times.{fieldAt, answered}
-use Rattle.crontab.proofs.Runs.{skipped-within}
+use Rattle.bytes.proofs.Runs.{skipped-within}
 use borrow.Author.Needs.{needs}
 use native.Mathlib.Omega.{arith}
 use Rattle.crontab.proofs.time.field_at.Statement.{statement}

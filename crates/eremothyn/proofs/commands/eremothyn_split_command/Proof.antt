@@ -2,7 +2,7 @@
 -- Assumes nothing.
 use mathlib.Core.Path.{refl, sym, ap, _∙_}
 use native.Mathlib.Omega.{arith}
-use Rattle.crontab.specs.Bytes.{between}
+use Rattle.bytes.specs.Runs.{between}
 use Rattle.crontab.proofs.Theorems.{entry-sound}
 use Rattle.eremothyn.specs.Commands.{splitNumber}
 use Rattle.eremothyn.specs.Commands.{splitIn, splitOf}

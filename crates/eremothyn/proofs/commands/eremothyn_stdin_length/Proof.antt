@@ -2,7 +2,7 @@
 -- Assumes nothing.
 use mathlib.Core.Path.{sym, _∙_}
 use native.Mathlib.Omega.{arith}
-use Rattle.crontab.specs.Bytes.{between}
+use Rattle.bytes.specs.Runs.{between}
 use Rattle.crontab.proofs.Theorems.{entry-sound}
 use Rattle.command.specs.Parts.{lengthsOf}
 use Rattle.eremothyn.specs.Commands.{stdinIn, stdinLength}

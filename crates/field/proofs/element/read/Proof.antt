@@ -1,18 +1,20 @@
 -- `field::element::read` meets its contract: the three forms one after the other.
 -- Assumes nothing.
 use mathlib.Core.Path.{sym, _∙_}
+use Prim.Native.Nat.{ℕ, _+_, _≤_, _<_}
 use native.Mathlib.Omega.{arith}
 use lib.Seq.{length-take-le}
 use borrow.Author.Needs.{needs}
+use Rattle.bytes.proofs.Runs.{before-end}
 use Rattle.field.proofs.Elements.{element-number, element-range, element-step}
 use Rattle.field.proofs.element.read.Statement.{statement}
 use Rattle.field.proofs.element.read.Tie as tie
 
-find-requires : tie.Need-find-requires
-find-requires c κs = search needs
+skip-requires : tie.Need-skip-requires
+skip-requires c κs = search needs
 
 slice-aggregate-end : tie.Need-slice-aggregate-end
-slice-aggregate-end c = sym (length-take-le _ _ (c .before .find .ensures .1))
+slice-aggregate-end c = sym (length-take-le _ _ (omega arith))
 
 end-requires : tie.Need-end-requires
 end-requires c κs = search needs
@@ -24,16 +26,16 @@ returns : tie.Need-returns
 returns c =
     c .range .ensures
     ∙ rw (c .before .before .end .ensures)
-    (sym (element-number _ _ _ (c .before .before .before .before .find .ensures .0) (c .before .if1 .taken)))
+    (sym (element-number _ _ _ (c .before .before .before .before .skip .ensures .0) (c .before .if1 .taken)))
 
-add-find : tie.Need-add-find
-add-find c = search needs
+add-skip : tie.Need-add-skip
+add-skip c = search needs
 
-find-requires-2 : tie.Need-find-requires-2
-find-requires-2 c κs = search needs
+skip-requires-2 : tie.Need-skip-requires-2
+skip-requires-2 c κs = search needs
 
 slice-aggregate-upper : tie.Need-slice-aggregate-upper
-slice-aggregate-upper c = sym (length-take-le _ _ (c .before .before .before .before .before .find .ensures .1))
+slice-aggregate-upper c = sym (length-take-le _ _ (omega arith))
 
 add-upper : tie.Need-add-upper
 add-upper c = search needs
@@ -58,7 +60,7 @@ returns-2 c =
     let k = c .before .before .before .before .before in
     c .range2 .ensures
     ∙ rw (k .before .before .end .ensures, c .before .before .upper .ensures)
-    (sym (element-range _ _ _ (k .before .before .before .before .find .ensures .0) (omega arith) _ (k .find2 .ensures .0) (c .before .if2 .taken)))
+    (sym (element-range _ _ _ (k .before .before .before .before .skip .ensures .0) (omega arith) _ (k .skip2 .ensures .0) (c .before .if2 .taken)))
 
 add-read : tie.Need-add-read
 add-read c = search needs
@@ -78,24 +80,30 @@ read-requires c κs = search needs
 range-requires-3 : tie.Need-range-requires-3
 range-requires-3 c κs = search needs
 
+-- with fewer facts in reach than a path has
+next-within : {d n : ℕ} → d < n → d + 1 ≤ n
+next-within h = omega arith
+
 returns-3 : tie.Need-returns-3
 returns-3 c =
     let k = c .before .before .before .before .before .before .before in
+    let dash = k .before .before .before .before .skip .ensures in
+    let inside = before-end (omega arith) (dash .2) (k .before .if1 .left) in
     c .range3 .ensures
     ∙ rw (k .before .before .end .ensures, c .before .before .before .before .upper .ensures, c .before .read .ensures)
-    (sym (element-step _ _ _ (k .before .before .before .before .find .ensures .0) (omega arith) _ (k .find2 .ensures .0) (omega arith)))
+    (sym (element-step _ _ _ (dash .0) inside _ (k .skip2 .ensures .0) (before-end (next-within inside) (k .skip2 .ensures .2) (c .before .before .before .if2 .left))))
 
 pub read-spec : {M : Type 1} → statement M
 read-spec =
     tie.close
     (tie.spec
-    find-requires
+    skip-requires
     slice-aggregate-end
     end-requires
     range-requires
     returns
-    add-find
-    find-requires-2
+    add-skip
+    skip-requires-2
     slice-aggregate-upper
     add-upper
     sub-upper

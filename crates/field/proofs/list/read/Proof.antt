@@ -19,8 +19,8 @@ abbrev μ-loop : tie.MeasureT-loop
 loop-holds : tie.Need-loop-holds Inv-loop μ-loop
 loop-holds c = (reading-starts _ _ _, omega arith)
 
-find-requires : tie.Need-find-requires Inv-loop μ-loop
-find-requires c κs = search needs
+skip-requires : tie.Need-skip-requires Inv-loop μ-loop
+skip-requires c κs = search needs
 
 sub-read : tie.Need-sub-read Inv-loop μ-loop
 sub-read c = omega arith
@@ -47,7 +47,7 @@ returns : tie.Need-returns Inv-loop μ-loop
 returns c =
     let e = c .before in
     let f = e .before .before .before in
-    sym (reading-other _ _ _ _ _ _ (f .find .ensures .0) (rw (e .before .read .ensures) at (sym (e .is-element .ensures) ∙ c .if1 .left)))
+    sym (reading-other _ _ _ _ _ _ (f .skip .ensures .0) (rw (e .before .read .ensures) at (sym (e .is-element .ensures) ∙ c .if1 .left)))
     ∙ f .before .loop .inv .0
 
 returns-2 : tie.Need-returns-2 Inv-loop μ-loop
@@ -56,7 +56,7 @@ returns-2 c =
     let f = e .before .before .before in
     c .before .judge .ensures
     ∙ rw (e .before .read .ensures)
-    (sym (reading-last _ _ _ _ _ _ (f .find .ensures .0) (rw (e .before .read .ensures) at (sym (e .is-element .ensures) ∙ c .before .before .if1 .taken)) (c .if2 .taken))
+    (sym (reading-last _ _ _ _ _ _ (f .skip .ensures .0) (rw (e .before .read .ensures) at (sym (e .is-element .ensures) ∙ c .before .before .if1 .taken)) (c .if2 .taken))
     ∙ f .before .loop .inv .0)
 
 add-at : tie.Need-add-at Inv-loop μ-loop
@@ -70,7 +70,7 @@ loop-again c =
     let e = c .before .before .before in
     let f = e .before .before .before in (
       rw (c .before .judge .ensures, e .before .read .ensures)
-          (sym (reading-next _ _ _ _ _ _ (f .find .ensures .0) (rw (e .before .read .ensures) at (sym (e .is-element .ensures) ∙ c .before .before .if1 .taken)) (omega arith))
+          (sym (reading-next _ _ _ _ _ _ (f .skip .ensures .0) (rw (e .before .read .ensures) at (sym (e .is-element .ensures) ∙ c .before .before .if1 .taken)) (omega arith))
           ∙ f .before .loop .inv .0),
       omega arith,
     )
@@ -82,7 +82,7 @@ read-spec =
     Inv-loop
     μ-loop
     loop-holds
-    find-requires
+    skip-requires
     sub-read
     part-read-start
     part-read-end

@@ -1,35 +1,19 @@
--- `field::values::bit_of` meets its contract, case by case.
+-- `field::values::bit_of` meets its contract: a value below the bits, or past them.
 -- Assumes nothing.
+use mathlib.Core.Path.{sym}
 use borrow.Author.Needs.{needs}
+use borrow.Author.Tests.{le-ltb}
 use Rattle.field.specs.Values.{bitOf}
-use Rattle.field.proofs.Steps.{bit-other}
+use Rattle.field.proofs.Steps.{own-bit}
 use Rattle.field.proofs.values.bit_of.Statement.{statement}
 use Rattle.field.proofs.values.bit_of.Tie as tie
 
-enum-told : tie.Need-enum-told
-enum-told c = search needs
-
-enum-told-2 : tie.Need-enum-told-2
-enum-told-2 c = search needs
-
-enum-told-3 : tie.Need-enum-told-3
-enum-told-3 c = search needs
-
 returns : tie.Need-returns
-unfolding bitOf
-returns c = rw (c .enum-told .given .1, c .before .before .if1 .taken)
+returns c = sym (own-bit _ _ (c .if1 .taken))
 
 returns-2 : tie.Need-returns-2
 unfolding bitOf
-returns-2 c = rw (c .enum-told2 .given .1)
-
-returns-3 : tie.Need-returns-3
-unfolding bitOf
-returns-3 c = rw (c .enum-told3 .given .1)
-
-returns-4 : tie.Need-returns-4
-returns-4 c = bit-other _ _ (c .if1 .left)
+returns-2 c = rw (le-ltb _ _ (c .if1 .left))
 
 pub bit-of-spec : {M : Type 1} → statement M
-bit-of-spec =
-    tie.close (tie.spec enum-told enum-told-2 enum-told-3 returns returns-2 returns-3 returns-4)
+bit-of-spec = tie.close (tie.spec (λ c. search needs) returns returns-2)

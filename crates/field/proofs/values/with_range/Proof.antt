@@ -3,18 +3,18 @@
 use mathlib.Core.Path.{_≡_}
 use Prim.Native.Nat.{_+_, _-_}
 use native.Mathlib.Omega.{arith}
-use Rattle.schedule.specs.Sets.{put}
+use Rattle.bytes.specs.Sets.{put}
 use Rattle.field.specs.Values.{valuesOf, including}
 use Rattle.field.proofs.Steps.{remaining, remaining-first, remaining-next, remaining-end}
 use Rattle.field.proofs.values.with_range.Statement.{statement}
 use Rattle.field.proofs.values.with_range.Tie as tie
 
 abbrev Inv-loop : tie.InvT-loop
-Inv-loop set names low high step last by set₀ value₀ set' value =
-    including names set' (remaining high step value) ≡ including names set (valuesOf low high step)
+Inv-loop set limits low high step last by set₀ value₀ set' value =
+    including limits set' (remaining high step value) ≡ including limits set (valuesOf low high step)
 
 abbrev μ-loop : tie.MeasureT-loop
-μ-loop set names low high step last by set₀ value₀ set' value = high + step - value
+μ-loop set limits low high step last by set₀ value₀ set' value = high + step - value
 
 loop-holds : tie.Need-loop-holds Inv-loop μ-loop
 loop-holds c = rw (remaining-first _ _ _ (c .pre .1) (c .pre .0))

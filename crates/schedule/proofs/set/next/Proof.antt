@@ -4,7 +4,7 @@ use mathlib.Core.Path.{_≡_, refl, sym, _∙_}
 use Prim.Native.Nat.{_-_}
 use native.Mathlib.Omega.{arith}
 use borrow.Author.Needs.{needs}
-use Rattle.schedule.specs.Sets.{hasBit}
+use Rattle.bytes.specs.Sets.{hasBit}
 use Rattle.schedule.specs.Search.{from}
 use Rattle.schedule.proofs.Search.{from-stop, from-next, from-past}
 use Rattle.schedule.proofs.set.next.Statement.{statement}

@@ -6,7 +6,7 @@ use borrow.Author.Needs.{needs}
 use borrow.Author.Tests.{ltb-true}
 use lib.Dec.{lit<}
 use Rattle.calendar.proofs.Tests.{and-true}
-use Rattle.schedule.specs.Sets.{hasBit}
+use Rattle.bytes.specs.Sets.{hasBit}
 use Rattle.schedule.specs.Match.{matchesTime, matchesAt}
 use Rattle.schedule.proofs.Search.{digits-here, digits-later, digits-none}
 use Rattle.schedule.proofs.time.time_from.Statement.{statement}

@@ -1,0 +1,72 @@
+-- `bytes::class::is_in` meets its contract, class by class.
+-- Assumes nothing.
+use Rattle.bytes.specs.Classes.{ofClass}
+use borrow.Author.Needs.{needs}
+use Rattle.bytes.proofs.class.is_in.Statement.{statement}
+use Rattle.bytes.proofs.class.is_in.Tie as tie
+
+enum-told : tie.Need-enum-told
+enum-told c = search needs
+
+is-blank-requires : tie.Need-is-blank-requires
+is-blank-requires c κs = search needs
+
+enum-told-2 : tie.Need-enum-told-2
+enum-told-2 c = search needs
+
+is-blank-requires-2 : tie.Need-is-blank-requires-2
+is-blank-requires-2 c κs = search needs
+
+enum-told-3 : tie.Need-enum-told-3
+enum-told-3 c = search needs
+
+is-blank-requires-3 : tie.Need-is-blank-requires-3
+is-blank-requires-3 c κs = search needs
+
+is-quote-requires : tie.Need-is-quote-requires
+is-quote-requires c κs = search needs
+
+enum-known-class : tie.Need-enum-known-class
+enum-known-class c = search needs
+
+enum-told-4 : tie.Need-enum-told-4
+enum-told-4 c = search needs
+
+returns : tie.Need-returns
+unfolding ofClass
+returns c = rw (c .before .enum-told .given .1) (c .is-blank .ensures)
+
+returns-2 : tie.Need-returns-2
+unfolding ofClass
+returns-2 c = rw (c .before .enum-told2 .given .1, c .is-blank2 .ensures)
+
+returns-3 : tie.Need-returns-3
+unfolding ofClass
+returns-3 c = rw (c .before .before .enum-told3 .given .1, c .before .is-blank3 .ensures, c .is-quote .ensures)
+
+returns-4 : tie.Need-returns-4
+unfolding ofClass
+returns-4 c = rw (c .before .class .given .1)
+
+returns-5 : tie.Need-returns-5
+unfolding ofClass
+returns-5 c = rw (c .enum-told4 .given .1)
+
+pub is-in-spec : {M : Type 1} → statement M
+is-in-spec =
+    tie.close
+    (tie.spec
+    enum-told
+    is-blank-requires
+    enum-told-2
+    is-blank-requires-2
+    enum-told-3
+    is-blank-requires-3
+    is-quote-requires
+    enum-known-class
+    enum-told-4
+    returns
+    returns-2
+    returns-3
+    returns-4
+    returns-5)

@@ -1,0 +1,5 @@
+pub mod Texts
+pub mod Classes
+pub mod Runs
+pub mod Laid
+pub mod Sets

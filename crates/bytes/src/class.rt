@@ -1,0 +1,40 @@
+// Kinds of bytes.
+ghost use mathlib.Core.Path.{_≡_};
+ghost use Rattle.bytes.specs.Classes.{isBlank, isQuote, ofClass};
+
+pub enum Class {
+    // Space and tab.
+    Blank,
+    // Any other byte.
+    Solid,
+    // What a bare name is made of: no blank, no `=` and no quote.
+    Name,
+    // Any byte but this one.
+    Not(u8),
+    // What a line is made of: no newline and no byte 0.
+    InLine,
+}
+
+pub(crate) fn is_blank(b: u8) -> bool
+    ensures { λ r. ⌜ r ≡ isBlank b ⌝ }
+{
+    (b == b' ') | (b == b'\t')
+}
+
+pub fn is_quote(b: u8) -> bool
+    ensures { λ r. ⌜ r ≡ isQuote b ⌝ }
+{
+    (b == b'"') | (b == b'\'')
+}
+
+pub fn is_in(class: Class, b: u8) -> bool
+    ensures { λ r. ⌜ r ≡ ofClass class b ⌝ }
+{
+    match class {
+        Class::Blank => is_blank(b),
+        Class::Solid => !is_blank(b),
+        Class::Name => !(is_blank(b) | ((b == b'=') | is_quote(b))),
+        Class::Not(other) => b != other,
+        Class::InLine => !((b == b'\n') | (b == 0)),
+    }
+}
