@@ -12,19 +12,20 @@ CC ?= cc
 CFLAGS ?= -O2 -Wall -Wextra
 INSTALL ?= install
 
-LIBRARY = target/staticlib/liberemothyn.a
-SOURCES = crates.txt $(shell find crates -name '*.rt' -o -name '*.antt')
-HEADERS = include/eremothyn.h examples/table_file.h
-VERSION = $(shell sed -n '/EREMOTHYN_VERSION/s/.*"\(.*\)".*/\1/p' include/eremothyn.h)
-FUNCTIONS = $(shell sed -n '/^uint64_t\|^static inline/s/.*\(eremothyn_[a-z_]*\).*/\1/p' include/eremothyn.h)
-PAGES = target/man/eremothyn.3 $(FUNCTIONS:%=target/man/%.3)
-EXAMPLES = daemon.c date.c table_file.h observatory.crontab broken.crontab
+LIBRARY := target/staticlib/liberemothyn.a
+TEST_CALLS := target/staticlib/libtest_calls.a
+SOURCES := crates.txt $(shell find crates -name '*.rt' -o -name '*.antt')
+HEADERS := include/eremothyn.h examples/table_file.h
+VERSION := $(shell sed -n '/EREMOTHYN_VERSION/s/.*"\(.*\)".*/\1/p' include/eremothyn.h)
+FUNCTIONS := $(shell sed -n '/^uint64_t\|^static inline/s/.*\(eremothyn_[a-z_]*\).*/\1/p' include/eremothyn.h)
+PAGES := target/man/eremothyn.3 $(FUNCTIONS:%=target/man/%.3)
+EXAMPLES := daemon.c date.c table_file.h observatory.crontab broken.crontab
 
-LIB = $(DESTDIR)$(LIBDIR)
-INCLUDE = $(DESTDIR)$(PREFIX)/include
-BIN = $(DESTDIR)$(PREFIX)/bin
-MAN = $(DESTDIR)$(PREFIX)/share/man
-DOC = $(DESTDIR)$(PREFIX)/share/doc/eremothyn
+LIB := $(DESTDIR)$(LIBDIR)
+INCLUDE := $(DESTDIR)$(PREFIX)/include
+BIN := $(DESTDIR)$(PREFIX)/bin
+MAN := $(DESTDIR)$(PREFIX)/share/man
+DOC := $(DESTDIR)$(PREFIX)/share/doc/eremothyn
 
 .PHONY: all example install uninstall test bench clean
 
@@ -68,7 +69,7 @@ uninstall:
 test:
 	.ci/run
 
-bench: $(LIBRARY) target/staticlib/libcalendar_calls.a target/staticlib/libschedule_calls.a
+bench: $(LIBRARY) $(TEST_CALLS)
 	cargo run --offline --release --manifest-path tests/Cargo.toml -p bench
 
 clean:

@@ -67,7 +67,7 @@ fn is_file(name: &str) -> bool {
 fn promises_names_what_is_there() {
     let mut known = HashSet::new();
     words(&root().join("crates"), &mut known);
-    words(&root().join("tests/queue"), &mut known);
+    words(&root().join("tests/compare"), &mut known);
     let promises = fs::read_to_string(root().join("docs/PROMISES.md")).expect("the promises");
     let quoted = promises.split('`').skip(1).step_by(2);
     let is_name = |name: &&str| {
