@@ -4,8 +4,7 @@
 use eremothyn::{Answer, Table};
 use guard::{filled, Guarded};
 use second::queue::Queue;
-use second::table;
-use second::table::{read, When};
+use second::table::{self, read, When};
 use std::fmt::Debug;
 
 /// Refusal: not a waiting line of this table, or too little room for one.
