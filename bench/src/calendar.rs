@@ -5,11 +5,11 @@
 use crate::glibc;
 use crate::measure::{in_turn, print_head, print_row, round};
 use crate::plain;
-use ::calendar::{
-    calendar_date, calendar_date_by_walk, calendar_minute, calendar_minute_by_walk, packed, Parts,
-};
 use second::calendar::{date_of, minute_of, LAST_MINUTE};
 use second::random::Random;
+use test_calls::dates::{
+    calendar_date, calendar_date_by_walk, calendar_minute, calendar_minute_by_walk, packed, Parts,
+};
 
 const COUNT: u64 = 100_000;
 

@@ -1,7 +1,7 @@
 //! glibc's `gmtime_r` and `timegm`.
 
-use calendar::Parts;
 use std::ffi::{c_char, c_int, c_long};
+use test_calls::dates::Parts;
 
 /// A minute's date as glibc gives it.
 pub fn broken_down(minute: u64) -> Tm {

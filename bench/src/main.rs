@@ -6,14 +6,16 @@ mod measure;
 mod plain;
 mod queue;
 mod schedule;
+mod small;
 mod table;
 
 use std::env;
 use std::process::ExitCode;
 
-const BENCHMARKS: [(&str, fn()); 4] = [
+const BENCHMARKS: [(&str, fn()); 5] = [
     ("calendar", calendar::run),
     ("schedule", schedule::run),
+    ("small", small::run),
     ("table", table::run),
     ("queue", queue::run),
 ];

@@ -48,3 +48,13 @@ pub fn print_row(what: &str, library: f64, others: &[f64]) {
     }
     println!();
 }
+
+/// The head of a table of two: the library, another, and how many times as long the library takes.
+pub fn print_pair_head(title: &str, other: &str) {
+    println!("{title}");
+    println!("{:<32}{:>10}{other:>20}{:>10}", "", "library", "times");
+}
+
+pub fn print_pair(what: &str, [library, other]: [f64; 2], times: f64) {
+    println!("{what:<32}{library:>10.2}{other:>20.2}{times:>10.3}");
+}

@@ -4,7 +4,7 @@
 //! Nothing is checked: a minute has to be on the calendar, and a date has to exist. Each function is called as the
 //! library is, and not inlined; a date comes as one number.
 
-use calendar::{packed, Parts};
+use test_calls::dates::{packed, Parts};
 
 const DAY_MINUTES: u64 = 1_440;
 

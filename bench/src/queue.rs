@@ -1,7 +1,9 @@
 //! An announcement and a request with a full table, of 16,384 bytes and 128 entries. Both programs read the table at
 //! every call, and start each call from the same line.
 
-use crate::measure::nanoseconds;
+use crate::measure::{nanoseconds, print_pair, print_pair_head};
+use crate::table::entries_alone;
+use eremothyn::Table;
 use second::queue::Queue;
 use second::table::{read, ENTRIES, TABLE_BYTES};
 
@@ -27,17 +29,14 @@ pub fn run() {
         room: [0; ROOM],
         queue: Queue::default(),
     };
-    assert_eq!(::queue::init(&table, &mut empty.room), Ok(0));
+    assert_eq!(Table::of(&table).queue_init(&mut empty.room[..]), Ok(0));
     let mut waiting = empty.clone();
     let joined = Ok(ENTRIES as u64);
     assert_eq!(library_tick(&table, &mut waiting, ALL_DUE), joined);
     assert_eq!(second_tick(&table, &mut waiting, ALL_DUE), joined);
 
-    println!("queue, {TABLE_BYTES} bytes and {ENTRIES} entries, microseconds a call");
-    println!(
-        "{:<32}{:>10}{:>20}{:>10}",
-        "", "library", "second program", "times"
-    );
+    let title = format!("queue, {TABLE_BYTES} bytes and {ENTRIES} entries, microseconds a call");
+    print_pair_head(&title, "second program");
     let rows = [
         ("tick, nothing is due", &empty, NONE_DUE),
         ("tick, all join", &empty, ALL_DUE),
@@ -51,7 +50,7 @@ pub fn run() {
             |line| second_tick(&table, line, minute),
         );
     }
-    let pop = |line: &mut Line| ::queue::pop(&table, &mut line.room);
+    let pop = |line: &mut Line| Table::of(&table).queue_pop(&mut line.room[..]);
     let second_pop = |line: &mut Line| line.queue.pop(&read(&table).expect(GOOD));
     row("pop, all wait", &waiting, pop, second_pop);
     row("pop, nothing waits", &empty, pop, second_pop);
@@ -69,14 +68,13 @@ fn row<T: PartialEq + std::fmt::Debug>(
     let microseconds =
         |call: &dyn Fn(&mut Line) -> T| nanoseconds(&inputs, |line| call(&mut line.clone())) / 1e3;
     let [library, second] = [microseconds(&library), microseconds(&second)];
-    let times = library / second;
-    println!("{what:<32}{library:>10.2}{second:>20.2}{times:>10.3}");
+    print_pair(what, [library, second], library / second);
 }
 
 const GOOD: &str = "a good table";
 
 fn library_tick(table: &[u8], line: &mut Line, minute: u64) -> Result<u64, u64> {
-    ::queue::tick(table, &mut line.room, minute)
+    Table::of(table).queue_tick(&mut line.room[..], minute)
 }
 
 fn second_tick(table: &[u8], line: &mut Line, minute: u64) -> Result<u64, u64> {
@@ -90,12 +88,5 @@ fn full() -> Vec<u8> {
         "0,30 */2 * * 0-7",
         "0-59/5 0-23 1-31 1-12 *",
     ];
-    let width = TABLE_BYTES / ENTRIES - 1;
-    let lines = fields.iter().cycle().take(ENTRIES);
-    let table: Vec<u8> = lines
-        .map(|fields| format!("{fields} /usr/local/bin/camera --expose "))
-        .flat_map(|line| format!("{line:x<width$}\n").into_bytes())
-        .collect();
-    assert_eq!(table.len(), TABLE_BYTES);
-    table
+    entries_alone(&fields.map(|fields| format!("{fields} /usr/local/bin/camera --expose ")))
 }

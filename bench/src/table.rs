@@ -1,7 +1,8 @@
 //! Reading a full table, of 16,384 bytes and 128 entries, as the library and the second program do it: the same bytes,
 //! the same count of entries.
 
-use crate::measure::nanoseconds;
+use crate::measure::{nanoseconds, print_pair, print_pair_head};
+use eremothyn::Table;
 use second::table::{self, ENTRIES, TABLE_BYTES};
 
 const READS: usize = 500;
@@ -10,14 +11,11 @@ const READS: usize = 500;
 const GOAL: f64 = 1.2;
 
 pub fn run() {
-    println!("table, {TABLE_BYTES} bytes and {ENTRIES} entries read, MB a second each");
-    println!(
-        "{:<32}{:>10}{:>20}{:>10}",
-        "", "library", "second program", "times"
-    );
+    let title = format!("table, {TABLE_BYTES} bytes and {ENTRIES} entries read, MB a second each");
+    print_pair_head(&title, "second program");
     compare("as people write it", &full(&WRITTEN));
     compare("lists in every field", &full(&LISTS));
-    compare("entries alone, no comments", &entries_alone());
+    compare("entries alone, no comments", &entries_alone(&WRITTEN));
     println!("times as long as the second program; goal: at most {GOAL}");
 }
 
@@ -28,16 +26,11 @@ fn compare(which: &str, bytes: &[u8]) {
     let inputs = vec![bytes; READS];
     let [library, second] = [nanoseconds(&inputs, library), nanoseconds(&inputs, second)];
     let speed = |time: f64| TABLE_BYTES as f64 / time * 1e3;
-    println!(
-        "{which:<32}{:>10.1}{:>20.1}{:>10.3}",
-        speed(library),
-        speed(second),
-        library / second
-    );
+    print_pair(which, [library, second].map(speed), library / second);
 }
 
 fn library(bytes: &[u8]) -> u64 {
-    tables::check(bytes).expect("a good table")
+    Table::of(bytes).check().expect("a good table")
 }
 
 fn second(bytes: &[u8]) -> u64 {
@@ -87,11 +80,11 @@ fn full(lines: &[&str]) -> Vec<u8> {
     table
 }
 
-/// Each entry in 128 bytes.
-fn entries_alone() -> Vec<u8> {
+/// As many entries as may be, in a full table: each line is filled up to 128 bytes.
+pub fn entries_alone(lines: &[impl AsRef<str>]) -> Vec<u8> {
     let width = TABLE_BYTES / ENTRIES - 1;
-    let lines = WRITTEN.iter().cycle().take(ENTRIES);
+    let lines = lines.iter().cycle().take(ENTRIES);
     lines
-        .flat_map(|line| format!("{line:x<width$}\n").into_bytes())
+        .flat_map(|line| format!("{:x<width$}\n", line.as_ref()).into_bytes())
         .collect()
 }

@@ -4,6 +4,7 @@ use std::ffi::OsStr;
 use std::fs;
 use std::path::{Path, PathBuf};
 use std::process::{Command, Output};
+use std::sync::{Mutex, PoisonError};
 
 const STRICT: [&str; 4] = ["-Wall", "-Wextra", "-Werror", "-pedantic"];
 
@@ -33,6 +34,15 @@ pub fn run<A: AsRef<OsStr>>(program: impl AsRef<OsStr>, arguments: &[A]) -> Outp
         .unwrap_or_else(|error| panic!("{:?}: {error}", program.as_ref()))
 }
 
+/// Runs `make` at the root. Tests run side by side, and what it builds is one tree: one `make` at a time.
+pub fn make(arguments: &[&str]) -> Output {
+    static MAKING: Mutex<()> = Mutex::new(());
+    let _alone = MAKING.lock().unwrap_or_else(PoisonError::into_inner);
+    let output = run("make", arguments);
+    assert!(output.status.success(), "make {arguments:?}: {output:?}");
+    output
+}
+
 /// Runs a compiler with every warning an error.
 pub fn compile(compiler: &str, standard: &str, arguments: &[&str]) {
     let arguments = [&[standard], &STRICT[..], arguments].concat();
@@ -44,25 +54,32 @@ pub fn compile(compiler: &str, standard: &str, arguments: &[&str]) {
 }
 
 /// Builds a C program of the repository into a folder, and says where it is.
-pub fn build(source: &str, folder: &Path) -> PathBuf {
+pub fn build(sources: &[&str], folder: &Path) -> PathBuf {
     let program = folder.join("program");
-    compile(
-        "cc",
-        "-std=c99",
-        &[
-            "-Iinclude",
-            "-Iexamples",
-            "-o",
-            word(&program),
-            source,
-            "target/staticlib/liberemothyn.a",
-        ],
-    );
+    let output = ["-Iinclude", "-o", word(&program)];
+    let library = ["target/staticlib/liberemothyn.a"];
+    compile("cc", "-std=c99", &[&output, sources, &library].concat());
     program
+}
+
+/// Builds the command `eremothyn` into a folder, and says where it is.
+pub fn build_command(folder: &Path) -> PathBuf {
+    let programs = fs::read_dir(root().join("programs")).expect("the programs");
+    let sources: Vec<PathBuf> = programs
+        .map(|entry| entry.expect("an entry").path())
+        .filter(|path| path.extension() == Some(OsStr::new("c")))
+        .collect();
+    let sources: Vec<&str> = sources.iter().map(|path| word(path)).collect();
+    build(&sources, folder)
 }
 
 /// What a program wrote to standard output, and its exit status.
 pub fn told(output: &Output) -> (String, Option<i32>) {
     let text = String::from_utf8_lossy(&output.stdout).into_owned();
     (text, output.status.code())
+}
+
+/// What a program wrote to standard error.
+pub fn complaint(output: &Output) -> String {
+    String::from_utf8_lossy(&output.stderr).into_owned()
 }

@@ -1,6 +1,6 @@
 //! `examples/daemon.c` beside the second program, which keeps the same site's line.
 
-use c::{build, root, run, scratch, told, word};
+use c::{build, complaint, root, run, scratch, told, word};
 use second::calendar::{date_of, minute_of};
 use second::command::split;
 use second::queue::Queue;
@@ -100,7 +100,7 @@ fn argument(minute: u64) -> String {
 #[test]
 fn the_log_is_the_second_programs() {
     let folder = scratch("daemon-log");
-    let program = build("examples/daemon.c", &folder);
+    let program = build(&["examples/daemon.c"], &folder);
     let evening = minute_of(2026, 11, 15, 21, 0).expect("a date");
     let observatory = fs::read(root().join("examples/observatory.crontab")).expect("the crontab");
     let tables: [&[u8]; 4] = [
@@ -140,7 +140,7 @@ fn the_log_is_the_second_programs() {
 #[test]
 fn the_papers_whole_run_starts_b_a_c() {
     let folder = scratch("daemon-run");
-    let program = build("examples/daemon.c", &folder);
+    let program = build(&["examples/daemon.c"], &folder);
     let path = folder.join("table");
     fs::write(&path, "* * * * * a\n@reboot b\n0 * * * * c\n").expect("the table is written");
     let (text, _) = told(&run(
@@ -157,58 +157,37 @@ fn the_papers_whole_run_starts_b_a_c() {
 #[test]
 fn refusals_and_wrong_arguments_are_said() {
     let folder = scratch("daemon-refused");
-    let program = build("examples/daemon.c", &folder);
+    let program = build(&["examples/daemon.c"], &folder);
     let path = folder.join("table");
     fs::write(&path, "# one\n0 0 * * mon/2 b\n").expect("the table is written");
-    let bad = word(&path);
-    let fault = format!("{bad}:2:9: refused 5: ");
-    let rows: [(&[&str], i32, &str); 9] = [
+    let fault = format!("{}:2:9: refused 5: ", word(&path));
+    // `~` is the table.
+    let rows = [
+        ("~, 1, 1970-01-01T00:00, 1970-01-01T00:00", 1, &fault[..]),
         (
-            &[bad, "1", "1970-01-01T00:00", "1970-01-01T00:00"],
-            1,
-            &fault,
-        ),
-        (
-            &["/nowhere", "1", "1970-01-01T00:00", "1970-01-01T00:00"],
+            "/nowhere, 1, 1970-01-01T00:00, 1970-01-01T00:00",
             2,
             "daemon: /nowhere: No such file",
         ),
         (
-            &[bad, "1", "2100-02-29T00:00", "2100-03-01T00:00"],
+            "~, 1, 2100-02-29T00:00, 2100-03-01T00:00",
             1,
             "daemon: 2100-02-29T00:00: refused 14: ",
         ),
-        (
-            &[bad, "1", "1970-01-01 00:00", "1970-01-01T00:00"],
-            2,
-            "usage: ",
-        ),
-        (
-            &[bad, "-1", "1970-01-01T00:00", "1970-01-01T00:00"],
-            2,
-            "usage: ",
-        ),
-        (&[bad, "1", "1970-01-01T00:00"], 2, "usage: "),
-        (
-            &[bad, "1000", "1970-01-01T00:00", "1970-01-01T00:00"],
-            2,
-            "usage: ",
-        ),
-        (
-            &[bad, "1", "1970-01-01T00:01", "1970-01-01T00:00"],
-            2,
-            "usage: ",
-        ),
-        (&[], 2, "usage: "),
+        ("~, 1, 1970-01-01 00:00, 1970-01-01T00:00", 2, "usage: "),
+        ("~, -1, 1970-01-01T00:00, 1970-01-01T00:00", 2, "usage: "),
+        ("~, 1, 1970-01-01T00:00", 2, "usage: "),
+        ("~, 1000, 1970-01-01T00:00, 1970-01-01T00:00", 2, "usage: "),
+        ("~, 1, 1970-01-01T00:01, 1970-01-01T00:00", 2, "usage: "),
+        ("", 2, "usage: "),
     ];
     for (arguments, status, start) in rows {
-        let output = run(&program, arguments);
-        assert_eq!(
-            told(&output),
-            (String::new(), Some(status)),
-            "{arguments:?}"
-        );
-        let said = String::from_utf8_lossy(&output.stderr);
-        assert!(said.starts_with(start), "{arguments:?}: {said}");
+        let arguments = arguments.replace('~', word(&path));
+        let words = arguments.split(", ").filter(|word| !word.is_empty());
+        let words: Vec<&str> = words.collect();
+        let output = run(&program, &words);
+        assert_eq!(told(&output), (String::new(), Some(status)), "{words:?}");
+        let said = complaint(&output);
+        assert!(said.starts_with(start), "{words:?}: {said}");
     }
 }

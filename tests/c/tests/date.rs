@@ -4,7 +4,7 @@ use c::{build, run, scratch, told};
 
 #[test]
 fn the_example_prints_dates_and_minutes_and_refuses_the_rest() {
-    let program = build("examples/date.c", &scratch("date"));
+    let program = build(&["examples/date.c"], &scratch("date"));
     let rows: [(&[&str], i32, &str); 8] = [
         (&["0"], 0, "1970-01-01 00:00 Thursday\n"),
         (&["15863040"], 0, "2000-02-29 00:00 Tuesday\n"),

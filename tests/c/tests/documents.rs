@@ -1,6 +1,6 @@
 //! What the README shows is what the commands print, and what PROMISES.md names is there.
 
-use c::{root, run, told};
+use c::{make, root, run, told};
 use std::collections::HashSet;
 use std::fs;
 use std::path::Path;
@@ -23,17 +23,17 @@ fn shown() -> Vec<String> {
 
 #[test]
 fn make_example_prints_what_is_shown() {
-    run("make", &["all"]);
-    let (text, status) = told(&run("make", &["-s", "example"]));
-    assert_eq!(status, Some(0));
+    let _ = make(&["all"]);
+    let (text, _) = told(&make(&["-s", "example"]));
     assert!(shown().contains(&text), "the README doesn't show:\n{text}");
 }
 
 #[test]
-fn crontab_check_prints_what_is_shown() {
-    run("make", &["all"]);
+fn eremothyn_check_prints_what_is_shown() {
+    let _ = make(&["all"]);
     let files = ["examples/observatory.crontab", "examples/broken.crontab"];
-    let (text, status) = told(&run(root().join("target/c/crontab_check"), &files));
+    let arguments = [&["check"], &files[..]].concat();
+    let (text, status) = told(&run(root().join("target/c/eremothyn"), &arguments));
     assert_eq!(status, Some(1));
     assert!(shown().contains(&text), "the README doesn't show:\n{text}");
 }
@@ -67,7 +67,7 @@ fn is_file(name: &str) -> bool {
 fn promises_names_what_is_there() {
     let mut known = HashSet::new();
     words(&root().join("crates"), &mut known);
-    words(&root().join("tests/queue"), &mut known);
+    words(&root().join("tests/compare"), &mut known);
     let promises = fs::read_to_string(root().join("docs/PROMISES.md")).expect("the promises");
     let quoted = promises.split('`').skip(1).step_by(2);
     let is_name = |name: &&str| {

@@ -1,25 +1,19 @@
 //! The installed tree as a C programmer uses it: by pkg-config, from C and C++, and by the manual.
 
-use c::{compile, root, run, scratch, told, word};
+use c::{compile, make, root, run, scratch, told, word};
 use std::fs;
 use std::path::Path;
-use std::sync::{Mutex, PoisonError};
 
 const PREFIX: &str = "/opt/engine";
 
-/// Tests run side by side, and what `make` builds in between is one tree.
-static MAKING: Mutex<()> = Mutex::new(());
-
-/// `make` at the root, for a tree below a folder.
-fn make(target: &str, folder: &Path) {
-    let _alone = MAKING.lock().unwrap_or_else(PoisonError::into_inner);
+/// `make` for a tree below a folder.
+fn make_below(folder: &Path, target: &str) {
     let below = format!("DESTDIR={}", word(folder));
-    let output = run("make", &[target, &below, &format!("PREFIX={PREFIX}")]);
-    assert!(output.status.success(), "{output:?}");
+    let _ = make(&[target, &below, &format!("PREFIX={PREFIX}")]);
 }
 
 fn install(folder: &Path) {
-    make("install", folder);
+    make_below(folder, "install");
 }
 
 /// What pkg-config answers for the tree below a folder.
@@ -93,12 +87,12 @@ fn the_installed_examples_build() {
 }
 
 #[test]
-fn the_installed_checker_runs_and_the_version_is_told() {
-    let folder = scratch("install-checker");
+fn the_installed_command_runs_and_the_version_is_told() {
+    let folder = scratch("install-command");
     install(&folder);
-    let checker = format!("{}{PREFIX}/bin/crontab_check", word(&folder));
+    let command = format!("{}{PREFIX}/bin/eremothyn", word(&folder));
     assert_eq!(
-        told(&run(checker, &["examples/observatory.crontab"])),
+        told(&run(&command, &["check", "examples/observatory.crontab"])),
         (
             "examples/observatory.crontab: 11 entries\n".to_string(),
             Some(0)
@@ -107,6 +101,8 @@ fn the_installed_checker_runs_and_the_version_is_told() {
     let header = fs::read_to_string(root().join("include/eremothyn.h")).expect("the header");
     let version = flags(&folder, &["--modversion"]);
     assert!(header.contains(&format!("EREMOTHYN_VERSION \"{}\"\n", version[0])));
+    let line = format!("eremothyn {}\n", version[0]);
+    assert_eq!(told(&run(&command, &["--version"])), (line, Some(0)));
 }
 
 /// Every function, refusal and limit of the header is in the manual, and `man FUNCTION` finds the page.
@@ -141,21 +137,31 @@ fn the_manual_has_all_of_the_header() {
     {
         assert!(page.contains(name), "{name}");
     }
-    for page in ["man1/crontab_check.1", "man3/eremothyn.3"] {
-        let page = format!("{manual}/{page}");
-        let output = run("groff", &["-t", "-man", "-ww", "-z", "-Tutf8", &page]);
-        assert!(
-            output.status.success() && output.stderr.is_empty(),
-            "{output:?}"
-        );
+}
+
+/// The formatter takes every page without a warning. Those of single functions only name another.
+#[test]
+fn the_pages_are_well_formed() {
+    let folder = scratch("install-pages");
+    install(&folder);
+    let manual = format!("{}{PREFIX}/share/man", word(&folder));
+    let (pages, _) = told(&run("find", &[&manual, "-name", "eremothyn*"]));
+    let pages = pages.lines().filter(|page| !page.contains('_'));
+    let mut count = 0;
+    for page in pages {
+        let output = run("groff", &["-t", "-man", "-ww", "-z", "-Tutf8", page]);
+        let silent = output.stdout.is_empty() && output.stderr.is_empty();
+        assert!(output.status.success() && silent, "{page}: {output:?}");
+        count += 1;
     }
+    assert!(count >= 4, "{count} pages");
 }
 
 #[test]
 fn uninstall_leaves_nothing() {
     let folder = scratch("install removed");
     install(&folder);
-    make("uninstall", &folder);
+    make_below(&folder, "uninstall");
     let left = run("find", &[word(&folder), "-type", "f"]);
     assert_eq!(told(&left), (String::new(), Some(0)));
 }

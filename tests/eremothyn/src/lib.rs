@@ -1,66 +1,14 @@
-//! The functions of `include/eremothyn.h`, each under its own name without the prefix.
+//! The functions of `include/eremothyn.h`, each under its own name without the prefix. No other package declares them.
 
-pub mod compare;
+mod calendar;
+mod declared;
+mod queue;
+mod run;
+mod table;
 
-/// A refusal is this plus its number.
-pub const REFUSED: u64 = 1 << 32;
-
-/// Refusal: minute or date not on the calendar.
-pub const NOT_ON_CALENDAR: u64 = 14;
-
-/// A number, or the number of a refusal.
-pub type Answer = Result<u64, u64>;
-
-// Numbers in, a number out, nothing required: safe to call with anything.
-unsafe extern "C" {
-    safe fn eremothyn_minute_of_date(
-        year: u64,
-        month: u64,
-        day: u64,
-        hour: u64,
-        minute: u64,
-    ) -> u64;
-    safe fn eremothyn_year(minute: u64) -> u64;
-    safe fn eremothyn_month(minute: u64) -> u64;
-    safe fn eremothyn_day(minute: u64) -> u64;
-    safe fn eremothyn_hour(minute: u64) -> u64;
-    safe fn eremothyn_minute_of_hour(minute: u64) -> u64;
-    safe fn eremothyn_weekday(minute: u64) -> u64;
-}
-
-pub fn minute_of_date(year: u64, month: u64, day: u64, hour: u64, minute: u64) -> Answer {
-    answer(eremothyn_minute_of_date(year, month, day, hour, minute))
-}
-
-pub fn year(minute: u64) -> Answer {
-    answer(eremothyn_year(minute))
-}
-
-pub fn month(minute: u64) -> Answer {
-    answer(eremothyn_month(minute))
-}
-
-pub fn day(minute: u64) -> Answer {
-    answer(eremothyn_day(minute))
-}
-
-pub fn hour(minute: u64) -> Answer {
-    answer(eremothyn_hour(minute))
-}
-
-pub fn minute_of_hour(minute: u64) -> Answer {
-    answer(eremothyn_minute_of_hour(minute))
-}
-
-pub fn weekday(minute: u64) -> Answer {
-    answer(eremothyn_weekday(minute))
-}
-
-/// Loses nothing: `Err(n)` stands for `REFUSED + n` and for no other answer.
-fn answer(raw: u64) -> Answer {
-    if raw > REFUSED {
-        Err(raw - REFUSED)
-    } else {
-        Ok(raw)
-    }
-}
+pub use calendar::{
+    day, hour, minute_of_date, minute_of_hour, month, weekday, year, NOT_ON_CALENDAR,
+};
+pub use declared::Table;
+pub use run::Run;
+pub use second::answer::{Answer, REFUSED};

@@ -73,6 +73,11 @@ impl Deref for Guarded {
     }
 }
 
+/// So many bytes that a buffer holds before a call.
+pub fn filled(length: usize) -> Vec<u8> {
+    (0..length).map(|at| (at * 29 + 7) as u8).collect()
+}
+
 /// So many bytes to stand in front: the last ones of a page of them.
 fn front(length: usize) -> &'static [u8] {
     static PAGE: OnceLock<Vec<u8>> = OnceLock::new();

@@ -2,6 +2,7 @@
 //! doesn't use, so that the two can be compared. It takes any 64-bit numbers. `random`, `schedule::samples` and
 //! `table::samples` are what the comparisons draw from.
 
+pub mod answer;
 pub mod calendar;
 pub mod command;
 pub mod queue;

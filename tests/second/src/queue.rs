@@ -1,7 +1,7 @@
 //! The paper's "The line of waiting jobs", as a list in memory.
 
+use crate::answer::Answer;
 use crate::calendar::LAST_MINUTE;
-use crate::schedule::Answer;
 use crate::table::{Table, When};
 
 const NOT_ON_CALENDAR: u64 = 14;

@@ -4,11 +4,9 @@
 
 pub mod samples;
 
+use crate::answer::Answer;
 use crate::calendar::{date_of, Clock, LAST_MINUTE};
 use std::sync::OnceLock;
-
-/// A minute, or the number of a refusal.
-pub type Answer = Result<u64, u64>;
 
 /// Refusal: the minute isn't on the calendar.
 const NOT_ON_CALENDAR: u64 = 14;
@@ -18,9 +16,6 @@ const NEVER: u64 = 16;
 
 /// Refusal: a minute of the cycle matches, but none that is left on the calendar.
 const PAST_THE_END: u64 = 17;
-
-/// To C a refusal is this plus its number.
-pub const REFUSED: u64 = 1 << 32;
 
 const MINUTES_PER_DAY: u64 = 1_440;
 const DAYS: u64 = (LAST_MINUTE + 1) / MINUTES_PER_DAY;
@@ -110,11 +105,6 @@ impl Schedule {
             .filter(|time| self.has_time(time / 60, time % 60))
             .collect()
     }
-}
-
-/// An answer as C gets it.
-pub fn to_c(answer: Answer) -> u64 {
-    answer.unwrap_or_else(|refusal| REFUSED + refusal)
 }
 
 fn has(set: impl Into<u64>, value: u64) -> bool {

@@ -5,9 +5,10 @@
 //! stars in 1 (bit 0 days, bit 1 weekdays), 4 that are zero, and the start in 8. `stdout` has a line for each: 1 or
 //! 0, whether the start matches, a space, and the next firing after it as C gets it.
 
+use second::answer::to_c;
 use second::random::Random;
 use second::schedule::samples::{self, DAY_SETS, STARS};
-use second::schedule::{to_c, Schedule};
+use second::schedule::Schedule;
 use std::path::Path;
 use std::process::ExitCode;
 use std::{env, fs, io};

@@ -1,9 +1,9 @@
 //! The paper's "What comes back": the calls with a table, each with its refusals in their order.
 
 use super::{read, Fault, Setting, Table, When};
+use crate::answer::Answer;
 use crate::calendar::LAST_MINUTE;
 use crate::command::{split, Command};
-use crate::schedule::Answer;
 
 const NO_ENTRY: u64 = 13;
 const NOT_ON_CALENDAR: u64 = 14;

@@ -1,4 +1,7 @@
-//! The entries and settings that stand as examples in the documents 000 to 004.
+//! The entries and settings that stand as examples in the documents 000 to 004, and the paper's known days.
+
+use crate::answer::Answer;
+use crate::calendar::LAST_MINUTE;
 
 /// An entry, and its first firings after minute 0, or else its refusal with the column.
 pub type Example = (&'static str, Result<&'static [u64], (u64, u64)>);
@@ -102,3 +105,28 @@ pub const SETTINGS: [(&str, &str, &str); 6] = [
     ("SHELL=/bin/sh", "SHELL", "/bin/sh"),
     ("TZ=Iceland", "TZ", "Iceland"),
 ];
+
+/// The known days of the paper and its tickets: an entry's fields, a minute, and the next firing after it.
+pub const KNOWN_DAYS: [(&str, u64, Answer); 17] = [
+    ("0 0 29 2 *", 66_355_200, Ok(70_561_440)),
+    // ticket 2026-03
+    ("0 0 29 2 */7", 62_147_520, Ok(83_184_480)),
+    ("0 0 */2 * 1", 0, Ok(4 * DAY)),
+    ("0 0 */2 * 1", 4 * DAY, Ok(18 * DAY)),
+    ("30 4 1,15 * 5", 0, Ok(270)),
+    ("30 4 1,15 * 5", 270, Ok(1_710)),
+    ("0 0 30 2 *", 0, Err(16)),
+    ("0 0 30 2 *", LAST_MINUTE, Err(16)),
+    ("0 0 30 2 *", LAST_MINUTE + 1, Err(14)),
+    ("0 0 30 2 1", 0, Ok(46_080)),
+    ("0 0 31 12 *", LAST_MINUTE, Err(17)),
+    ("0 0 31 12 *", LAST_MINUTE - DAY, Ok(LAST_MINUTE + 1 - DAY)),
+    ("* * * * *", 0, Ok(1)),
+    ("* * * * *", LAST_MINUTE - 1, Ok(LAST_MINUTE)),
+    ("* * * * *", LAST_MINUTE, Err(17)),
+    ("* * * * *", LAST_MINUTE + 1, Err(14)),
+    // ticket 2026-01; minute 0 is a Thursday
+    ("0 0 * * mon-fri", DAY, Ok(4 * DAY)),
+];
+
+const DAY: u64 = 1_440;

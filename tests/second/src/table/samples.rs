@@ -1,6 +1,8 @@
 //! Tables for the comparisons: good ones, bad lines with their place, and tables with some bytes changed.
 
+use super::{read, When};
 use crate::random::Random;
+use crate::schedule::Schedule;
 
 /// First and last value of each field.
 pub const LIMITS: [(u64, u64); 5] = [(0, 59), (0, 23), (1, 31), (1, 12), (0, 7)];
@@ -395,4 +397,14 @@ pub fn mutated(random: &mut Random, table: &[u8]) -> Vec<u8> {
 /// Any bytes of those that mean something.
 pub fn noise(random: &mut Random, length: u64) -> Vec<u8> {
     (0..length).map(|_| random.pick(BYTES)).collect()
+}
+
+/// The schedule of an entry with these five fields.
+pub fn schedule_of(fields: &str) -> Schedule {
+    let line = format!("{fields} a");
+    let table = read(line.as_bytes()).expect("a good table");
+    match table.entries[0].when {
+        When::Times(schedule) => schedule,
+        When::Reboot => panic!("{fields} has no times"),
+    }
 }

@@ -1,0 +1,69 @@
+// A schedule's functions, with no text to read.
+ghost use mathlib.Core.Path.{_≡_};
+ghost use Rattle.test_calls.specs.Schedules.{scheduleOf, nextNumber, matchNumber};
+use schedule::Schedule;
+use schedule::Stars;
+
+// The sets by their numbers, cut to their widths; bit 0 of `stars` is for the days, bit 1 for the weekdays.
+fn schedule_of(
+    minutes: u64,
+    hours: u64,
+    days: u64,
+    months: u64,
+    weekdays: u64,
+    stars: u64,
+) -> Schedule
+    ensures { λ r. ⌜ r ≡ scheduleOf minutes hours days months weekdays stars ⌝ }
+{
+    let begin = Stars {
+        days: stars % 2 == 1,
+        weekdays: stars / 2 % 2 == 1,
+    };
+    Schedule {
+        minutes,
+        hours: (hours % 4294967296) as u32,
+        days: (days % 4294967296) as u32,
+        months: (months % 65536) as u16,
+        weekdays: (weekdays % 256) as u8,
+        stars: begin,
+    }
+}
+
+// The minute of the next firing, or 4,294,967,296 and the refusal's number.
+#[no_mangle]
+pub extern "C" fn schedule_next(
+    minutes: u64,
+    hours: u64,
+    days: u64,
+    months: u64,
+    weekdays: u64,
+    stars: u64,
+    minute: u64,
+) -> u64
+    ensures { λ r. ⌜ r ≡ nextNumber (scheduleOf minutes hours days months weekdays stars) minute ⌝ }
+{
+    let s = schedule_of(minutes, hours, days, months, weekdays, stars);
+    let next = schedule::next_firing(s, minute);
+    let refusal = next.refusal();
+    if refusal == 0 {
+        return next.minute();
+    }
+    4_294_967_296 + refusal as u64
+}
+
+// 1 if the minute matches, otherwise 0.
+#[no_mangle]
+pub extern "C" fn schedule_matches(
+    minutes: u64,
+    hours: u64,
+    days: u64,
+    months: u64,
+    weekdays: u64,
+    stars: u64,
+    minute: u64,
+) -> u64
+    ensures { λ r. ⌜ r ≡ matchNumber (scheduleOf minutes hours days months weekdays stars) minute ⌝ }
+{
+    let s = schedule_of(minutes, hours, days, months, weekdays, stars);
+    if schedule::matches(s, minute) { 1 } else { 0 }
+}

@@ -1,0 +1,113 @@
+/* What the subcommands share. */
+
+#include <errno.h>
+#include <stdarg.h>
+#include <stdio.h>
+#include <string.h>
+
+#include "shared.h"
+
+static const struct command *speaker = NULL;
+
+void speak_for(const struct command *command)
+{
+    speaker = command;
+}
+
+/* The program's name, and the subcommand's. */
+static void print_name(FILE *file)
+{
+    fputs("eremothyn", file);
+    if (speaker != NULL)
+        fprintf(file, " %s", speaker->name);
+}
+
+int fail(const char *what)
+{
+    const char *why = strerror(errno);
+    print_name(stderr);
+    fprintf(stderr, ": %s: %s\n", what, why);
+    return FAILED;
+}
+
+int misuse(const char *format, ...)
+{
+    va_list values;
+    print_name(stderr);
+    fputs(": ", stderr);
+    va_start(values, format);
+    vfprintf(stderr, format, values);
+    va_end(values);
+    fputs("\nSee '", stderr);
+    print_name(stderr);
+    fputs(" --help'.\n", stderr);
+    return FAILED;
+}
+
+int written(int status)
+{
+    static bool said = false;
+    if (fflush(stdout) == 0 && !ferror(stdout))
+        return status;
+    if (!said)
+        fail("standard output");
+    said = true;
+    return FAILED;
+}
+
+/* Whether a word is an option, by its letter or by its name. */
+static bool is_option(const char *word, char letter, const char *name)
+{
+    if (word[1] == '-')
+        return strcmp(word + 2, name) == 0;
+    return word[1] == letter && word[2] == '\0';
+}
+
+/* The number of the option that a word is; where it is none of them, their count. */
+static int option_of(const struct option *options, const char *word)
+{
+    int number = 0;
+    while (options[number].name != NULL && !is_option(word, options[number].letter, options[number].name))
+        number++;
+    return number;
+}
+
+enum taken take_options(const struct option *options, int count, char **words, struct arguments *arguments)
+{
+    bool ended = false;
+    *arguments = (struct arguments){ 0, words, 0 };
+    for (int i = 0; i < count; i++) {
+        char *word = words[i];
+        if (ended || word[0] != '-' || word[1] == '\0') {
+            words[arguments->count++] = word;
+        } else if (strcmp(word, "--") == 0) {
+            ended = true;
+        } else if (is_option(word, 'h', "help")) {
+            return HELP_WANTED;
+        } else {
+            int number = option_of(options, word);
+            if (options[number].name == NULL) {
+                misuse("unknown option '%s'", word);
+                return MISUSED;
+            }
+            arguments->given |= 1u << number;
+        }
+    }
+    return TAKEN;
+}
+
+bool read_file(const char *name, struct file *file)
+{
+    bool named = strcmp(name, "-") != 0;
+    FILE *from = named ? fopen(name, "rb") : stdin;
+    if (from == NULL)
+        return false;
+    errno = 0;
+    file->length = fread(file->bytes, 1, sizeof file->bytes, from);
+    bool whole = !ferror(from);
+    int why = errno != 0 ? errno : EIO;
+    if (named)
+        fclose(from);
+    errno = why;
+    return whole;
+}

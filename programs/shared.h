@@ -1,0 +1,66 @@
+/* What the subcommands share: what one is, its arguments, files, messages and exit statuses. */
+
+#ifndef SHARED_H
+#define SHARED_H
+
+#include <stdbool.h>
+#include <stdint.h>
+
+#include "eremothyn.h"
+
+/* Exit statuses; of several files the highest counts. */
+enum { DONE = 0, REFUSED = 1, FAILED = 2 };
+
+/* An option that takes no value: -l and --name. A list of them ends with NO_OPTION. */
+struct option {
+    char letter;
+    const char *name;
+    const char *meaning;
+};
+#define NO_OPTION { 0, 0, 0 }
+
+/* What stands behind a subcommand. Bit n of `given` is the n-th of its options. */
+struct arguments {
+    int count;
+    char **operands;
+    unsigned given;
+};
+
+struct command {
+    const char *name;
+    const char *operands; /* as the usage line has them */
+    const char *purpose;  /* for the list of subcommands */
+    const char *details;  /* for its own help, in whole lines */
+    const struct option *options;
+    int (*run)(const struct arguments *arguments);
+};
+
+/* From now on messages are this subcommand's; at first they are the whole program's. */
+void speak_for(const struct command *command);
+
+/* Says that something failed, with the reason that errno has. */
+int fail(const char *what);
+
+/* Says what is wrong with the arguments, and where to find help. */
+int misuse(const char *format, ...);
+
+/* The status, or FAILED if something can't be written to standard output; then that is said, once. */
+int written(int status);
+
+/*
+ * Takes the options out of the words behind a subcommand, wherever they stand. "-" is an operand, and so is every word
+ * behind "--".
+ */
+enum taken { TAKEN, HELP_WANTED, MISUSED };
+enum taken take_options(const struct option *options, int count, char **words, struct arguments *arguments);
+
+/* A file's bytes. There is room for one more than a table may have: the library refuses a longer file, and it isn't cut. */
+struct file {
+    uint8_t bytes[EREMOTHYN_MAX_TABLE + 1];
+    uint64_t length;
+};
+
+/* Reads a file, or standard input by the name "-". If that fails, errno has the reason. */
+bool read_file(const char *name, struct file *file);
+
+#endif

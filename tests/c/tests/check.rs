@@ -1,0 +1,253 @@
+//! `eremothyn check`: what it says of good and bad tables, and of files that it can't read.
+
+use c::{build_command, complaint, scratch, told, word};
+use second::table::{read, samples};
+use std::ffi::OsStr;
+use std::fs;
+use std::io::Write;
+use std::path::PathBuf;
+use std::process::{Command, Output, Stdio};
+
+/// The command, built for a test, and the folder that it runs in.
+struct Check {
+    folder: PathBuf,
+    program: PathBuf,
+}
+
+impl Check {
+    fn new(name: &str) -> Check {
+        let folder = scratch(name);
+        let program = build_command(&folder);
+        Check { folder, program }
+    }
+
+    fn write(&self, name: &str, table: impl AsRef<[u8]>) -> PathBuf {
+        let path = self.folder.join(name);
+        fs::write(&path, table).expect("the table is written");
+        path
+    }
+
+    fn run<A: AsRef<OsStr>>(&self, arguments: &[A]) -> Output {
+        self.run_with(arguments, b"")
+    }
+
+    /// The same with a standard input.
+    fn run_with<A: AsRef<OsStr>>(&self, arguments: &[A], input: &[u8]) -> Output {
+        let mut child = Command::new(&self.program)
+            .current_dir(&self.folder)
+            .arg("check")
+            .args(arguments)
+            .stdin(Stdio::piped())
+            .stdout(Stdio::piped())
+            .stderr(Stdio::piped())
+            .spawn()
+            .expect("the command runs");
+        // A command that doesn't read its input may be gone already.
+        let _ = child.stdin.take().expect("a pipe").write_all(input);
+        child.wait_with_output().expect("the command ends")
+    }
+}
+
+/// The paper's words of each fault, in short, and a table that has it: line and column beside.
+const FAULTS: [(u64, &str, &str, &str); 9] = [
+    (3, "1:1", "\0", "the line has a byte 0"),
+    (4, "1:4", "5 5", "fewer than five time fields"),
+    (5, "2:3", "#\n0 5/2 * * * x", "not a time field: *, */step, or a list of n, n-m and n-m/step, with names for months and weekdays"),
+    (6, "1:1", "60 0 * * * x", "a number outside its limits: minute 0-59, hour 0-23, day 1-31, month 1-12, weekday 0-7"),
+    (7, "1:3", "0 10-9 * * * x", "a range from high to low"),
+    (8, "1:1", "*/0 0 * * * x", "a step of 0"),
+    (9, "1:10", "0 0 * * *", "no command after the time"),
+    (10, "1:1", "@noon x", "not one of @reboot, @yearly, @annually, @monthly, @weekly, @daily, @midnight and @hourly"),
+    (11, "1:2", "\tname", "neither an entry nor a setting, which is name=value"),
+];
+
+#[test]
+fn a_good_table_is_counted_and_a_bad_one_is_refused_with_its_place() {
+    let check = Check::new("check-faults");
+    let says = |table: &str| {
+        let path = check.write("table", table);
+        let (text, status) = told(&check.run(&[&path]));
+        let verdict = text.strip_prefix(word(&path)).expect("the file's name");
+        (verdict.to_string(), status)
+    };
+    assert_eq!(says(""), (": 0 entries\n".to_string(), Some(0)));
+    assert_eq!(says("@hourly x"), (": 1 entries\n".to_string(), Some(0)));
+
+    let mut faults: Vec<(u64, &str, String, &str)> = FAULTS
+        .map(|(number, place, table, words)| (number, place, table.to_string(), words))
+        .into();
+    faults.push((
+        1,
+        "0:0",
+        "#\n".repeat(8193),
+        "the table has more than 16384 bytes",
+    ));
+    faults.push((
+        2,
+        "2:1001",
+        format!("\n#{}", "x".repeat(1000)),
+        "the line has more than 1000 bytes",
+    ));
+    faults.push((
+        12,
+        "129:1",
+        "@reboot x\n".repeat(129),
+        "more than 128 entries",
+    ));
+    for (number, place, table, words) in faults {
+        let verdict = format!(":{place}: refused {number}: {words}\n");
+        assert_eq!(says(&table), (verdict, Some(1)));
+    }
+}
+
+/// Names are printed as they were given; behind `--` they may look like options.
+#[test]
+fn long_and_odd_names_are_names() {
+    let check = Check::new("check-names");
+    let long = "n".repeat(255);
+    for name in [
+        "--help",
+        "-x",
+        "--",
+        "%s %n",
+        "a:3:4",
+        "l\nine",
+        "caf\u{e9} \u{1f319}",
+        &long,
+    ] {
+        let path = check.write(name, "0 0 * * * x\n");
+        let line = format!("{}: 1 entries\n", word(&path));
+        assert_eq!(told(&check.run(&[&path])), (line, Some(0)));
+        let line = format!("{name}: 1 entries\n");
+        assert_eq!(told(&check.run(&["--", name])), (line, Some(0)));
+    }
+    // A file named `-` has another name, too.
+    check.write("-", "0 0 * * * x\n");
+    let line = "./-: 1 entries\n".to_string();
+    assert_eq!(told(&check.run(&["./-"])), (line, Some(0)));
+}
+
+#[test]
+fn a_dash_is_standard_input() {
+    let check = Check::new("check-input");
+    check.write("-", "@");
+    let rows: [(&[&str], &[u8], &str, i32); 5] = [
+        (&["-"], b"@daily x\n", "-: 1 entries\n", 0),
+        (&["-"], b"", "-: 0 entries\n", 0),
+        (&["-"], b"\n@", "-:2:1: refused 10: ", 1),
+        (&["--", "-"], b"@daily x\n", "-: 1 entries\n", 0),
+        // What has been read once is read.
+        (
+            &["-", "-"],
+            b"@daily x\n",
+            "-: 1 entries\n-: 0 entries\n",
+            0,
+        ),
+    ];
+    for (arguments, input, start, status) in rows {
+        let (text, found) = told(&check.run_with(arguments, input));
+        assert!(text.starts_with(start), "{arguments:?}: {text}");
+        assert_eq!(found, Some(status), "{arguments:?}");
+    }
+    let long = check.run_with(&["-"], &[b'\n'; 1 << 20]);
+    assert!(told(&long).0.starts_with("-:0:0: refused 1: "), "{long:?}");
+}
+
+#[test]
+fn several_files_get_a_line_each_and_the_worst_status() {
+    let check = Check::new("check-several");
+    check.write("good", "");
+    check.write("bad", "@");
+    let status = |names: &[&str]| {
+        let output = check.run(names);
+        let lines = output.stdout.iter().filter(|&&byte| byte == b'\n').count();
+        (output.status.code(), lines)
+    };
+    assert_eq!(status(&["good", "good"]), (Some(0), 2));
+    assert_eq!(status(&["bad", "good"]), (Some(1), 2));
+    assert_eq!(status(&["missing", "bad", "good"]), (Some(2), 2));
+}
+
+#[test]
+fn what_cannot_be_read_is_said() {
+    let check = Check::new("check-unreadable");
+    for (name, why) in [
+        ("missing", "No such file or directory"),
+        (word(&check.folder), "Is a directory"),
+        ("", "No such file or directory"),
+    ] {
+        let output = check.run(&[name]);
+        assert_eq!(told(&output), (String::new(), Some(2)));
+        let line = format!("eremothyn check: {name}: {why}\n");
+        assert_eq!(complaint(&output), line);
+    }
+    let endless = told(&check.run(&["/dev/zero"]));
+    assert!(
+        endless.0.starts_with("/dev/zero:0:0: refused 1: "),
+        "{endless:?}"
+    );
+}
+
+/// Wrong arguments are said before any file is read.
+#[test]
+fn wrong_arguments_are_said() {
+    let check = Check::new("check-misused");
+    check.write("good", "");
+    let hint = "See 'eremothyn check --help'.\n";
+    let rows: [(&[&str], &str); 6] = [
+        (&[], "no file is named"),
+        (&["--"], "no file is named"),
+        (&["-x", "good"], "unknown option '-x'"),
+        (&["good", "-x"], "unknown option '-x'"),
+        (&["--helpp"], "unknown option '--helpp'"),
+        (&["-hx", "good"], "unknown option '-hx'"),
+    ];
+    for (arguments, wrong) in rows {
+        let output = check.run(arguments);
+        assert_eq!(told(&output), (String::new(), Some(2)), "{arguments:?}");
+        assert_eq!(
+            complaint(&output),
+            format!("eremothyn check: {wrong}\n{hint}")
+        );
+    }
+}
+
+/// Random good and damaged tables in one call: each line is what the second program says.
+#[test]
+fn it_says_what_the_second_program_says() {
+    let check = Check::new("check-random");
+    let mut random = second::random::Random::seeded();
+    let mut paths = Vec::new();
+    let mut expected = Vec::new();
+    for i in 0..1000 {
+        let good = samples::table(&mut random, i % 20);
+        let table = match i % 2 {
+            0 => good,
+            _ => samples::mutated(&mut random, &good),
+        };
+        let path = check.write(&i.to_string(), &table);
+        expected.push(match read(&table) {
+            Ok(read) => format!("{}: {} entries", word(&path), read.entries.len()),
+            Err(fault) => format!(
+                "{}:{}:{}: refused {}: ",
+                word(&path),
+                fault.line,
+                fault.column,
+                fault.number
+            ),
+        });
+        paths.push(path);
+    }
+    let (text, _) = told(&check.run(&paths));
+    let lines: Vec<&str> = text.lines().collect();
+    assert_eq!(lines.len(), expected.len());
+    for (line, expected) in lines.iter().zip(&expected) {
+        match expected.ends_with("entries") {
+            true => assert_eq!(line, expected),
+            false => assert!(
+                line.starts_with(expected.as_str()),
+                "{line}, not {expected}"
+            ),
+        }
+    }
+}

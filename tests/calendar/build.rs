@@ -1,5 +1,0 @@
-include!("../link.rs");
-
-fn main() {
-    link("calendar_calls");
-}

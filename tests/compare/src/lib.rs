@@ -1,0 +1,6 @@
+//! The library's calls, each answer compared with the second program's. Every run of bytes is lent as `guard` has it.
+
+pub mod calendar;
+pub mod queue;
+pub mod samples;
+pub mod table;

@@ -1,0 +1,214 @@
+//! A table, and a line of it in one buffer, beside the second program's list. Each call is lent a copy of the buffer's
+//! first bytes, as many as the caller likes. The lent bytes end at guard pages, and the table's are read-only.
+
+use eremothyn::{Answer, Table};
+use guard::{filled, Guarded};
+use second::queue::Queue;
+use second::table::{self, read, When};
+use std::fmt::Debug;
+
+/// Refusal: not a waiting line of this table, or too little room for one.
+const NO_LINE: u64 = 28;
+
+/// A good table.
+pub struct Case<'a> {
+    bytes: &'a [u8],
+    lent: Guarded,
+    pub table: table::Table<'a>,
+    /// The least room that the library takes for a line of the table.
+    pub least: usize,
+}
+
+impl<'a> Case<'a> {
+    pub fn of(bytes: &'a [u8]) -> Case<'a> {
+        let table = read(bytes).expect("a good table");
+        let lent = Guarded::read_only(bytes);
+        let least = least_room(&lent, table.entries.len());
+        Case {
+            bytes,
+            lent,
+            table,
+            least,
+        }
+    }
+
+    pub fn count(&self) -> usize {
+        self.table.entries.len()
+    }
+
+    /// The next firing of an entry, by the second program.
+    pub fn next(&self, entry: u64, minute: u64) -> Answer {
+        match self.table.entries[entry as usize].when {
+            When::Times(schedule) => schedule.next_after(minute),
+            When::Reboot => Err(15),
+        }
+    }
+
+    /// As much room as is always enough.
+    pub fn enough(&self) -> usize {
+        8 * self.count() + 64
+    }
+
+    /// A call that is lent the table and a room.
+    fn ask<T>(&self, room: &mut [u8], call: impl FnOnce(Table, &mut [u8]) -> T) -> T {
+        Guarded::lend(room, |room| call(Table::of(&self.lent), room))
+    }
+}
+
+/// The least room that a fresh line is accepted in. What is refused changes no byte.
+fn least_room(table: &[u8], entries: usize) -> usize {
+    let most = 8 * entries + 64;
+    let accepted = |length: &usize| {
+        let mut room = filled(*length);
+        let answer = Guarded::lend(&mut room, |room| Table::of(table).queue_init(room));
+        if answer.is_err() {
+            assert_eq!(answer, Err(NO_LINE), "a room of {length} bytes");
+            assert_eq!(room, filled(*length));
+        }
+        answer.is_ok()
+    };
+    let least = (0..=most).find(accepted);
+    least.unwrap_or_else(|| panic!("{most} bytes aren't enough for {entries} entries"))
+}
+
+/// The library's line and the second program's.
+pub struct Compared {
+    pub room: Vec<u8>,
+    pub queue: Queue,
+}
+
+impl Compared {
+    /// A fresh line in a buffer of so many bytes.
+    pub fn fresh(case: &Case, length: usize) -> Compared {
+        let mut compared = Compared {
+            room: filled(length),
+            queue: Queue::default(),
+        };
+        let _ = compared.init(case, length);
+        compared
+    }
+
+    pub fn init(&mut self, case: &Case, lent: usize) -> Answer {
+        let second = |queue: &mut Queue| {
+            *queue = Queue::fresh(&case.table);
+            Ok(queue.waiting.len() as u64)
+        };
+        let call = |table: Table, room: &mut [u8]| table.queue_init(room);
+        self.call(case, lent, "init", call, second)
+    }
+
+    pub fn tick(&mut self, case: &Case, lent: usize, minute: u64) -> Answer {
+        let call = |table: Table, room: &mut [u8]| table.queue_tick(room, minute);
+        let second = |queue: &mut Queue| queue.tick(&case.table, minute);
+        self.call(case, lent, ("tick", minute), call, second)
+    }
+
+    pub fn pop(&mut self, case: &Case, lent: usize) -> Result<Option<u64>, u64> {
+        let second = |queue: &mut Queue| queue.pop(&case.table);
+        self.call(case, lent, "pop", pop, second)
+    }
+
+    /// A call of both, with what it may change.
+    fn call<T: PartialEq + Debug>(
+        &mut self,
+        case: &Case,
+        lent: usize,
+        what: impl Debug,
+        library: impl FnOnce(Table, &mut [u8]) -> Result<T, u64>,
+        second: impl FnOnce(&mut Queue) -> Result<T, u64>,
+    ) -> Result<T, u64> {
+        let before = self.room.clone();
+        let waiting = self.queue.waiting.clone();
+        let expected = if lent < case.least {
+            Err(NO_LINE)
+        } else {
+            second(&mut self.queue)
+        };
+        let answer = case.ask(&mut self.room[..lent], library);
+        assert_eq!(
+            answer,
+            expected,
+            "{what:?} in {lent} bytes of room, {waiting:?} waiting, of \"{}\": library, second program",
+            case.bytes.escape_ascii()
+        );
+        let stays = if answer.is_ok() { case.least } else { 0 };
+        assert_eq!(
+            self.room[stays..],
+            before[stays..],
+            "{what:?}: bytes that stay"
+        );
+        answer
+    }
+
+    /// Requests until nothing waits, on a copy of the line, and compares what is named.
+    pub fn assert_waiting(&self, case: &Case) {
+        let drained = drain(case, &self.room).expect("a line");
+        assert_eq!(drained, self.queue.waiting);
+    }
+}
+
+fn pop(table: Table, room: &mut [u8]) -> Result<Option<u64>, u64> {
+    table.queue_pop(room)
+}
+
+/// What waits in a room, named by requests on a copy of it.
+pub fn drain(case: &Case, room: &[u8]) -> Result<Vec<u64>, u64> {
+    let mut room = room.to_vec();
+    let mut waiting = Vec::new();
+    while let Some(entry) = case.ask(&mut room, pop)? {
+        waiting.push(entry);
+        assert!(waiting.len() <= case.count(), "{waiting:?} wait");
+    }
+    // Nothing waits, and asking again changes nothing.
+    let before = room.clone();
+    assert_eq!(case.ask(&mut room, pop), Ok(None));
+    assert_eq!(room, before);
+    Ok(waiting)
+}
+
+/// Every call with a bad table: the table's refusal, whatever room and minute are, and no byte of the room changes.
+pub fn refused(table: &[u8], number: u64, room: &[u8], minute: u64) {
+    let lent = Guarded::read_only(table);
+    let refused = |refusal: &dyn Fn(&mut [u8]) -> Option<u64>| {
+        let mut after = room.to_vec();
+        let shown = table.escape_ascii();
+        assert_eq!(Guarded::lend(&mut after, refusal), Some(number), "{shown}");
+        assert_eq!(after, room, "{shown}");
+    };
+    let lent = Table::of(&lent);
+    refused(&|room| lent.queue_init(room).err());
+    refused(&|room| lent.queue_tick(room, minute).err());
+    refused(&|room| lent.queue_pop(room).err());
+}
+
+/// A room with any bytes: no line, or else some line, and then every call says the same of it.
+pub fn judge(case: &Case, room: &[u8], minute: u64) -> bool {
+    const OFF_CALENDAR: u64 = u64::MAX;
+    let tick = |minute: u64| {
+        let mut room = room.to_vec();
+        let call = |table: Table, room: &mut [u8]| table.queue_tick(room, minute);
+        (case.ask(&mut room, call), room)
+    };
+    match drain(case, room) {
+        Err(refusal) => {
+            assert_eq!(refusal, NO_LINE);
+            let mut popped = room.to_vec();
+            assert_eq!(case.ask(&mut popped, pop), Err(NO_LINE));
+            assert_eq!(popped, room);
+            for minute in [minute, OFF_CALENDAR] {
+                assert_eq!(tick(minute), (Err(NO_LINE), room.to_vec()));
+            }
+            false
+        }
+        Ok(waiting) => {
+            let mut queue = Queue { waiting };
+            assert!(queue.is_line_of(&case.table), "{queue:?}");
+            assert_eq!(tick(OFF_CALENDAR), (Err(14), room.to_vec()));
+            let (answer, after) = tick(minute);
+            assert_eq!(answer, queue.tick(&case.table, minute));
+            assert_eq!(drain(case, &after), Ok(queue.waiting));
+            assert_eq!(after[case.least..], room[case.least..]);
+            true
+        }
+    }
+}

@@ -1,0 +1,68 @@
+//! Dates, tables and rooms for the comparisons.
+
+use second::random::Random;
+use second::table::samples;
+
+/// Year, month, day, hour and minute of a date, each of which may be a little past its limits.
+pub fn date(random: &mut Random) -> [u64; 5] {
+    let spans = [(1960, 8_050), (0, 14), (0, 33), (0, 25), (0, 61)];
+    spans.map(|(first, count)| first + random.below(count))
+}
+
+/// A table of so many entries, each written as given.
+pub fn alike(entry: &str, entries: usize) -> Vec<u8> {
+    format!("{entry} a\n").repeat(entries).into_bytes()
+}
+
+/// A table of so many entries, some that boot, and some that fire often.
+pub fn busy_table(random: &mut Random, entries: u64) -> Vec<u8> {
+    let often = [
+        "* * * * *",
+        "*/2 * * * *",
+        "1-59/2 * * * *",
+        "*/5 * * * *",
+        "0 * * * *",
+        "* 0 * * *",
+        "@hourly",
+        "@daily",
+        "@reboot",
+        "* * 1,15 * 5",
+        "0 0 29 2 *",
+        "0 0 30 2 *",
+        "* * * * 7",
+        "59 23 31 12 *",
+    ];
+    let mut table = Vec::new();
+    for _ in 0..entries {
+        match random.below(10) {
+            0 => table.extend(b"# comment\n"),
+            1 => table.extend(b"A=b\n"),
+            _ => {}
+        }
+        let line = match random.below(8) {
+            0 => format!("{} a", samples::fields(random).join(" ")),
+            _ => format!("{} a%b", random.pick(&often)),
+        };
+        table.extend(line.bytes());
+        table.push(b'\n');
+    }
+    table
+}
+
+/// Changes one to three bytes of a line, perhaps to numbers of entries or just past them.
+pub fn damage(random: &mut Random, room: &mut [u8], entries: u64) {
+    let length = room.len() as u64;
+    if length == 0 {
+        return;
+    }
+    for _ in 0..1 + random.below(3) {
+        let at = random.below(length) as usize;
+        room[at] = match random.below(5) {
+            0 => random.number() as u8,
+            1 => random.below(entries + 2) as u8,
+            2 => room[random.below(length) as usize],
+            3 => room[at] ^ 1 << random.below(8),
+            _ => room[at].wrapping_add(1),
+        };
+    }
+}

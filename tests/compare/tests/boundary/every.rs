@@ -1,0 +1,31 @@
+//! Every function that is lent a table.
+
+use crate::{numbers, rooms};
+use compare::table::Compared;
+use second::random::Random;
+
+/// Every call with a table, with numbers of every size, and with buffers and rooms about as long as is needed.
+pub fn every_call(random: &mut Random, table: &[u8]) {
+    let compared = Compared::of(table);
+    compared.everything(random);
+    any_numbers(random, &compared);
+    rooms::every_call(random, table, compared.check());
+}
+
+/// Every call that takes a number, with numbers that are seldom there.
+fn any_numbers(random: &mut Random, compared: &Compared) {
+    let count = compared.check().unwrap_or(2);
+    for _ in 0..4 {
+        let entry = numbers::number(random, count);
+        let minute = numbers::minute(random);
+        let _ = compared.due(entry, minute);
+        let _ = compared.next(entry, minute);
+        let _ = compared.stdin_length(entry);
+        let _ = compared.setting(numbers::number(random, count));
+        let about = compared.needed(entry).map(|needed| {
+            let length = needed as u64 + random.below(5);
+            length.saturating_sub(2) as usize
+        });
+        let _ = compared.split_command(entry, about);
+    }
+}

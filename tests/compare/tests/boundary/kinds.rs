@@ -1,0 +1,40 @@
+//! Every call with tables of all kinds.
+
+use crate::bytes;
+use crate::every::every_call;
+use second::random::Random;
+
+#[test]
+fn every_call_with_small_tables() {
+    let mut random = Random::seeded();
+    for _ in 0..60_000 {
+        let table = bytes::table(&mut random);
+        every_call(&mut random, &table);
+    }
+}
+
+/// Any bytes, of every length about pages and the longest table.
+#[test]
+fn every_call_with_any_bytes_of_all_lengths() {
+    let mut random = Random::seeded();
+    let pages = (1..=5).flat_map(|page| [4_096 * page - 1, 4_096 * page, 4_096 * page + 1]);
+    for length in (0..300).chain(pages) {
+        for _ in 0..10 {
+            let table = bytes::any(&mut random, length);
+            every_call(&mut random, &table);
+        }
+    }
+}
+
+/// A good table cut short at every place, so that it ends at the guard page in the midst of everything.
+#[test]
+fn every_call_with_tables_cut_at_every_place() {
+    let mut random = Random::seeded();
+    let table =
+        b"# a\n \tA = 'b' \n\"c\"=d\n1-2/3,4 */5 6,7 fEb 0-7\ta\\%%b\\\n@reboot \\\n@weekly %";
+    for length in 0..=table.len() {
+        for start in 0..=length {
+            every_call(&mut random, &table[start..length]);
+        }
+    }
+}

@@ -1,0 +1,135 @@
+//! Tables at the limits and one past them.
+
+use crate::every::every_call;
+use compare::table::Compared;
+use second::random::Random;
+use second::table::{ENTRIES, LINE_BYTES, TABLE_BYTES};
+
+/// A table, and number, line and column of its refusal.
+type Row = (Vec<u8>, Option<[u64; 3]>);
+
+const TOO_LONG: Option<[u64; 3]> = Some([1, 0, 0]);
+
+/// How entries, settings, comments and blank lines start, and a byte that they go on with.
+const STARTS: [(&str, u8); 10] = [
+    ("* * * * * ", b'a'),
+    ("* * * * * a", b'%'),
+    ("1,2 3-4 */5 jan mon %", b'a'),
+    ("@reboot ", b'a'),
+    ("@daily ", b'\\'),
+    ("a=", b'a'),
+    ("a=b", b' '),
+    ("'a'=", b'a'),
+    ("#", b'a'),
+    ("", b' '),
+];
+
+/// A line that is filled up to a length.
+fn line((start, byte): (&str, u8), length: usize) -> Vec<u8> {
+    let mut line = start.as_bytes().to_vec();
+    line.resize(length, byte);
+    line
+}
+
+/// A text again and again, so many bytes in all.
+fn cycled(text: &[u8], total: usize) -> Vec<u8> {
+    text.iter().copied().cycle().take(total).collect()
+}
+
+/// Lines about as long as may be, alone and among others.
+fn long_lines() -> Vec<Row> {
+    let mut rows = Vec::new();
+    let mut add = |line: Vec<u8>| {
+        let over = line.len() > LINE_BYTES;
+        for (before, end, number) in [("", "", 1), ("", "\n", 1), ("#\n\n", "\n#\n", 3)] {
+            let table = [before.as_bytes(), &line, end.as_bytes()].concat();
+            rows.push((table, over.then_some([2, number, 1_001])));
+        }
+    };
+    for length in LINE_BYTES - 1..=LINE_BYTES + 1 {
+        for start in STARTS {
+            add(line(start, length));
+        }
+        // A name up to the last byte.
+        add([&line(("", b'n'), length - 1)[..], b"="].concat());
+    }
+    rows
+}
+
+/// Tables about as long as may be.
+fn long_tables() -> Vec<Row> {
+    let mut rows = Vec::new();
+    for start in STARTS {
+        let lines = |length: usize, total: usize| {
+            let line = [&line(start, length)[..], b"\n"].concat();
+            cycled(&line, total)
+        };
+        // 16 whole lines and one of 368 bytes
+        rows.push((lines(LINE_BYTES, TABLE_BYTES), None));
+        rows.push((lines(LINE_BYTES, TABLE_BYTES + 1), TOO_LONG));
+        // 128 lines of 128 bytes with their newlines
+        rows.push((lines(127, TABLE_BYTES - 1), None));
+        rows.push((lines(127, TABLE_BYTES), None));
+        rows.push((lines(127, TABLE_BYTES + 1), TOO_LONG));
+        // In 16 bits this is the length of one such line.
+        rows.push((lines(127, (1 << 16) + 127), TOO_LONG));
+    }
+    let texts: [(&[u8], Option<[u64; 3]>); 7] = [
+        (b"\n", None),
+        (b"# a comment\n", None),
+        (b"A=b\n", None),
+        (b"\0\n", Some([3, 1, 1])),
+        (b"60\n", Some([6, 1, 1])),
+        (b" ", Some([2, 1, 1_001])),
+        (b"\0", Some([2, 1, 1_001])),
+    ];
+    for (text, fault) in texts {
+        rows.push((cycled(text, TABLE_BYTES - 1), fault));
+        rows.push((cycled(text, TABLE_BYTES), fault));
+        for over in [TABLE_BYTES + 1, 2 * TABLE_BYTES, 100_000] {
+            rows.push((cycled(text, over), TOO_LONG));
+        }
+    }
+    rows
+}
+
+/// Tables with about as many entries as may be.
+fn many_entries() -> Vec<Row> {
+    let mut rows = Vec::new();
+    for start in ["* * * * *", "@reboot", "@daily", "0-59/7 0 29 2 *"] {
+        let entries = |count: usize| format!("{start} a%b\n").repeat(count).into_bytes();
+        rows.push((entries(ENTRIES), None));
+        rows.push((entries(ENTRIES + 1), Some([12, 129, 1])));
+        rows.push(([&entries(ENTRIES)[..], b"a=b"].concat(), None));
+    }
+    rows
+}
+
+fn rows() -> Vec<Row> {
+    [long_lines(), long_tables(), many_entries()].concat()
+}
+
+#[test]
+fn tables_at_the_limits() {
+    let mut random = Random::seeded();
+    for (table, fault) in rows() {
+        let shown = table[..table.len().min(50)].escape_ascii();
+        let found = Compared::of(&table).fault();
+        assert_eq!(found, fault, "{shown}, {} bytes", table.len());
+        every_call(&mut random, &table);
+    }
+}
+
+#[test]
+fn tables_at_the_limits_with_one_byte_changed() {
+    let mut random = Random::seeded();
+    for (mut table, _) in rows() {
+        for _ in 0..10 {
+            let at = random.below(table.len() as u64) as usize;
+            let byte = random.pick(b"\0\n \t%\\*@#='\"1a\xff");
+            let before = std::mem::replace(&mut table[at], byte);
+            Compared::of(&table).everything(&mut random);
+            table[at] = before;
+        }
+    }
+}

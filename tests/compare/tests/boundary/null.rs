@@ -1,0 +1,78 @@
+//! A null pointer with length 0 is an empty run of bytes like any other, for every pointer of every function.
+
+use crate::raw::{judged, queue_answers, split, table_answers, Place};
+use compare::queue::Case;
+use eremothyn::{Answer, REFUSED};
+use guard::Guarded;
+use std::ptr;
+
+const NO_ENTRY: Answer = Err(13);
+const TOO_SHORT: Answer = Err(18);
+const NO_SETTING: Answer = Err(19);
+const NO_LINE: Answer = Err(28);
+
+/// Runs a test with each empty run of bytes: nowhere, and at a guard page.
+fn for_each_empty(test: impl Fn(Place)) {
+    test(Place(ptr::null_mut(), 0));
+    test(Place::of(&Guarded::read_only(b"")));
+}
+
+#[test]
+fn no_table() {
+    let [a, b] = [NO_ENTRY, NO_SETTING];
+    for_each_empty(|empty| {
+        let table = empty.table();
+        assert_eq!(judged(table), (Ok(0), 0, 0));
+        for number in [0, 1, u64::MAX] {
+            let answers = table_answers(table, number, number);
+            assert_eq!(answers, [a, a, a, b, b, b, b]);
+            let mut bytes = [7];
+            for buffer in [empty, Place::of_mut(&mut bytes)] {
+                assert_eq!(split(table, number, buffer, empty), NO_ENTRY);
+                assert_eq!(split(table, number, empty, buffer), NO_ENTRY);
+            }
+            assert_eq!(bytes, [7]);
+        }
+    });
+}
+
+#[test]
+fn no_buffer() {
+    let table = Guarded::read_only(b"@daily a%b\n@daily a\n@daily a%\n@daily %\n@daily %b\n");
+    let table = Place::of(&table).table();
+    // The answers with no buffer for the shell line, with none for the input, and with neither.
+    let rows = [
+        (0, [TOO_SHORT, TOO_SHORT, TOO_SHORT]),
+        (1, [TOO_SHORT, Ok(1), TOO_SHORT]),
+        (2, [TOO_SHORT, Ok(1), TOO_SHORT]),
+        (3, [Ok(0), Ok(0), Ok(0)]),
+        (4, [Ok(0), TOO_SHORT, TOO_SHORT]),
+        (5, [NO_ENTRY, NO_ENTRY, NO_ENTRY]),
+    ];
+    for_each_empty(|empty| {
+        for (entry, answers) in rows {
+            let mut byte = [7];
+            let some = Place::of_mut(&mut byte);
+            let pairs = [(empty, some), (some, empty), (empty, empty)];
+            let found = pairs.map(|(shell, input)| split(table, entry, shell, input));
+            assert_eq!(found, answers, "entry {entry}");
+        }
+    });
+}
+
+#[test]
+fn no_room() {
+    let entry = Guarded::read_only(b"@reboot a");
+    let entry = Place::of(&entry).table();
+    let least = Case::of(b"").least;
+    for_each_empty(|empty| {
+        assert_eq!(queue_answers(entry, empty), [NO_LINE; 3]);
+        // A table without entries has a line, and whether that needs room is the library's own affair.
+        let mut room = vec![7; least];
+        let answers = queue_answers(empty.table(), Place::of_mut(&mut room));
+        assert_eq!(answers, [Ok(0), Ok(0), Ok(REFUSED)]);
+        if least > 0 {
+            assert_eq!(queue_answers(empty.table(), empty), [NO_LINE; 3]);
+        }
+    });
+}

@@ -1,0 +1,58 @@
+//! The C functions with any pointers and lengths, as no slice has them.
+
+use eremothyn::{Answer, Run, Table};
+
+/// Where bytes start, and how many they are said to be.
+#[derive(Clone, Copy)]
+pub struct Place(pub *mut u8, pub u64);
+
+impl Place {
+    /// Bytes that the call only reads.
+    pub fn of(bytes: &[u8]) -> Place {
+        Place(bytes.as_ptr().cast_mut(), bytes.len() as u64)
+    }
+
+    pub fn of_mut(bytes: &mut [u8]) -> Place {
+        Place(bytes.as_mut_ptr(), bytes.len() as u64)
+    }
+
+    pub fn table(self) -> Table<'static> {
+        // SAFETY: a call that touches what isn't lent kills the process, which is what the tests are for. So below.
+        unsafe { Table::at(self.0, self.1) }
+    }
+
+    pub fn run(self) -> Run<'static> {
+        unsafe { Run::at(self.0, self.1) }
+    }
+}
+
+/// An answer in which none, "no input" or "nothing waits", is the number that C gets for it.
+pub fn number(answer: Result<Option<u64>, u64>) -> Answer {
+    answer.map(|some| some.unwrap_or(eremothyn::REFUSED))
+}
+
+/// Due, next and the input's length of an entry; the four parts of a setting.
+pub fn table_answers(table: Table, entry: u64, line: u64) -> [Answer; 7] {
+    let [a, b, c, d] = table.setting(line);
+    let due = table.due(entry, 0);
+    let next = table.next(entry, 0);
+    [due, next, number(table.stdin_length(entry)), a, b, c, d]
+}
+
+/// Check, fault line and fault column.
+pub fn judged(table: Table) -> (Answer, u64, u64) {
+    (table.check(), table.fault_line(), table.fault_column())
+}
+
+pub fn split(table: Table, entry: u64, shell: Place, input: Place) -> Answer {
+    table.split_command(entry, shell.run(), input.run())
+}
+
+/// A fresh line, minute 0 announced, and a request.
+pub fn queue_answers(table: Table, room: Place) -> [Answer; 3] {
+    [
+        table.queue_init(room.run()),
+        table.queue_tick(room.run(), 0),
+        number(table.queue_pop(room.run())),
+    ]
+}

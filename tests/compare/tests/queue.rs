@@ -1,0 +1,324 @@
+//! The run queue of the library against the second program's list.
+
+use compare::queue::{drain, refused, Case, Compared};
+use compare::samples::{alike, busy_table};
+use eremothyn::Table;
+use guard::filled;
+use second::calendar::LAST_MINUTE;
+use second::queue::Queue;
+use second::random::Random;
+use second::schedule::samples::start;
+use second::table::{read, samples};
+
+const OFF_CALENDAR: [u64; 6] = [
+    LAST_MINUTE + 1,
+    (1 << 32) - 1,
+    1 << 32,
+    (1 << 32) + 60,
+    1 << 63,
+    u64::MAX,
+];
+
+#[test]
+fn the_whole_run() {
+    let case = Case::of(b"* * * * * a\n@reboot b\n0 * * * * c\n");
+    for length in [case.least, case.enough(), 1_000] {
+        let mut line = Compared::fresh(&case, length);
+        assert_eq!(line.pop(&case, length), Ok(Some(1)));
+        assert_eq!(line.tick(&case, length, 59), Ok(1));
+        assert_eq!(line.tick(&case, length, 60), Ok(1));
+        assert_eq!(line.pop(&case, length), Ok(Some(0)));
+        assert_eq!(line.pop(&case, length), Ok(Some(2)));
+        assert_eq!(line.pop(&case, length), Ok(None));
+    }
+}
+
+#[test]
+fn a_waiting_entry_joins_no_second_time() {
+    let case = Case::of(b"@reboot a\n* * * * * b\n* * * * * c\n");
+    let room = case.enough();
+    let mut line = Compared::fresh(&case, room);
+    assert_eq!(line.tick(&case, room, 7), Ok(2));
+    for minute in [7, 8, 7, 6, 0, LAST_MINUTE] {
+        assert_eq!(line.tick(&case, room, minute), Ok(0));
+    }
+    assert_eq!(line.pop(&case, room), Ok(Some(0)));
+    assert_eq!(line.pop(&case, room), Ok(Some(1)));
+    // Those that were named may join again, behind those that wait, at the same minute too.
+    assert_eq!(line.tick(&case, room, 7), Ok(1));
+    assert_eq!(drain(&case, &line.room), Ok(vec![2, 1]));
+}
+
+#[test]
+fn reboot_entries_wait_at_first_and_never_join() {
+    let case = Case::of(b"@reboot a\n0 0 * * * b\n@reboot c\n@reboot d\n");
+    let room = case.enough();
+    let mut line = Compared::fresh(&case, room);
+    assert_eq!(line.init(&case, room), Ok(3));
+    assert_eq!(drain(&case, &line.room), Ok(vec![0, 2, 3]));
+    for entry in [0, 2, 3] {
+        assert_eq!(line.pop(&case, room), Ok(Some(entry)));
+    }
+    assert_eq!(line.tick(&case, room, 0), Ok(1));
+    assert_eq!(line.tick(&case, room, 1_440), Ok(0));
+    assert_eq!(drain(&case, &line.room), Ok(vec![1]));
+}
+
+#[test]
+fn a_fresh_line_is_the_same_whatever_the_room_held() {
+    let mut random = Random::seeded();
+    for entries in 0..40 {
+        let table = busy_table(&mut random, entries);
+        let case = Case::of(&table);
+        let length = case.enough() + 10;
+        let fills = [0, 0xff, 0x55, 0xaa].map(|byte| vec![byte; length]);
+        let drawn = (0..length).map(|_| random.number() as u8).collect();
+        for room in fills.into_iter().chain([drawn]) {
+            let mut line = Compared {
+                room,
+                queue: Queue::default(),
+            };
+            let _ = line.init(&case, length);
+            line.assert_waiting(&case);
+            // The same line in a shorter room.
+            let short = line.room[..case.least].to_vec();
+            assert_eq!(drain(&case, &short), Ok(line.queue.waiting));
+        }
+    }
+}
+
+#[test]
+fn refusals_in_their_order() {
+    // The table first: also where the room is too short, no line, and the minute off the calendar.
+    let tables: [(&[u8], u64); 5] = [
+        (b"60 * * * * a", 6),
+        (b"* * * * *", 9),
+        (b"a", 11),
+        (b"* * * * * a\n\0", 3),
+        (&[b'\n'; 16_385], 1),
+    ];
+    for (table, number) in tables {
+        for length in [0, 1, 200] {
+            for minute in [0, u64::MAX] {
+                refused(table, number, &filled(length), minute);
+            }
+        }
+    }
+    // Then 28, then 14.
+    let case = Case::of(b"* * * * * a\n@reboot b\n");
+    let mut line = Compared::fresh(&case, case.enough());
+    for minute in OFF_CALENDAR {
+        assert_eq!(line.tick(&case, case.least - 1, minute), Err(28));
+        assert_eq!(line.tick(&case, case.least, minute), Err(14));
+    }
+    line.assert_waiting(&case);
+}
+
+/// A minute to announce, after the one before.
+fn minute(random: &mut Random, case: &Case, last: u64) -> u64 {
+    match random.below(10) {
+        0..=3 => last.saturating_add(1),
+        4 => last,
+        5 => last.saturating_sub(random.below(100)),
+        6 => random.below(100_000),
+        7 => start(random),
+        8 => random.pick(&OFF_CALENDAR),
+        _ if case.count() > 0 => {
+            let entry = random.below(case.count() as u64);
+            case.next(entry, last).unwrap_or(last)
+        }
+        _ => last,
+    }
+}
+
+/// So many of the buffer's bytes are lent: enough, or now and then too few.
+fn lent(random: &mut Random, case: &Case, length: usize) -> usize {
+    match random.below(16) {
+        0 => random.below(case.least as u64 + 1) as usize,
+        1 => case.least.saturating_sub(1),
+        2..=5 => case.least,
+        6..=8 => case.enough().min(length),
+        _ => case.least + random.below((length - case.least) as u64 + 1) as usize,
+    }
+}
+
+/// Any calls with one of the tables each, on one line.
+fn long_run(random: &mut Random, cases: &[Case], calls: usize) {
+    let length = cases.iter().map(Case::enough).max().expect("a table") + 20;
+    let mut line = Compared::fresh(&cases[0], length);
+    let mut last = start(random).min(LAST_MINUTE);
+    let mut case = &cases[0];
+    for _ in 0..calls {
+        if random.below(20) == 0 {
+            case = &cases[random.below(cases.len() as u64) as usize];
+        }
+        let lent = lent(random, case, length);
+        match random.below(100) {
+            0 => {
+                let _ = line.init(case, lent);
+            }
+            1..=50 => {
+                let minute = minute(random, case, last);
+                if line.tick(case, lent, minute).is_ok() {
+                    last = minute;
+                }
+            }
+            51 => {
+                // Any table may ask for the line; if it isn't its own, nothing changes.
+                if line.queue.is_line_of(&case.table) {
+                    line.assert_waiting(case);
+                } else {
+                    assert_eq!(drain(case, &line.room), Err(28));
+                }
+            }
+            _ => {
+                let _ = line.pop(case, lent);
+            }
+        }
+    }
+}
+
+#[test]
+fn long_runs_with_one_table() {
+    let mut random = Random::seeded();
+    for round in 0..400 {
+        let entries = if round % 20 == 0 {
+            128
+        } else {
+            random.below(12)
+        };
+        let table = busy_table(&mut random, entries);
+        let calls = if entries > 100 { 300 } else { 500 };
+        long_run(&mut random, &[Case::of(&table)], calls);
+    }
+}
+
+#[test]
+fn long_runs_with_tables_that_change() {
+    let mut random = Random::seeded();
+    for _ in 0..300 {
+        let tables = [(); 4].map(|_| {
+            let entries = random.below(9);
+            busy_table(&mut random, entries)
+        });
+        let cases = tables.each_ref().map(|table| Case::of(table));
+        long_run(&mut random, &cases, 500);
+    }
+}
+
+#[test]
+fn a_line_that_another_table_left() {
+    let tables = [
+        alike("* * * * *", 5),
+        alike("@reboot", 3),
+        alike("@reboot", 0),
+    ];
+    let [five, three, none] = tables.each_ref().map(|table| Case::of(table));
+    let room = five.enough();
+    let mut line = Compared::fresh(&five, room);
+    assert_eq!(line.pop(&three, room), Ok(None));
+    assert_eq!(line.pop(&none, room), Ok(None));
+    assert_eq!(line.tick(&five, room, 0), Ok(5));
+    // It names entries 3 and 4.
+    assert_eq!(line.pop(&three, room), Err(28));
+    assert_eq!(line.tick(&three, room, 0), Err(28));
+    assert_eq!(line.tick(&three, room, u64::MAX), Err(28));
+    for entry in 0..5 {
+        assert_eq!(line.pop(&five, room), Ok(Some(entry)));
+        assert_eq!(
+            line.pop(&none, room),
+            if entry < 4 { Err(28) } else { Ok(None) }
+        );
+    }
+    // Entries 0 to 2 are entries of both.
+    assert_eq!(line.init(&three, room), Ok(3));
+    assert_eq!(line.tick(&five, room, 0), Ok(2));
+    assert_eq!(drain(&five, &line.room), Ok(vec![0, 1, 2, 3, 4]));
+    for entry in 0..5 {
+        assert_eq!(line.pop(&three, room), Err(28));
+        assert_eq!(line.pop(&five, room), Ok(Some(entry)));
+    }
+}
+
+/// A line after any calls in so much room.
+fn after_any_calls(random: &mut Random, case: &Case, room: usize) -> Compared {
+    let mut line = Compared::fresh(case, room);
+    for _ in 0..random.below(300) {
+        let _ = match random.below(2) {
+            0 => line.tick(case, room, start(random)).map(Some),
+            _ => line.pop(case, room),
+        };
+    }
+    line
+}
+
+/// Demand 3 in practice: one that fires rarely among 127 that fire every minute, with one request a minute.
+#[test]
+fn a_rare_entry_is_named_within_the_bound() {
+    const ENTRIES: u64 = 128;
+    // A rare entry, and one of its firings.
+    let rare = [
+        ("30 4 * * *", 270 + 1_440),
+        ("0 0 29 2 *", 70_561_440),
+        ("59 23 31 12 *", LAST_MINUTE - ENTRIES + 1 - 525_600),
+        ("0 12 14 2 *", 64_080),
+    ];
+    let mut random = Random::seeded();
+    for (fields, about) in rare {
+        for place in [0, 1, 63, 126, 127] {
+            let mut lines = vec!["* * * * * often"; ENTRIES as usize];
+            let line = format!("{fields} rare");
+            lines[place as usize] = &line;
+            let table = lines.join("\n");
+            let case = Case::of(table.as_bytes());
+            let firing = case.next(place, about - 1).expect("a firing");
+
+            let room = case.enough();
+            let mut line = after_any_calls(&mut random, &case, room);
+            // Then each minute once, a request after each, and refused calls anywhere.
+            let begin = firing - 1 - random.below(100);
+            let last = firing + ENTRIES - 1;
+            let mut named = None;
+            for minute in begin..=last {
+                let _ = line.tick(&case, room, minute);
+                let _ = line.tick(&case, room, LAST_MINUTE + 1);
+                let _ = line.pop(&case, case.least - 1);
+                let answer = line.pop(&case, room);
+                if answer == Ok(Some(place)) && minute >= firing {
+                    named = Some(minute);
+                    break;
+                }
+            }
+            assert!(named.is_some(), "{fields} at {place} from {begin}");
+        }
+    }
+}
+
+/// The longest wait there is, minute by minute: from Sunday, 29 February 2088 to the next one, and one minute more.
+#[test]
+fn the_longest_gap_and_the_bound_are_reached() {
+    const GAP: u64 = 21_036_960;
+    let table = Table::of(b"* * * * * often\n0 0 29 2 */7 rare\n");
+    let after = 62_147_520;
+    let mut room = [0; 8 * 2 + 64];
+    assert_eq!(table.queue_init(&mut room[..]), Ok(0));
+    let mut named = Vec::new();
+    for minute in after + 1..=after + GAP + 1 {
+        assert!(table.queue_tick(&mut room[..], minute).is_ok());
+        if table.queue_pop(&mut room[..]) == Ok(Some(1)) {
+            named.push(minute);
+        }
+    }
+    assert_eq!(named, [after + GAP + 1]);
+}
+
+#[test]
+fn sample_tables_have_their_lines() {
+    let mut random = Random::seeded();
+    for _ in 0..300 {
+        let count = random.below(8);
+        let table = samples::table(&mut random, count);
+        assert!(read(&table).is_ok());
+        long_run(&mut random, &[Case::of(&table)], 100);
+    }
+}

@@ -1,0 +1,262 @@
+//! Known tables: the paper's known days, the examples of the documents, and what other crons get wrong.
+
+use compare::table::Compared;
+use second::calendar::LAST_MINUTE;
+use second::random::Random;
+use second::table::documents;
+
+/// The next firing of a table's first entry.
+fn next(table: &str, minute: u64) -> Result<u64, u64> {
+    Compared::of(table.as_bytes()).next(0, minute)
+}
+
+fn everything(table: &[u8]) {
+    Compared::of(table).everything(&mut Random::new(4));
+}
+
+#[test]
+fn known_days() {
+    let rows = [
+        ("@reboot a", 0, Err(15)),
+        ("@reboot a", LAST_MINUTE, Err(15)),
+        ("@reboot a", LAST_MINUTE + 1, Err(14)),
+        ("@reboot a", u64::MAX, Err(14)),
+        ("60 0 * * * a", 0, Err(6)),
+        ("60 0 * * * a", u64::MAX, Err(6)),
+        ("0 0 * * mon-fri a", 0, Ok(1_440)),
+        ("0 0 * * fri-mon a", 0, Err(7)),
+        ("0 0 * * *", 0, Err(9)),
+        ("10-9 0 * * * a", 0, Err(7)),
+        ("10-10 0 * * * a", 0, Ok(10)),
+        ("5/2 0 * * * a", 0, Err(5)),
+        ("*,5 0 * * * a", 0, Err(5)),
+        ("", 0, Err(13)),
+        ("", u64::MAX, Err(13)),
+    ];
+    for (table, minute, expected) in rows {
+        assert_eq!(next(table, minute), expected, "{table} after {minute}");
+    }
+    for (fields, minute, expected) in documents::KNOWN_DAYS {
+        assert_eq!(next(&format!("{fields} a"), minute), expected, "{fields}");
+    }
+}
+
+#[test]
+fn due_is_no_for_reboot_and_refused_off_the_calendar() {
+    let table = Compared::of(b"@reboot a\n* * * * * b\n");
+    for minute in [0, 1, 15_863_040, LAST_MINUTE] {
+        assert_eq!(table.due(0, minute), Ok(0));
+        assert_eq!(table.due(1, minute), Ok(1));
+    }
+    for minute in [LAST_MINUTE + 1, 1 << 32, (1 << 32) + 1, 1 << 63, u64::MAX] {
+        assert_eq!(table.due(0, minute), Err(14));
+        assert_eq!(table.due(1, minute), Err(14));
+        assert_eq!(table.due(2, minute), Err(13));
+    }
+}
+
+#[test]
+fn numbers_of_entries_and_lines_are_never_cut_short() {
+    let table = Compared::of(b"a=b\n* * * * * c%d\ne=f");
+    for high in (1..64).map(|bit| 1_u64 << bit).chain([u64::MAX - 2]) {
+        for low in 0..3 {
+            let entry = high + low;
+            assert_eq!(table.due(entry, 0), Err(13), "entry {entry}");
+            assert_eq!(table.next(entry, 0), Err(13), "entry {entry}");
+            assert_eq!(table.stdin_length(entry), Err(13), "entry {entry}");
+            assert_eq!(table.split_command(entry, [9, 9]), Err(13));
+            if entry > 3 {
+                assert_eq!(table.setting(entry), Err(19), "line {entry}");
+            }
+        }
+    }
+    let is_setting = [0, 1, 2, 3, 4].map(|line| table.setting(line).is_ok());
+    assert_eq!(is_setting, [false, true, false, true, false]);
+}
+
+#[test]
+fn the_documents_entries() {
+    for (line, expected) in documents::ENTRIES {
+        let table = format!("# comment\n\n{line}\n");
+        let compared = Compared::of(table.as_bytes());
+        compared.everything(&mut Random::new(4));
+        match expected {
+            Ok(firings) => {
+                let mut minute = 0;
+                for &firing in firings {
+                    assert_eq!(compared.next(0, minute), Ok(firing), "{line}");
+                    minute = firing;
+                }
+            }
+            Err((15, _)) => assert_eq!(compared.next(0, 0), Err(15)),
+            Err((number, column)) => {
+                assert_eq!(compared.fault(), Some([number, 3, column]), "{line}");
+            }
+        }
+    }
+}
+
+#[test]
+fn the_documents_settings() {
+    for (line, name, value) in documents::SETTINGS {
+        let table = format!("\n{line}\n");
+        let compared = Compared::of(table.as_bytes());
+        let setting = compared.setting(2).expect(line);
+        let shown = [setting.name, setting.value]
+            .map(|part| &table[part.offset..part.offset + part.length]);
+        assert_eq!(shown, [name, value], "{line}");
+    }
+}
+
+#[test]
+fn the_documents_tables() {
+    let lines: Vec<&str> = documents::ENTRIES
+        .iter()
+        .filter(|(_, expected)| matches!(expected, Ok(_) | Err((15, _))))
+        .map(|(line, _)| *line)
+        .chain(documents::SETTINGS.iter().map(|(line, ..)| *line))
+        .collect();
+    let vixie = "# use /bin/sh to run commands, no matter what /etc/passwd says\n\
+        SHELL=/bin/sh\n\
+        # mail any output to `paul', no matter whose crontab this is\n\
+        MAILTO=paul\n\
+        #\n\
+        # run five minutes after midnight, every day\n\
+        5 0 * * *       $HOME/bin/daily.job >> $HOME/tmp/out 2>&1\n\
+        # run at 2:15pm on the first of every month -- output mailed to paul\n\
+        15 14 1 * *     $HOME/bin/monthly\n\
+        # run at 10 pm on weekdays, annoy Joe\n\
+        0 22 * * 1-5\tmail -s \"It's 10pm\" joe%Joe,%%Where are your kids?%\n\
+        23 0-23/2 * * * echo \"run 23 minutes after midn, 2am, 4am ..., everyday\"\n\
+        5 4 * * sun     echo \"run at 5 after 4 every sunday\"\n";
+    for table in [lines.join("\n"), vixie.into()] {
+        let compared = Compared::of(table.as_bytes());
+        assert_eq!(compared.fault(), None);
+        compared.everything(&mut Random::new(4));
+    }
+    assert_eq!(Compared::of(vixie.as_bytes()).check(), Ok(5));
+}
+
+#[test]
+fn tables_with_nothing_in_them() {
+    let tables: [&[u8]; 9] = [
+        b"",
+        b"\n",
+        b"\n\n\n",
+        b" ",
+        b"\t \n ",
+        b"#",
+        b"#\n#\n",
+        b"# a=b\n# * * * * * a",
+        b" \t#\n\t",
+    ];
+    for table in tables {
+        let compared = Compared::of(table);
+        assert_eq!((compared.check(), compared.fault()), (Ok(0), None));
+        everything(table);
+        let lines = table.len() as u64 + 2;
+        assert!((0..lines).all(|line| compared.setting(line) == Err(19)));
+    }
+}
+
+#[test]
+fn a_last_line_counts_without_its_newline() {
+    /// A table, its count of entries, and its fault.
+    type Row = (&'static [u8], u64, Option<[u64; 3]>);
+    let rows: [Row; 8] = [
+        (b"* * * * * a", 1, None),
+        (b"* * * * * a\n", 1, None),
+        (b"* * * * * a\n* * * * * b", 2, None),
+        (b"* * * * * a\n\n", 1, None),
+        (b"a=b\n* * * * *", 0, Some([9, 2, 10])),
+        (b"a=b\n* * * * *\n", 0, Some([9, 2, 10])),
+        (b"a=b\n\n60", 0, Some([6, 3, 1])),
+        (b"a=b\n\n\n5", 0, Some([4, 4, 2])),
+    ];
+    for (table, count, fault) in rows {
+        let compared = Compared::of(table);
+        assert_eq!(compared.fault(), fault);
+        assert_eq!(compared.check().unwrap_or(0), count);
+        everything(table);
+    }
+}
+
+#[test]
+fn slips_of_other_crons() {
+    // Steps are no divisibility: months 1, 3, 5.
+    let months = Compared::of(b"0 0 1 */2 * a");
+    assert_eq!(months.next(0, 0), Ok(59 * 1_440));
+    assert_eq!(months.due(0, 0), Ok(1));
+    assert_eq!(months.due(0, 31 * 1_440), Ok(0));
+    // Days 3, 5 and 7: a step counts from the range's first value.
+    assert_eq!(next("0 0 3-7/2 * * a", 0), Ok(2 * 1_440));
+    assert_eq!(next("0 0 3-7/2 * * a", 2 * 1_440), Ok(4 * 1_440));
+    // 7 in a range is Sunday, 4 January.
+    for field in ["5-7", "7", "0", "6-7", "1-7/6", "*/7", "7-7", "sun", "1,7"] {
+        let table = format!("0 0 * * {field} a");
+        let compared = Compared::of(table.as_bytes());
+        assert_eq!(compared.due(0, 3 * 1_440), Ok(1), "{field}");
+        assert_eq!(compared.due(0, 10 * 1_440), Ok(1), "{field}");
+    }
+    // February 30 never comes, and 2100 has no 29th.
+    assert_eq!(next("0 0 30 2 * a", 0), Err(16));
+    assert_eq!(next("0 0 29 2 * a", 66_355_200), Ok(70_561_440));
+    // `\\%` is a pair and then the end of the shell line.
+    let pair = Compared::of(br"@hourly a\\%b");
+    assert_eq!(pair.stdin_length(0), Ok(Some(1)));
+    assert_eq!(pair.split_command(0, [3, 1]), Ok(3));
+    // Numbers don't wrap.
+    for number in ["256", "4294967296", "18446744073709551616", "65536"] {
+        let fault = Compared::of(format!("{number} * * * * a").as_bytes()).fault();
+        let expected = if number.len() > 4 { 5 } else { 6 };
+        assert_eq!(fault, Some([expected, 1, 1]), "{number}");
+    }
+    // The month always counts: Mondays of February, and the 1st.
+    let february = Compared::of(b"0 0 1 2 1 a");
+    assert_eq!(february.due(0, 4 * 1_440), Ok(0));
+    assert_eq!(february.next(0, 0), Ok(31 * 1_440));
+    assert_eq!(february.next(0, 31 * 1_440), Ok(32 * 1_440));
+    // Ticket 2026-03: a day field that begins with `*` makes both match. 1970-01-05 is a Monday.
+    assert_eq!(next("0 0 13 * */1 a", 0), Ok(12 * 1_440));
+    assert_eq!(next("0 0 */1 * 1 a", 0), Ok(4 * 1_440));
+    assert_eq!(next("0 0 */2 * 1 a", 4 * 1_440), Ok(18 * 1_440));
+    assert_eq!(next("0 0 1-31/2 * 1 a", 4 * 1_440), Ok(6 * 1_440));
+    assert_eq!(next("0 0 29 2 */7 a", 62_147_520), Ok(83_184_480));
+}
+
+#[test]
+fn bytes_that_are_no_blanks() {
+    // CR, form feed, vertical tab, a no-break space and others belong to the word they stand in.
+    for byte in (1..=255_u8).filter(|byte| !b" \t\n#".contains(byte)) {
+        let with = |text: &str| -> Vec<u8> {
+            let replaced = text.bytes().map(|of| if of == b'~' { byte } else { of });
+            replaced.collect()
+        };
+        let texts = [
+            "* * * * *~a",
+            "* * * * ~ a",
+            "*~* * * * a",
+            "* * * * * ~",
+            "* * * * * a~",
+            "@daily~a",
+            "@daily ~",
+            "~",
+            "~=",
+            "~ = ~",
+            "a~=b",
+            "a=~",
+            "a=b~",
+            "a = ~b~ ",
+            "~a~=~b~",
+            "\"~\"='~'",
+            "#~",
+            " ~* * * * * a",
+            "5~ * * * * a",
+        ];
+        for text in texts {
+            let table = with(text);
+            everything(&table);
+            everything(&[&table[..], b"\n"].concat());
+        }
+    }
+}

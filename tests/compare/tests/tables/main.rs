@@ -1,0 +1,8 @@
+//! The calls that say what a table means, against the second program.
+
+mod commands;
+mod fields;
+mod known;
+mod random;
+mod refusals;
+mod settings;

@@ -1,0 +1,69 @@
+//! Random tables: good ones, ones with a bad line, and large ones.
+
+use compare::table::Compared;
+use second::random::Random;
+use second::table::samples;
+
+const SAMPLES: usize = 20_000;
+
+#[test]
+fn good_tables() {
+    let mut random = Random::seeded();
+    for _ in 0..SAMPLES {
+        let lines = random.below(6);
+        let table = samples::table(&mut random, lines);
+        let compared = Compared::of(&table);
+        assert_eq!(compared.fault(), None);
+        compared.everything(&mut random);
+    }
+}
+
+#[test]
+fn tables_with_one_bad_line() {
+    let mut random = Random::seeded();
+    for _ in 0..SAMPLES {
+        let mut table = Vec::new();
+        let at = random.below(4);
+        for _ in 0..at {
+            table.extend(samples::line(&mut random));
+            table.push(b'\n');
+        }
+        let (line, number, column) = samples::bad_line(&mut random);
+        table.extend(line);
+        for _ in 0..random.below(3) {
+            table.push(b'\n');
+            table.extend(samples::line(&mut random));
+        }
+        let compared = Compared::of(&table);
+        assert_eq!(compared.fault(), Some([number, at + 1, column]));
+        compared.everything(&mut random);
+    }
+}
+
+/// Tables about as large as may be.
+#[test]
+fn large_tables() {
+    let mut random = Random::seeded();
+    for _ in 0..300 {
+        let mut table = Vec::new();
+        let mut entries = 0;
+        let most = 126 + random.below(4);
+        let length = match random.below(3) {
+            0 => 16_384,
+            _ => 16_000 + random.below(500) as usize,
+        };
+        while table.len() < length {
+            let line = samples::line(&mut random);
+            let is_entry = Compared::of(&line).check() == Ok(1);
+            if is_entry && entries == most {
+                table.extend(b"# no entry\n");
+                continue;
+            }
+            entries += u64::from(is_entry);
+            table.extend(line);
+            table.push(b'\n');
+        }
+        table.truncate(length);
+        Compared::of(&table).everything(&mut random);
+    }
+}

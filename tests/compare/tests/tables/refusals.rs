@@ -1,0 +1,357 @@
+//! Every refusal of a table at every place where it can stand, and which of two comes first.
+
+use compare::table::Compared;
+use second::random::Random;
+use second::table::samples::WORDS;
+
+/// Refused, by number, line and column. Every call then refuses so.
+fn refused(table: &[u8], fault: [u64; 3]) {
+    let compared = Compared::of(table);
+    let shown = table.escape_ascii();
+    assert_eq!(compared.fault(), Some(fault), "{shown}");
+    let number = fault[0];
+    for any in [0, 1, 1 << 32, u64::MAX] {
+        assert_eq!(compared.due(any, any), Err(number));
+        assert_eq!(compared.next(any, any), Err(number));
+        assert_eq!(compared.stdin_length(any), Err(number));
+        assert_eq!(compared.setting(any), Err(number));
+        assert_eq!(compared.split_command(any, [0, 0]), Err(number));
+        assert_eq!(compared.split_command(any, [9, 9]), Err(number));
+    }
+}
+
+fn good(table: &[u8], entries: u64) {
+    let compared = Compared::of(table);
+    assert_eq!(compared.fault(), None);
+    assert_eq!(compared.check(), Ok(entries));
+}
+
+/// A line, the number of its refusal, and its column.
+type Bad = (Vec<u8>, u64, u64);
+
+/// Bad fields: for each of the five, the number and how many bytes of the field stand before the place.
+fn bad_fields() -> [Vec<(String, u64, usize)>; 5] {
+    let names = ["", "", "", "jan", "sun"];
+    [(0, 59), (0, 23), (1, 31), (1, 12), (0, 7)]
+        .into_iter()
+        .zip(names)
+        .map(|((first, last), name)| {
+            let over = last + 1;
+            let before_last = last - 1;
+            let mut rows = vec![
+                ("*,5".into(), 5, 0),
+                ("5/2".into(), 5, 0),
+                ("*/".into(), 5, 0),
+                ("*/00001".into(), 5, 0),
+                ("**".into(), 5, 0),
+                ("1,".into(), 5, 0),
+                ("1,,2".into(), 5, 0),
+                ("1-".into(), 5, 0),
+                ("1-2-3".into(), 5, 0),
+                ("1-2/".into(), 5, 0),
+                ("1-2/3/4".into(), 5, 0),
+                ("00001".into(), 5, 0),
+                (format!("{over},9-8,1-2/0,x"), 5, 0),
+                ("1-2,1-2/0,*".into(), 5, 0),
+                (format!("1,{name}x"), 5, 0),
+                (format!("1-{name}x"), 5, 0),
+                (format!("*/{name}"), 5, 0),
+                (format!("{over}"), 6, 0),
+                (format!("{over}-{over}"), 6, 0),
+                (format!("1-{over}"), 6, 0),
+                (format!("{over}-1/0"), 6, 0),
+                ("1-9999/0".into(), 6, 0),
+                (format!("1,2-3,{over}"), 6, 6),
+                (format!("1,{over},9-8,1-2/0"), 6, 2),
+                (format!("{last}-{before_last}"), 7, 0),
+                (format!("{last}-{first}/0"), 7, 0),
+                (format!("1-2/3,{last}-{before_last},9999"), 7, 6),
+                ("1-2/0".into(), 8, 0),
+                ("*/0".into(), 8, 0),
+                ("*/0000".into(), 8, 0),
+                (
+                    format!("{last},{first}-{last}/00,9999"),
+                    8,
+                    last.to_string().len() + 1,
+                ),
+            ];
+            if first == 1 {
+                rows.push(("0".into(), 6, 0));
+                rows.push(("0-1".into(), 6, 0));
+                rows.push(("1-2,00".into(), 6, 4));
+            }
+            rows
+        })
+        .collect::<Vec<_>>()
+        .try_into()
+        .expect("five fields")
+}
+
+/// Every bad field in its place in a line, with all ways to indent and to go on.
+fn lines_with_bad_fields() -> Vec<Bad> {
+    let mut lines = Vec::new();
+    for (which, fields) in bad_fields().into_iter().enumerate() {
+        for (field, number, offset) in fields {
+            for (indent, blanks) in [("", " "), (" \t", "\t"), ("\t", "  \t ")] {
+                let before = [indent, &["1", blanks].concat().repeat(which)].concat();
+                let column = (before.len() + offset + 1) as u64;
+                for after in ["", " ", " 1", " 1 1 1 1 1 a", " x x x x", "\t60 */0"] {
+                    let line = format!("{before}{field}{after}");
+                    lines.push((line.into_bytes(), number, column));
+                }
+            }
+        }
+    }
+    lines
+}
+
+const UNKNOWN_WORDS: [&str; 9] = [
+    "@",
+    "@Reboot",
+    "@DAILY",
+    "@dail",
+    "@dailyx",
+    "@reboot%x",
+    "@@",
+    "@1",
+    "@daily\r",
+];
+
+const BAD_SETTINGS: [&str; 26] = [
+    "a",
+    "a b",
+    "a b=c",
+    "=",
+    "=a",
+    "\"\"=a",
+    "''=a",
+    "\"a",
+    "'a=b",
+    "\"a'=b",
+    "\"a\"",
+    "\"a\"b=c",
+    "a\"=c",
+    "a'b'=c",
+    "'a'\"b\"=c",
+    "a=\"",
+    "a='",
+    "a=\"b",
+    "a='b\"",
+    "a=\"b\"c",
+    "a='b''",
+    "a=\"\" #",
+    "mon",
+    "-5 * * * * a",
+    "\r",
+    "$ * * * * a",
+];
+
+/// Bad lines of the other kinds.
+fn other_bad_lines() -> Vec<Bad> {
+    let long = |start: &str, byte: u8, length: usize| {
+        let mut line = start.as_bytes().to_vec();
+        line.resize(length, byte);
+        line
+    };
+    let mut lines = vec![
+        (long("#", b'x', 1_001), 2, 1_001),
+        (long("", b' ', 1_001), 2, 1_001),
+        (long("a=", b'x', 5_000), 2, 1_001),
+        (long("* * * * * ", b'x', 1_001), 2, 1_001),
+        (long("60 ", b'x', 1_001), 2, 1_001),
+        (long("@x ", 0, 1_002), 2, 1_001),
+        (b"\0".to_vec(), 3, 1),
+        (b"#\0".to_vec(), 3, 2),
+        (b" \t\0".to_vec(), 3, 3),
+        (b"60 60\0\0".to_vec(), 3, 6),
+        (b"a\0b".to_vec(), 3, 2),
+        (b"* * * * * a\0".to_vec(), 3, 12),
+        (b"@x \0".to_vec(), 3, 4),
+    ];
+    for fields in 1..5 {
+        for (blanks, end) in [(" ", ""), ("\t", "\t"), (" \t ", "  ")] {
+            let line = format!("{}{end}", vec!["1"; fields].join(blanks));
+            let column = line.len() as u64 + 1;
+            lines.push((line.into_bytes(), 4, column));
+        }
+    }
+    let times = ["1 1 1 1 1", "* * * * *", " 1 1 1 1 sun", "\t@yearly"];
+    for time in times.into_iter().chain(WORDS) {
+        for end in ["", " ", "\t \t"] {
+            let line = format!("{time}{end}");
+            let column = line.len() as u64 + 1;
+            lines.push((line.into_bytes(), 9, column));
+        }
+    }
+    for word in UNKNOWN_WORDS {
+        for (indent, end) in [("", ""), (" ", " "), ("\t ", " a"), ("", "\ta b")] {
+            let line = format!("{indent}{word}{end}");
+            lines.push((line.into_bytes(), 10, indent.len() as u64 + 1));
+        }
+    }
+    for setting in BAD_SETTINGS {
+        for (indent, end) in [("", ""), (" ", " "), ("\t ", " \t")] {
+            let line = format!("{indent}{setting}{end}");
+            lines.push((line.into_bytes(), 11, indent.len() as u64 + 1));
+        }
+    }
+    lines
+}
+
+const GOOD_LINES: [&[u8]; 6] = [
+    b"# comment",
+    b"",
+    b"A = \"b\" ",
+    b"* * * * * a%b",
+    b"\t",
+    b"@reboot c",
+];
+
+#[test]
+fn every_bad_line_at_every_place_of_a_table() {
+    let bad_lines = [lines_with_bad_fields(), other_bad_lines()].concat();
+    for (line, number, column) in &bad_lines {
+        for at in 0..=GOOD_LINES.len() {
+            let mut lines = GOOD_LINES.to_vec();
+            lines.insert(at, line);
+            let mut table = lines.join(&b'\n');
+            let fault = [*number, at as u64 + 1, *column];
+            refused(&table, fault);
+            table.push(b'\n');
+            assert_eq!(Compared::of(&table).fault(), Some(fault));
+        }
+    }
+}
+
+#[test]
+fn the_first_of_two_bad_lines_counts() {
+    let bad_lines = [other_bad_lines(), lines_with_bad_fields()].concat();
+    let mut random = Random::seeded();
+    for _ in 0..20_000 {
+        let [first, second] =
+            [(); 2].map(|_| &bad_lines[random.below(bad_lines.len() as u64) as usize]);
+        let between = random.pick(&GOOD_LINES);
+        let table = [b"a=b", &first.0[..], between, &second.0].join(&b'\n');
+        let fault = Compared::of(&table).fault();
+        assert_eq!(
+            fault,
+            Some([first.1, 2, first.2]),
+            "{}",
+            table.escape_ascii()
+        );
+    }
+}
+
+#[test]
+fn the_first_of_two_bad_fields_counts() {
+    let fields = bad_fields();
+    for left in 0..5 {
+        for right in left + 1..5 {
+            for (bad_left, number, offset) in &fields[left] {
+                for (bad_right, ..) in &fields[right] {
+                    let mut words = ["1"; 5];
+                    words[left] = bad_left;
+                    words[right] = bad_right;
+                    // Without a command, too.
+                    for end in [" a", ""] {
+                        let line = format!("{}{end}", words.join(" "));
+                        let column = 2 * left + offset + 1;
+                        let fault = Compared::of(line.as_bytes()).fault();
+                        assert_eq!(fault, Some([*number, 1, column as u64]), "{line}");
+                    }
+                }
+            }
+        }
+    }
+}
+
+#[test]
+fn a_long_line_comes_before_a_zero_byte_and_both_before_all_else() {
+    for start in ["60 ", "#", "@x ", "=", "* * * * * ", "1 1", " "] {
+        let mut line = start.as_bytes().to_vec();
+        let zero_at = line.len() as u64 + 1;
+        line.push(0);
+        refused(&line, [3, 1, zero_at]);
+        line.resize(1_000, b' ');
+        refused(&line, [3, 1, zero_at]);
+        line.push(b' ');
+        refused(&line, [2, 1, 1_001]);
+        line.insert(0, b'\n');
+        refused(&line, [2, 2, 1_001]);
+    }
+}
+
+#[test]
+fn a_zero_byte_at_every_place_of_every_kind_of_line() {
+    let lines: [&[u8]; 9] = [
+        b"# comment",
+        b" \t ",
+        b"A = \"b\" ",
+        b"'a b'=c d",
+        b"1,2 3-4 */5 jan 1-7/2 a%b\\%",
+        b"@reboot c",
+        b"60 60",
+        b"@unknown a",
+        b"a b",
+    ];
+    for line in lines {
+        for at in 0..=line.len() {
+            let mut with_zero = line.to_vec();
+            with_zero.insert(at, 0);
+            let table = [b"a=b\n", &with_zero[..], b"\n\0"].concat();
+            refused(&table, [3, 2, at as u64 + 1]);
+            // The first of two.
+            let mut with_two = with_zero.clone();
+            with_two.push(0);
+            refused(&with_two, [3, 1, at as u64 + 1]);
+        }
+    }
+}
+
+#[test]
+fn the_129th_entry() {
+    let rows: [(&str, Option<[u64; 2]>); 14] = [
+        ("", None),
+        ("#", None),
+        ("A=b", None),
+        ("* * * * * a", Some([12, 1])),
+        ("  \t* * * * * a", Some([12, 1])),
+        ("@reboot a", Some([12, 1])),
+        ("@daily a", Some([12, 1])),
+        ("60 * * * * a", Some([6, 1])),
+        (" * * * * 8 a", Some([6, 10])),
+        ("* * * * *", Some([9, 10])),
+        ("* *", Some([4, 4])),
+        ("@reboot", Some([9, 8])),
+        (" @x a", Some([10, 2])),
+        ("a", Some([11, 1])),
+    ];
+    for entry in ["* * * * * a\n", "@reboot a\n", "1 1 1 1 1 a%\n\n#\nA=b\n"] {
+        let lines = entry.matches('\n').count() as u64 * 128;
+        let table = entry.repeat(128);
+        good(table.as_bytes(), 128);
+        good(table.trim_end().as_bytes(), 128);
+        for (line, fault) in rows {
+            for end in ["", "\n", "\n60\n", "\n\0"] {
+                let table = format!("{table}{line}{end}");
+                match fault {
+                    Some([number, column]) => {
+                        refused(table.as_bytes(), [number, lines + 1, column]);
+                    }
+                    None if end.len() < 2 => good(table.as_bytes(), 128),
+                    None => {
+                        let next = lines + 2;
+                        let number = if end == "\n60\n" { 6 } else { 3 };
+                        refused(table.as_bytes(), [number, next, 1]);
+                    }
+                }
+            }
+        }
+        // A fault before the 129th.
+        let before = format!("60\n{table}* * * * * a\n");
+        refused(before.as_bytes(), [6, 1, 1]);
+    }
+    let table = "@reboot a\n".repeat(127) + "A=b\n";
+    good(table.as_bytes(), 127);
+    Compared::of("@reboot a\n".repeat(128).as_bytes()).everything(&mut Random::new(4));
+}

@@ -1,0 +1,126 @@
+//! Settings, shown as parts of the table.
+
+use compare::table::Compared;
+
+/// Name and value of a line, with where they start in the table.
+fn shown(table: &str, line: u64) -> Result<[(usize, &str); 2], u64> {
+    let setting = Compared::of(table.as_bytes()).setting(line)?;
+    let part =
+        |part: second::table::Part| (part.offset, &table[part.offset..part.offset + part.length]);
+    Ok([part(setting.name), part(setting.value)])
+}
+
+#[test]
+fn known_settings() {
+    let rows = [
+        ("A=b", (0, "A"), (2, "b")),
+        ("A = b", (0, "A"), (4, "b")),
+        ("\tA\t=\tb\t", (1, "A"), (5, "b")),
+        ("A=", (0, "A"), (2, "")),
+        ("A=  ", (0, "A"), (4, "")),
+        ("A=\"\"", (0, "A"), (3, "")),
+        ("A=''  ", (0, "A"), (3, "")),
+        ("A=\" b \"", (0, "A"), (3, " b ")),
+        ("A= 'it\"s' ", (0, "A"), (4, "it\"s")),
+        ("A=b c  d ", (0, "A"), (2, "b c  d")),
+        ("A=b\"c", (0, "A"), (2, "b\"c")),
+        ("A=b'", (0, "A"), (2, "b'")),
+        ("A=b # no comment", (0, "A"), (2, "b # no comment")),
+        ("A==", (0, "A"), (2, "=")),
+        ("A= =b", (0, "A"), (3, "=b")),
+        ("\"A\"=b", (1, "A"), (4, "b")),
+        ("' A b '\t= c", (1, " A b "), (10, "c")),
+        ("\"=\"==", (1, "="), (4, "=")),
+        ("\"it's\"='\"'", (1, "it's"), (8, "\"")),
+        ("'\"'=\"'\"", (1, "\""), (5, "'")),
+        ("'#'=#", (1, "#"), (4, "#")),
+        ("'5 * * * *'=a", (1, "5 * * * *"), (12, "a")),
+        ("-5=*", (0, "-5"), (3, "*")),
+        ("A\r=b\r", (0, "A\r"), (3, "b\r")),
+        ("A=b\u{b}\u{c} ", (0, "A"), (2, "b\u{b}\u{c}")),
+        ("é=ü", (0, "é"), (3, "ü")),
+        ("%=\\%", (0, "%"), (2, "\\%")),
+    ];
+    for (line, name, value) in rows {
+        for before in ["", "\n", "#\n@daily a\n  \nC=d\n"] {
+            for end in ["", "\n", "\nE=f", "\n* * * * * g\n"] {
+                let table = format!("{before}{line}{end}");
+                let number = before.matches('\n').count() as u64 + 1;
+                let later = |(at, text)| (before.len() + at, text);
+                let expected = Ok([later(name), later(value)]);
+                assert_eq!(shown(&table, number), expected, "{table}");
+            }
+        }
+    }
+}
+
+#[test]
+fn lines_that_are_no_settings() {
+    let table = "A=b\n# C=d\n\n* * * * * E=f\n@daily G=h\n \t\nI=j";
+    let is_setting = |line: u64| shown(table, line).is_ok();
+    let found: Vec<u64> = (0..20).filter(|&line| is_setting(line)).collect();
+    assert_eq!(found, [1, 7]);
+    for line in [
+        0,
+        2,
+        3,
+        4,
+        5,
+        6,
+        8,
+        1 << 32,
+        (1 << 32) + 1,
+        (1 << 63) + 7,
+        u64::MAX,
+    ] {
+        assert_eq!(shown(table, line), Err(19), "line {line}");
+    }
+    // Behind the last newline is no line, and in front of it an empty one.
+    assert_eq!(shown("A=b\n", 2), Err(19));
+    assert_eq!(shown("\nA=b", 1), Err(19));
+}
+
+#[test]
+fn a_refused_table_has_no_settings() {
+    for line in 0..5 {
+        assert_eq!(shown("A=b\n60\nC=d", line), Err(6));
+        assert_eq!(shown("A=b\nC", line), Err(11));
+    }
+}
+
+/// Every line of up to so many of these bytes, between two others.
+#[test]
+fn short_lines_of_the_bytes_that_settings_are_made_of() {
+    let bytes = b"a=\"' ";
+    let mut lines: Vec<Vec<u8>> = vec![Vec::new()];
+    for _ in 0..6 {
+        let longer = |line: &Vec<u8>| bytes.map(|byte| [&line[..], &[byte]].concat());
+        lines = lines.iter().flat_map(longer).collect();
+        for line in &lines {
+            let table = [b"x=y\n", &line[..], b"\nz='\"'\n"].concat();
+            let compared = Compared::of(&table);
+            for number in 1..=3 {
+                let _ = compared.setting(number);
+            }
+            if let Some(fault) = compared.fault() {
+                let blanks = line.iter().take_while(|&&byte| byte == b' ').count();
+                assert_eq!(fault, [11, 2, blanks as u64 + 1]);
+            }
+        }
+    }
+}
+
+#[test]
+fn every_line_of_a_long_table() {
+    let table: String = (1..=2_000)
+        .map(|line| match line % 3 {
+            0 => format!("A{line}=\n"),
+            _ => "\n".into(),
+        })
+        .collect();
+    let compared = Compared::of(table.as_bytes());
+    for line in 0..2_003 {
+        let expected = line % 3 == 0 && (1..=2_000).contains(&line);
+        assert_eq!(compared.setting(line).is_ok(), expected, "line {line}");
+    }
+}

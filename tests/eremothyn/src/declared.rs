@@ -1,0 +1,68 @@
+//! A table, and the C functions that take one. What a table is to C stands in this file alone.
+
+use std::marker::PhantomData;
+
+/// A table for a call.
+#[derive(Clone, Copy)]
+pub struct Table<'a> {
+    start: *const u8,
+    length: u64,
+    lent: PhantomData<&'a [u8]>,
+}
+
+impl<'a> Table<'a> {
+    #[inline]
+    pub fn of(bytes: &'a [u8]) -> Table<'a> {
+        // SAFETY: the bytes are borrowed for as long as the table lives.
+        unsafe { Table::at(bytes.as_ptr(), bytes.len() as u64) }
+    }
+
+    /// A table at any place, of any length.
+    ///
+    /// # Safety
+    /// What a call touches of it may be read, and nobody writes to it.
+    #[inline]
+    pub unsafe fn at(start: *const u8, length: u64) -> Table<'a> {
+        Table {
+            start,
+            length,
+            lent: PhantomData,
+        }
+    }
+}
+
+/// Declares C functions by the parameters behind the table, and makes each a method of `Table` by the same name.
+macro_rules! functions_of_a_table {
+    ($($name:ident($($parameter:ident: $type:ty),*);)*) => {
+        unsafe extern "C" {
+            $(fn $name(table: *const u8, table_length: u64, $($parameter: $type),*) -> u64;)*
+        }
+
+        /// Nothing is required of bytes or numbers; the pointers have as many bytes as the lengths beside them say.
+        impl Table<'_> {
+            $(#[inline]
+            pub(crate) unsafe fn $name(self, $($parameter: $type),*) -> u64 {
+                unsafe { $name(self.start, self.length, $($parameter),*) }
+            })*
+        }
+    };
+}
+
+functions_of_a_table! {
+    eremothyn_check();
+    eremothyn_fault_line();
+    eremothyn_fault_column();
+    eremothyn_due(entry: u64, minute: u64);
+    eremothyn_next(entry: u64, minute: u64);
+    eremothyn_split_command(
+        entry: u64, shell: *mut u8, shell_length: u64, input: *mut u8, input_length: u64
+    );
+    eremothyn_stdin_length(entry: u64);
+    eremothyn_setting_name_offset(line: u64);
+    eremothyn_setting_name_length(line: u64);
+    eremothyn_setting_value_offset(line: u64);
+    eremothyn_setting_value_length(line: u64);
+    eremothyn_queue_init(room: *mut u8, room_length: u64);
+    eremothyn_queue_tick(room: *mut u8, room_length: u64, minute: u64);
+    eremothyn_queue_pop(room: *mut u8, room_length: u64);
+}

@@ -1,0 +1,24 @@
+//! The run queue. How a line is kept in its room is the library's own affair.
+
+use crate::{Run, Table};
+use second::answer::{from_c, some_from_c, Answer};
+
+impl Table<'_> {
+    /// Lays a fresh line into the room, and answers how many wait.
+    pub fn queue_init<'r>(self, room: impl Into<Run<'r>>) -> Answer {
+        let room = room.into();
+        from_c(unsafe { self.eremothyn_queue_init(room.start, room.length) })
+    }
+
+    /// Announces a minute, and answers how many joined.
+    pub fn queue_tick<'r>(self, room: impl Into<Run<'r>>, minute: u64) -> Answer {
+        let room = room.into();
+        from_c(unsafe { self.eremothyn_queue_tick(room.start, room.length, minute) })
+    }
+
+    /// Requests an entry; none is "nothing waits".
+    pub fn queue_pop<'r>(self, room: impl Into<Run<'r>>) -> Result<Option<u64>, u64> {
+        let room = room.into();
+        some_from_c(unsafe { self.eremothyn_queue_pop(room.start, room.length) })
+    }
+}

@@ -1,0 +1,27 @@
+//! The paper's numbers for C: an answer is one number, and a refusal is 4,294,967,296 plus its own.
+
+/// A number, or the number of a refusal.
+pub type Answer = Result<u64, u64>;
+
+/// A refusal is this plus its number. Exactly this is none: it stands for "no input" and "nothing waits".
+pub const REFUSED: u64 = 1 << 32;
+
+/// An answer as C gets it.
+pub fn to_c(answer: Answer) -> u64 {
+    answer.unwrap_or_else(|refusal| REFUSED + refusal)
+}
+
+/// A number of C's taken apart. Loses nothing: `Err(n)` stands for `REFUSED + n` and for no other number.
+#[inline]
+pub fn from_c(number: u64) -> Answer {
+    if number > REFUSED {
+        Err(number - REFUSED)
+    } else {
+        Ok(number)
+    }
+}
+
+/// The same where exactly 4,294,967,296 may come, which is none.
+pub fn some_from_c(number: u64) -> Result<Option<u64>, u64> {
+    Ok(Some(from_c(number)?).filter(|&number| number != REFUSED))
+}
