@@ -95,8 +95,8 @@ calls-append jobs [] second buffer = refl
 calls-append jobs (u ∷ us) second buffer = rw (calls-append jobs us second (bufferAfter jobs buffer u))
 
 pub fair-in-buffer : FairInBuffer
-fair-in-buffer jobs gap e t size buffer first second h below timed recurs r end paced =
+fair-in-buffer jobs gap e t size buffer first second h below timed soon r paced =
     let b = started jobs size buffer in
     let follows = on-follows jobs h (first ++ second) b (fresh jobs) (fresh-entries jobs) (started-holds jobs h size buffer r) in
-    fair jobs gap e t (callsOn jobs b first) (callsOn jobs (endOf jobs b first) second) h below timed recurs
-    (rw (calls-append jobs first second b) at follows) end paced
+    fair jobs gap e t (callsOn jobs b first) (callsOn jobs (endOf jobs b first) second) h below timed soon
+    (rw (calls-append jobs first second b) at follows) paced

@@ -1,4 +1,4 @@
--- The third demand: an entry whose minutes recur is named in time. Within the first `gap` announcements one matches it, and
+-- The third demand: an entry that a minute matches soon is named in time. Within the first `gap` announcements one matches it, and
 -- from then on it waits. At most count - 1 others stand before it, those that join stand behind it, and each minute brings a
 -- request.
 -- Assumes nothing.
@@ -14,7 +14,7 @@ use borrow.Author.Tests.{eqb-true, lt-ltb}
 use Rattle.fifo.specs.Line.{has, entriesOf}
 use Rattle.fifo.specs.Layout.{limit}
 use Rattle.fifo.specs.Steps.{Jobs, fresh, joins, joiners, ticked, front, popped, popStep}
-use Rattle.fifo.specs.Fairness.{Call, tick, pop, roomOf, unrefused, lineAfter, Follows, Paced, upTo, Names, span, Fair}
+use Rattle.fifo.specs.Fairness.{Call, tick, pop, roomOf, unrefused, lineAfter, Follows, Paced, upTo, Names, Soon, span, FairFrom, Fair}
 use Rattle.fifo.proofs.Lines.{has-append, has-pick, entries-length, entries-popped}
 use Rattle.fifo.proofs.Laid.{lineOf-laid}
 use Rattle.fifo.proofs.Calls.{Undone, Done, effect, effect-entries, outcome, fresh-entries, ticked-entries, after-entries, goes-on}
@@ -128,10 +128,20 @@ module _ (jobs : Jobs) (e : ℕ) (below : e < jobs .count) (timed : jobs .boot e
 
 -- ---- the theorem
 
-pub fair : Fair
-fair jobs gap e t first second h below timed recurs follows end paced =
-    let (m, after, within, matched) = recurs t (omega arith) in
-    let (l, entries, goes) = goes-on jobs h first second (fresh jobs) (fresh-entries jobs) follows in
+-- the place, from t + 1 on, of the minute that matches: all that is used of `Soon`
+soon-at : (jobs : Jobs) (gap e t : ℕ) → Soon jobs gap e t → (j : ℕ) × (j < gap) × (jobs .matches e (t + 1 + j) ≡ true)
+unfolding Soon
+soon-at jobs gap e t (m, after, within, matched) =
     let at : t + 1 + (m - (t + 1)) ≡ m = omega arith in
-    joined jobs e below timed (unrefused jobs second) l (t + 1) (span jobs gap) (m - (t + 1)) true entries (rw at matched) (omega arith)
-    (runs jobs h second l entries goes) paced
+    (m - (t + 1), omega arith, rw at matched)
+
+pub fair-from : FairFrom
+fair-from jobs gap e t l second h below timed soon entries follows paced =
+    let (j, within, matched) = soon-at jobs gap e t soon in
+    joined jobs e below timed (unrefused jobs second) l (t + 1) (span jobs gap) j true entries matched (omega arith)
+    (runs jobs h second l entries follows) paced
+
+pub fair : Fair
+fair jobs gap e t first second h below timed soon follows paced =
+    let (l, entries, goes) = goes-on jobs h first second (fresh jobs) (fresh-entries jobs) follows in
+    fair-from jobs gap e t l second h below timed soon entries goes paced

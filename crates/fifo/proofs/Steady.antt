@@ -151,6 +151,6 @@ unfolding begun
 steady-paced jobs t n size buffer first h r b = steady-from jobs h size buffer r t n first b
 
 pub fair-steady : FairSteady
-fair-steady jobs gap e t size buffer first h below timed recurs r end =
+fair-steady jobs gap e t size buffer first h below timed soon r end =
     let p = steady-paced jobs t (span jobs gap) size buffer first h r end in
-    rw (p .0) at (fair-in-buffer jobs gap e t size buffer first (steady size (t + 1) (span jobs gap)) h below timed recurs r end (rw (p .0) (p .1)))
+    rw (p .0) at (fair-in-buffer jobs gap e t size buffer first (steady size (t + 1) (span jobs gap)) h below timed soon r (rw (p .0) (p .1)))

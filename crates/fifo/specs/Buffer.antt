@@ -3,13 +3,13 @@
 -- hypothesis about it is left. That the claim holds is proved in proofs/Buffer.
 -- Assumes nothing.
 use mathlib.Core.Path.{_≡_}
-use Prim.Native.Nat.{ℕ, _+_, _≤_, _<_}
+use Prim.Native.Nat.{ℕ, _+_, _<_}
 use mathlib.Core.Bool.{true, false}
 use mathlib.Core.List.{List, [], _∷_, _++_}
 use lib.ListN.{take, drop}
 use Rattle.fifo.specs.Layout.{roomy, limit}
 use Rattle.fifo.specs.Steps.{Jobs, initStep}
-use Rattle.fifo.specs.Fairness.{Call, tick, pop, roomAfter, unrefused, Paced, upTo, Names, Recurs, span}
+use Rattle.fifo.specs.Fairness.{Call, tick, pop, roomAfter, unrefused, Paced, upTo, Names, Soon, span}
 
 -- an announcement of a minute, or a request, and how many bytes of the buffer it is lent
 pub data Use : Type 0 where
@@ -45,8 +45,7 @@ started jobs size buffer = initStep jobs (take size buffer) .room ++ drop size b
 abbrev pub FairInBuffer : Type 0
 FairInBuffer = (jobs : Jobs) (gap e t : ℕ) (size : ℕ) (buffer : List ℕ) (first second : List Use)
     → jobs .count < limit
-    → e < jobs .count → jobs .boot e ≡ false → Recurs jobs gap e
+    → e < jobs .count → jobs .boot e ≡ false → Soon jobs gap e t
     → roomy (jobs .count) (take size buffer) ≡ true
-    → t + span jobs gap ≤ jobs .last
     → let calls = unrefused jobs (callsOn jobs (endOf jobs (started jobs size buffer) first) second) in
     Paced (t + 1) (span jobs gap) true calls → Names jobs e (upTo (span jobs gap) calls)

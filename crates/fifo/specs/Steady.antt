@@ -9,7 +9,7 @@ use mathlib.Core.List.{List, [], _∷_}
 use lib.ListN.{take}
 use Rattle.fifo.specs.Layout.{roomy, limit}
 use Rattle.fifo.specs.Steps.{Jobs}
-use Rattle.fifo.specs.Fairness.{unrefused, Paced, upTo, Names, Recurs, span}
+use Rattle.fifo.specs.Fairness.{unrefused, Paced, upTo, Names, Soon, span}
 use Rattle.fifo.specs.Buffer.{Use, tickIn, popIn, callsOn, endOf, started}
 
 -- n minutes from m on
@@ -26,7 +26,7 @@ SteadyPaced = (jobs : Jobs) (t n size : ℕ) (buffer : List ℕ) (first : List U
 abbrev pub FairSteady : Type 0
 FairSteady = (jobs : Jobs) (gap e t size : ℕ) (buffer : List ℕ) (first : List Use)
     → jobs .count < limit
-    → e < jobs .count → jobs .boot e ≡ false → Recurs jobs gap e
+    → e < jobs .count → jobs .boot e ≡ false → Soon jobs gap e t
     → roomy (jobs .count) (take size buffer) ≡ true
     → t + span jobs gap ≤ jobs .last
     → Names jobs e (upTo (span jobs gap) (callsOn jobs (endOf jobs (started jobs size buffer) first) (steady size (t + 1) (span jobs gap))))
