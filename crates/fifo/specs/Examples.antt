@@ -11,7 +11,7 @@ use Rattle.fifo.specs.declared.Ticked.{Ticked}
 use Rattle.fifo.specs.declared.Popped.{Popped}
 use Rattle.fifo.specs.declared.Ticked.the-variants.{Joined, Refused as NotTicked}
 use Rattle.fifo.specs.declared.Popped.the-variants.{Entry, Nothing, Refused as NotPopped}
-use Rattle.fifo.specs.Line.{has, entriesOf, pick}
+use Rattle.fifo.specs.WaitingLine.{standsIn, entriesOf, pick}
 use Rattle.fifo.specs.Layout.{numbers, bytes, counted, lineOf, image, laid, roomy, isLine}
 use Rattle.fifo.specs.Steps.{Jobs, fresh, initStep, joins, joiners, ticked, tickStep, front, popped, popStep}
 use Rattle.fifo.specs.Fairness.{Call, tick, pop, roomAfter}
@@ -35,7 +35,7 @@ whole-run :
     map (answer three) (callsOn three (started three 88 (replicate 90 7)) (popIn 88 ∷ tickIn 59 90 ∷ tickIn 60 88 ∷ popIn 8 ∷ popIn 90 ∷ popIn 88 ∷ []))
     ≡ inr (Entry 1) ∷ inl (Joined 1) ∷ inl (Joined 1) ∷ inr (Entry 0) ∷ inr (Entry 2) ∷ inr Nothing ∷ []
 unfolding three answer callsOn callOn bufferAfter lent started initStep fresh roomAfter tickStep popStep ticked joiners joins front
-    popped isLine roomy laid image lineOf counted numbers bytes entriesOf has pick
+    popped isLine roomy laid image lineOf counted numbers bytes entriesOf standsIn pick
 whole-run = refl
 
 -- a room that is one byte too short, and one that says entry 0 twice, are 28; a minute off the calendar is 14
@@ -43,7 +43,7 @@ refusals-run :
     map (answer three) (pop (take 7 (replicate 90 0)) ∷ pop (2 ∷ 0 ∷ 0 ∷ 0 ∷ 0 ∷ 0 ∷ 0 ∷ 0 ∷ []) ∷ tick 4223371680 (replicate 8 0) ∷ [])
     ≡ inr (NotPopped 28) ∷ inr (NotPopped 28) ∷ inl (NotTicked 14) ∷ []
 unfolding three answer tickStep popStep ticked joiners joins front popped isLine roomy laid image lineOf counted numbers bytes
-    entriesOf has
+    entriesOf standsIn
     pick
 refusals-run = refl
 
@@ -61,5 +61,5 @@ bound-is-met :
     ≡ inl (Joined 1) ∷ inr (Entry 0) ∷ inl (Joined 2) ∷ inr (Entry 0) ∷ inl (Joined 1) ∷ inr (Entry 1) ∷ []
 unfolding pair answer callsOn callOn bufferAfter lent started initStep fresh roomAfter tickStep popStep ticked joiners joins
     front popped
-    isLine roomy laid image lineOf counted numbers bytes entriesOf has pick
+    isLine roomy laid image lineOf counted numbers bytes entriesOf standsIn pick
 bound-is-met = refl

@@ -1,5 +1,5 @@
 -- Paper 01, "The line of waiting jobs", the third demand: the words of its claim about whole lists of calls, and the claim, for any
--- jobs. docs/PROMISES.md lays it beside the demand, sentence by sentence. That it holds is proved in proofs/Fair.
+-- jobs. docs/PROMISES.md lays it beside the demand, sentence by sentence. That it holds is proved in proofs/Theorems.
 -- Assumes nothing.
 use mathlib.Core.Path.{_≡_}
 use mathlib.Core.Logic.{_⊎_}
@@ -8,9 +8,9 @@ use mathlib.Core.Bool.{Bool, true, false, not, cond}
 use mathlib.Core.List.{List, [], _∷_, _++_}
 use lib.Dec.{eqb}
 use Rattle.fifo.specs.declared.Popped.the-variants.{Entry}
-use Rattle.fifo.specs.Line.{entriesOf}
+use Rattle.fifo.specs.WaitingLine.{entriesOf}
 use Rattle.fifo.specs.Layout.{lineOf, laid, roomy, limit}
-use Rattle.fifo.specs.Answers.{tickRefusal, popRefusal}
+use Rattle.fifo.specs.Refusals.{tickRefusal, popRefusal}
 use Rattle.fifo.specs.Steps.{Jobs, fresh, tickStep, popStep}
 
 -- ---- calls
@@ -34,19 +34,19 @@ unfoldable pub refusal : Jobs → Call → ℕ
 refusal jobs (tick minute room) = tickRefusal (tickStep jobs minute room .answer)
 refusal jobs (pop room) = popRefusal (popStep (jobs .count) room .answer)
 
-unfoldable pub refused : Jobs → Call → Bool
-refused jobs c = not (eqb (refusal jobs c) 0)
+unfoldable pub isRefused : Jobs → Call → Bool
+isRefused jobs c = not (eqb (refusal jobs c) 0)
 
 -- a list with its refused calls dropped, by what they really answer
 unfoldable pub unrefused : Jobs → List Call → List Call
 unrefused jobs [] = []
-unrefused jobs (c ∷ cs) = let rest = unrefused jobs cs in cond (refused jobs c) rest (c ∷ rest)
+unrefused jobs (c ∷ cs) = let rest = unrefused jobs cs in cond (isRefused jobs c) rest (c ∷ rest)
 
 -- ---- each call gets the line that the last one left
 
 -- the line that stands after a call, where l stood before: a refused call leaves it
 unfoldable pub lineAfter : Jobs → List ℕ → Call → List ℕ
-lineAfter jobs l c = cond (refused jobs c) l (lineOf (roomAfter jobs c))
+lineAfter jobs l c = cond (isRefused jobs c) l (lineOf (roomAfter jobs c))
 
 -- the room holds the line l, and it may hold other bytes behind it: to lay l there would change nothing
 abbrev pub Holds : List ℕ → List ℕ → Type 0
@@ -90,8 +90,8 @@ unfoldable pub Soon : Jobs → ℕ → ℕ → ℕ → Type 0
 Soon jobs gap e t = (m : ℕ) × (t < m) × (m ≤ t + gap) × (jobs .matches e m ≡ true)
 
 -- how many minutes the second list announces
-abbrev pub span : Jobs → ℕ → ℕ
-span jobs gap = gap + jobs .count - 1
+abbrev pub bound : Jobs → ℕ → ℕ
+bound jobs gap = gap + jobs .count - 1
 
 -- From any line that names only entries, none twice. That the minutes are on the calendar needn't be said: an announcement of one
 -- that isn't is refused.
@@ -101,8 +101,8 @@ FairFrom = (jobs : Jobs) (gap e t : ℕ) (l : List ℕ) (second : List Call)
     → e < jobs .count → jobs .boot e ≡ false → Soon jobs gap e t
     → entriesOf (jobs .count) l ≡ true
     → Follows jobs l second
-    → Paced (t + 1) (span jobs gap) true (unrefused jobs second)
-    → Names jobs e (upTo (span jobs gap) (unrefused jobs second))
+    → Paced (t + 1) (bound jobs gap) true (unrefused jobs second)
+    → Names jobs e (upTo (bound jobs gap) (unrefused jobs second))
 
 -- from the fresh line, through any first list
 abbrev pub Fair : Type 0
@@ -110,5 +110,5 @@ Fair = (jobs : Jobs) (gap e t : ℕ) (first second : List Call)
     → jobs .count < limit
     → e < jobs .count → jobs .boot e ≡ false → Soon jobs gap e t
     → Follows jobs (fresh jobs) (first ++ second)
-    → Paced (t + 1) (span jobs gap) true (unrefused jobs second)
-    → Names jobs e (upTo (span jobs gap) (unrefused jobs second))
+    → Paced (t + 1) (bound jobs gap) true (unrefused jobs second)
+    → Names jobs e (upTo (bound jobs gap) (unrefused jobs second))

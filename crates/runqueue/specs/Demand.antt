@@ -1,6 +1,6 @@
 -- The third demand for tables: the claims of fifo's Fairness, in its words, where the jobs are a table's, the calendar ends with its last
 -- minute, and the gap is the schedule's. They are made of the steps that `init`, `tick` and `pop` promise (`TableSteps`).
--- docs/PROMISES.md lays `TableFair` beside the demand, sentence by sentence. That the claims hold is proved in proofs/Demand.
+-- docs/PROMISES.md lays `TableFair` beside the demand, sentence by sentence. That the claims hold is proved in proofs/Theorems.
 -- Assumes nothing.
 use mathlib.Core.Path.{_≡_}
 use Prim.Native.Nat.{ℕ, _+_, _≤_, _<_}
@@ -10,12 +10,12 @@ use lib.ListN.{take}
 use Rattle.calendar.specs.Dates.{lastMinute, cycleMinutes}
 use Rattle.schedule.specs.Gap.{gap}
 use Rattle.crontab.specs.Tables.{tableOf}
-use Rattle.fifo.specs.Line.{entriesOf}
+use Rattle.fifo.specs.WaitingLine.{entriesOf}
 use Rattle.fifo.specs.Layout.{roomy}
 use Rattle.fifo.specs.Steps.{Jobs, fresh, initStep, tickStep, popStep}
-use Rattle.fifo.specs.Fairness.{Call, Follows, unrefused, Paced, upTo, Names, span}
-use Rattle.fifo.specs.Refusals.{Expected}
-use Rattle.fifo.specs.Buffer.{Use, callsOn, endOf, started}
+use Rattle.fifo.specs.Fairness.{Call, Follows, unrefused, Paced, upTo, Names, bound}
+use Rattle.fifo.specs.RefusedCalls.{Expected}
+use Rattle.fifo.specs.Buffer.{Use, callsOn, bufferAfterAll, started}
 use Rattle.fifo.specs.Steady.{steady}
 use Rattle.runqueue.specs.Jobs.{jobsOf}
 use Rattle.runqueue.specs.Calls.{initOf, tickOf, popOf}
@@ -38,9 +38,9 @@ TableFair = (table : List ℕ) (e t : ℕ) (first second : List Call)
     → let jobs = jobsIn table in
     CanFire table e
     → Follows jobs (fresh jobs) (first ++ second)
-    → t + span jobs gap ≤ lastMinute
-    → Paced (t + 1) (span jobs gap) true (unrefused jobs second)
-    → Names jobs e (upTo (span jobs gap) (unrefused jobs second))
+    → t + bound jobs gap ≤ lastMinute
+    → Paced (t + 1) (bound jobs gap) true (unrefused jobs second)
+    → Names jobs e (upTo (bound jobs gap) (unrefused jobs second))
 
 -- the same from any line of the table, such as one that was left when the table was changed
 abbrev pub TableFairFrom : Type 0
@@ -49,9 +49,9 @@ TableFairFrom = (table : List ℕ) (e t : ℕ) (l : List ℕ) (second : List Cal
     CanFire table e
     → entriesOf (jobs .count) l ≡ true
     → Follows jobs l second
-    → t + span jobs gap ≤ lastMinute
-    → Paced (t + 1) (span jobs gap) true (unrefused jobs second)
-    → Names jobs e (upTo (span jobs gap) (unrefused jobs second))
+    → t + bound jobs gap ≤ lastMinute
+    → Paced (t + 1) (bound jobs gap) true (unrefused jobs second)
+    → Names jobs e (upTo (bound jobs gap) (unrefused jobs second))
 
 -- what the three functions promise for a table is the steps of which the claims speak
 abbrev pub ByTheSteps : List ℕ → Type 0
@@ -79,9 +79,9 @@ TableFairInBuffer = (table : List ℕ) (e t : ℕ) (size : ℕ) (buffer : List �
     → let jobs = jobsIn table in
     CanFire table e
     → roomy (jobs .count) (take size buffer) ≡ true
-    → t + span jobs gap ≤ lastMinute
-    → let calls = unrefused jobs (callsOn jobs (endOf jobs (started jobs size buffer) first) second) in
-    Paced (t + 1) (span jobs gap) true calls → Names jobs e (upTo (span jobs gap) calls)
+    → t + bound jobs gap ≤ lastMinute
+    → let calls = unrefused jobs (callsOn jobs (bufferAfterAll jobs (started jobs size buffer) first) second) in
+    Paced (t + 1) (bound jobs gap) true calls → Names jobs e (upTo (bound jobs gap) calls)
 
 -- the claim with no hypothesis about calls: whatever went before, each minute is announced and one request follows
 abbrev pub TableFairSteady : Type 0
@@ -89,5 +89,5 @@ TableFairSteady = (table : List ℕ) (e t size : ℕ) (buffer : List ℕ) (first
     → let jobs = jobsIn table in
     CanFire table e
     → roomy (jobs .count) (take size buffer) ≡ true
-    → t + span jobs gap ≤ lastMinute
-    → Names jobs e (upTo (span jobs gap) (callsOn jobs (endOf jobs (started jobs size buffer) first) (steady size (t + 1) (span jobs gap))))
+    → t + bound jobs gap ≤ lastMinute
+    → Names jobs e (upTo (bound jobs gap) (callsOn jobs (bufferAfterAll jobs (started jobs size buffer) first) (steady size (t + 1) (bound jobs gap))))

@@ -7,10 +7,10 @@ use native.Mathlib.Omega.{arith}
 use borrow.Author.Needs.{needs}
 use lib.ListN.{getD, take}
 use lib.Seq.{take-all}
-use Rattle.fifo.specs.Line.{entriesOf}
+use Rattle.fifo.specs.WaitingLine.{entriesOf}
 use Rattle.fifo.specs.Layout.{lineOf}
-use Rattle.fifo.proofs.Lines.{entries-snoc, cut-over, cut-twice, take-next}
-use Rattle.fifo.proofs.Marks.{Marks, mark, shifted, marks-none, marks-has, marks-has-not, marks-more}
+use Rattle.fifo.proofs.WaitingLines.{entries-snoc, cut-over, cut-twice, take-next}
+use Rattle.fifo.proofs.Marks.{Marks, mark, shifted, marks-none, marks-stands, marks-stands-not, marks-more}
 use Rattle.fifo.proofs.Numbers.{line-at}
 use Rattle.fifo.proofs.are_entries.Statement.{statement}
 use Rattle.fifo.proofs.are_entries.Tie as tie
@@ -66,7 +66,7 @@ returns-2 : tie.Need-returns-2 Inv-loop μ-loop
 returns-2 c =
     let l = lineOf (c .before .before .before .before .before .before .before .args .room .now) in
     let inv = c .before .before .before .before .loop .inv in
-    sym (cut-twice l (c .before .before .before .before .loop .i) _ (omega arith) (entry (c .before .before)) _ (marks-has _ _ _ _ (inv .2) (c .if2 .taken)))
+    sym (cut-twice l (c .before .before .before .before .loop .i) _ (omega arith) (entry (c .before .before)) _ (marks-stands _ _ _ _ (inv .2) (c .if2 .taken)))
 
 cast-seen : tie.Need-cast-seen Inv-loop μ-loop
 cast-seen c = search needs
@@ -93,7 +93,7 @@ loop-again c =
     let i = c .before .before .before .before .loop .i in
     let e = c .before .before .number .result in
     let inv = c .before .before .before .before .loop .inv in
-    let new = marks-has-not _ _ _ e (inv .2) (c .if2 .left) in (
+    let new = marks-stands-not _ _ _ e (inv .2) (c .if2 .left) in (
       omega arith,
       rw (take-next l i e (omega arith) (entry (c .before .before))) (entries-snoc _ (take i l) e (inv .1) (c .before .if1 .left) new),
       rw (take-next l i e (omega arith) (entry (c .before .before)), shifted (e % 64) (omega arith)) (marks-more 1024 _ (take i l) e (omega arith) (inv .2)),

@@ -4,7 +4,7 @@ use native.Mathlib.Omega.{arith}
 use borrow.Author.Needs.{needs}
 use mathlib.Core.Path.{refl}
 use lib.ListN.{length-set}
-use Rattle.fifo.specs.Layout.{stored}
+use Rattle.fifo.specs.SmallSteps.{stored}
 use Rattle.fifo.proofs.store.Statement.{statement}
 use Rattle.fifo.proofs.store.Tie as tie
 
