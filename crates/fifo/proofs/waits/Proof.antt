@@ -18,18 +18,6 @@ Inv-loop room e count i₀ i = standsIn e (drop i (lineOf room)) ≡ standsIn e 
 abbrev μ-loop : tie.MeasureT-loop
 μ-loop room e count i₀ i = count - i
 
-len-requires : tie.Need-len-requires Inv-loop μ-loop
-len-requires c κs = search needs
-
-loop-holds : tie.Need-loop-holds Inv-loop μ-loop
-loop-holds c = search needs
-
-add-number : tie.Need-add-number Inv-loop μ-loop
-add-number c = omega arith
-
-number-requires : tie.Need-number-requires Inv-loop μ-loop
-number-requires c κs = search needs
-
 -- the number that was read is the entry at place i
 entry : (c : tie.After-number Inv-loop μ-loop)
     → getD (lineOf (c .before .before .before .before .before .args .room .now)) (c .before .before .loop .i) 0 ≡ c .number .result
@@ -40,12 +28,6 @@ returns c =
     let a = c .before .before .before .before .before .before .args in
     sym (stands-here (a .e) (lineOf (a .room .now)) (c .before .before .before .loop .i) (omega arith) (entry (c .before) ∙ c .if1 .taken))
     ∙ c .before .before .before .loop .inv
-
-add-i : tie.Need-add-i Inv-loop μ-loop
-add-i c = omega arith
-
-loop-less : tie.Need-loop-less Inv-loop μ-loop
-loop-less c = omega arith
 
 loop-again : tie.Need-loop-again Inv-loop μ-loop
 loop-again c =
@@ -62,12 +44,12 @@ waits-spec =
     (tie.spec
     Inv-loop
     μ-loop
-    len-requires
-    loop-holds
-    add-number
-    number-requires
+    (λ c κs. search needs)
+    (λ c. search needs)
+    (λ c. omega arith)
+    (λ c κs. search needs)
     returns
-    add-i
-    loop-less
+    (λ c. omega arith)
+    (λ c. omega arith)
     loop-again
     returns-2)
