@@ -4,9 +4,6 @@ use borrow.Author.Needs.{needs}
 use Rattle.schedule.specs.Match.{bothMust, byDayRule, matchesDay}
 use Rattle.schedule.proofs.day.matches_day.Statement.{statement}
 use Rattle.schedule.proofs.day.matches_day.Tie as tie
-use Rattle.schedule.proofs.day.matches_day.Reads as reads
-use Rattle.schedule.proofs.day.matches_day.Lts as lts
-use Rattle.schedule.proofs.set.has.Reads as has-reads
 
 returns : tie.Need-returns
 unfolding matchesDay byDayRule bothMust
