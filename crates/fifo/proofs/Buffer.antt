@@ -10,15 +10,14 @@ use native.Mathlib.Omega.{arith}
 use lib.ListN.{length, take, drop, length-take, take-append-drop}
 use lib.Seq.{take-append-add}
 use borrow.Author.Tests.{leb-true}
-use Rattle.fifo.specs.Line.{entriesOf}
+use Rattle.fifo.specs.WaitingLine.{entriesOf}
 use Rattle.fifo.specs.Layout.{lineOf, image, laid, lineSize, roomy, limit}
 use Rattle.fifo.specs.Steps.{Jobs, fresh, initStep}
-use Rattle.fifo.specs.Fairness.{Call, roomOf, roomAfter, refused, lineAfter, Holds, Follows}
-use Rattle.fifo.specs.Buffer.{Use, tickIn, popIn, lent, callOn, bufferAfter, callsOn, endOf, started, FairInBuffer}
-use Rattle.fifo.proofs.Lines.{entries-length}
+use Rattle.fifo.specs.Fairness.{Call, roomOf, roomAfter, isRefused, lineAfter, Holds, Follows}
+use Rattle.fifo.specs.Buffer.{Use, tickIn, popIn, lent, callOn, bufferAfter, callsOn, bufferAfterAll, started}
+use Rattle.fifo.proofs.WaitingLines.{entries-length}
 use Rattle.fifo.proofs.Laid.{length-image, lineOf-laid}
-use Rattle.fifo.proofs.Calls.{holds-front, holds-laid, Undone, Done, effect, effect-entries, outcome, fresh-entries, after-entries}
-use Rattle.fifo.proofs.Fair.{fair}
+use Rattle.fifo.proofs.Calls.{holds-front, holds-laid, Undone, Done, effect, effect-entries, outcome, after-entries}
 
 -- ---- a line at the front of a buffer
 
@@ -65,16 +64,16 @@ module _ (jobs : Jobs) (h : jobs .count < limit) where
       c : Call
       c = callOn buffer u
 
-      undone : Undone jobs c → Holds (cond (refused jobs c) l (lineOf (roomAfter jobs c))) (roomAfter jobs c ++ drop (lent u) buffer)
+      undone : Undone jobs c → Holds (cond (isRefused jobs c) l (lineOf (roomAfter jobs c))) (roomAfter jobs c ++ drop (lent u) buffer)
       undone w = rw (w .was, w .room, room-on buffer u, take-append-drop (lent u) buffer) held
 
-      done : Done jobs l c → Holds (cond (refused jobs c) l (lineOf (roomAfter jobs c))) (roomAfter jobs c ++ drop (lent u) buffer)
+      done : Done jobs l c → Holds (cond (isRefused jobs c) l (lineOf (roomAfter jobs c))) (roomAfter jobs c ++ drop (lent u) buffer)
       done w =
           rw (w .was, w .room, lineOf-laid (jobs .count) (effect jobs l c) (roomOf c) h (effect-entries jobs l c e))
           (holds-more (effect jobs l c) (laid (effect jobs l c) (roomOf c)) (drop (lent u) buffer) (holds-laid (effect jobs l c) (roomOf c)))
 
   -- the calls follow from the line that the buffer has
-  on-follows : (us : List Use) (buffer l : List ℕ) → entriesOf (jobs .count) l ≡ true → Holds l buffer → Follows jobs l (callsOn jobs buffer us)
+  pub on-follows : (us : List Use) (buffer l : List ℕ) → entriesOf (jobs .count) l ≡ true → Holds l buffer → Follows jobs l (callsOn jobs buffer us)
   unfolding callsOn
   on-follows [] buffer l e held = tt
   on-follows (u ∷ us) buffer l e held =
@@ -88,15 +87,8 @@ module _ (jobs : Jobs) (h : jobs .count < limit) where
   unfolding started initStep
   started-holds size buffer r = rw r (holds-more (fresh jobs) _ (drop size buffer) (holds-laid (fresh jobs) (take size buffer)))
 
-calls-append : (jobs : Jobs) (first second : List Use) (buffer : List ℕ)
-    → callsOn jobs buffer (first ++ second) ≡ callsOn jobs buffer first ++ callsOn jobs (endOf jobs buffer first) second
-unfolding callsOn endOf
+pub calls-append : (jobs : Jobs) (first second : List Use) (buffer : List ℕ)
+    → callsOn jobs buffer (first ++ second) ≡ callsOn jobs buffer first ++ callsOn jobs (bufferAfterAll jobs buffer first) second
+unfolding callsOn bufferAfterAll
 calls-append jobs [] second buffer = refl
 calls-append jobs (u ∷ us) second buffer = rw (calls-append jobs us second (bufferAfter jobs buffer u))
-
-pub fair-in-buffer : FairInBuffer
-fair-in-buffer jobs gap e t size buffer first second h below timed recurs r end paced =
-    let b = started jobs size buffer in
-    let follows = on-follows jobs h (first ++ second) b (fresh jobs) (fresh-entries jobs) (started-holds jobs h size buffer r) in
-    fair jobs gap e t (callsOn jobs b first) (callsOn jobs (endOf jobs b first) second) h below timed recurs
-    (rw (calls-append jobs first second b) at follows) end paced

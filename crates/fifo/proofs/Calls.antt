@@ -10,13 +10,13 @@ use native.Mathlib.Nat.{le-refl}
 use lib.Dec.{leb}
 use lib.ListN.{length}
 use lib.Seq.{drop-append-seam}
-use Rattle.fifo.specs.Line.{has, entriesOf}
+use Rattle.fifo.specs.WaitingLine.{standsIn, entriesOf}
 use Rattle.fifo.specs.Layout.{lineOf, image, laid, roomy, isLine, limit}
-use Rattle.fifo.specs.Answers.{tickRefusal, popRefusal}
+use Rattle.fifo.specs.Refusals.{tickRefusal, popRefusal}
 use Rattle.fifo.specs.Steps.{Jobs, fresh, joins, joiners, ticked, tickStep, front, popped, popStep}
-use Rattle.fifo.specs.Fairness.{Call, tick, pop, roomOf, roomAfter, refusal, refused, lineAfter, Holds, Follows}
-use Rattle.fifo.specs.Refusals.{expected}
-use Rattle.fifo.proofs.Lines.{entries-popped, entries-pick}
+use Rattle.fifo.specs.Fairness.{Call, tick, pop, roomOf, roomAfter, refusal, isRefused, lineAfter, Holds, Follows}
+use Rattle.fifo.specs.RefusedCalls.{expected, Expected}
+use Rattle.fifo.proofs.WaitingLines.{entries-popped, entries-pick}
 use Rattle.fifo.proofs.Filling.{joins-new}
 use Rattle.fifo.proofs.Laid.{lineOf-laid, isLine-laid, laid-laid}
 
@@ -44,7 +44,7 @@ small-is n room r = rw r
 -- ---- lines of entries stay so
 
 pub fresh-entries : (jobs : Jobs) → entriesOf (jobs .count) (fresh jobs) ≡ true
-unfolding fresh entriesOf has
+unfolding fresh entriesOf standsIn
 fresh-entries jobs = entries-pick (jobs .count) [] (jobs .boot) (λ e q. refl) refl (jobs .count) (le-refl (jobs .count))
 
 pub ticked-entries : (jobs : Jobs) (minute : ℕ) (l : List ℕ) → entriesOf (jobs .count) l ≡ true → entriesOf (jobs .count) (ticked jobs minute l) ≡ true
@@ -69,12 +69,12 @@ effect-entries jobs l (tick minute room) e = ticked-entries jobs minute l e
 effect-entries jobs l (pop room) e = entries-popped (jobs .count) l e
 
 pub record Undone (jobs : Jobs) (c : Call) : Type 0 where
-  pub was : refused jobs c ≡ true
+  pub was : isRefused jobs c ≡ true
   pub why : refusal jobs c ≡ expected jobs c
   pub room : roomAfter jobs c ≡ roomOf c
 
 pub record Done (jobs : Jobs) (l : List ℕ) (c : Call) : Type 0 where
-  pub was : refused jobs c ≡ false
+  pub was : isRefused jobs c ≡ false
   pub why : refusal jobs c ≡ expected jobs c
   pub room : roomAfter jobs c ≡ laid (effect jobs l c) (roomOf c)
   pub answer : Answered jobs l c
@@ -82,7 +82,7 @@ pub record Done (jobs : Jobs) (l : List ℕ) (c : Call) : Type 0 where
 module _ (jobs : Jobs) (h : jobs .count < limit) (l : List ℕ) (e : entriesOf (jobs .count) l ≡ true) where
   tick-outcome : (minute : ℕ) (room : List ℕ) → (roomy (jobs .count) room ≡ true → Holds l room)
       → Undone jobs (tick minute room) ⊎ Done jobs l (tick minute room)
-  unfolding refused refusal roomAfter roomOf expected tickStep tickRefusal effect
+  unfolding isRefused refusal roomAfter roomOf expected tickStep tickRefusal effect
   tick-outcome minute room f = go (roomy (jobs .count) room) refl (leb minute (jobs .last)) refl
     where
       go : (b : Bool) → roomy (jobs .count) room ≡ b → (d : Bool) → leb minute (jobs .last) ≡ d
@@ -99,7 +99,7 @@ module _ (jobs : Jobs) (h : jobs .count < limit) (l : List ℕ) (e : entriesOf (
           inr (record { was = rw (i, q); why = rw (i, q, r); room = rw (i, q, k, roomAfter); answer = tt })
 
   pop-outcome : (room : List ℕ) → (roomy (jobs .count) room ≡ true → Holds l room) → Undone jobs (pop room) ⊎ Done jobs l (pop room)
-  unfolding refused refusal roomAfter roomOf expected popStep popRefusal front effect
+  unfolding isRefused refusal roomAfter roomOf expected popStep popRefusal front effect
   pop-outcome room f = go (roomy (jobs .count) room) refl
     where
       front-is : (k : List ℕ) → popRefusal (front k) ≡ 0
@@ -129,7 +129,7 @@ module _ (jobs : Jobs) (h : jobs .count < limit) where
   unfolding lineAfter
   after-entries l c e f = elim (outcome jobs h l e c f) [ inl u ↦ rw (u .was) e | inr d ↦ done d ]
     where
-      done : Done jobs l c → entriesOf (jobs .count) (cond (refused jobs c) l (lineOf (roomAfter jobs c))) ≡ true
+      done : Done jobs l c → entriesOf (jobs .count) (cond (isRefused jobs c) l (lineOf (roomAfter jobs c))) ≡ true
       done d = rw (d .was, d .room, lineOf-laid (jobs .count) (effect jobs l c) (roomOf c) h (effect-entries jobs l c e)) (effect-entries jobs l c e)
 
   -- a second list goes on from some line of entries
@@ -137,3 +137,11 @@ module _ (jobs : Jobs) (h : jobs .count < limit) where
       → (k : List ℕ) × (entriesOf (jobs .count) k ≡ true) × Follows jobs k second
   goes-on [] second l e f = (l, e, f)
   goes-on (c ∷ cs) second l e f = goes-on cs second (lineAfter jobs l c) (after-entries l c e (f .0)) (f .1)
+
+  -- each call is refused just as it should be
+  pub expected-all : (cs : List Call) (l : List ℕ) → entriesOf (jobs .count) l ≡ true → Follows jobs l cs → Expected jobs cs
+  expected-all [] l e f = tt
+  expected-all (c ∷ cs) l e f = (
+    elim (outcome jobs h l e c (f .0)) [ inl u ↦ u .why | inr d ↦ d .why ],
+    expected-all cs (lineAfter jobs l c) (after-entries l c e (f .0)) (f .1),
+  )

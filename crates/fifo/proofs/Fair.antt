@@ -1,4 +1,4 @@
--- The third demand: an entry whose minutes recur is named in time. Within the first `gap` announcements one matches it, and
+-- The third demand: an entry that a minute matches soon is named in time. Within the first `gap` announcements one matches it, and
 -- from then on it waits. At most count - 1 others stand before it, those that join stand behind it, and each minute brings a
 -- request.
 -- Assumes nothing.
@@ -11,13 +11,13 @@ use native.Mathlib.Omega.{arith}
 use lib.Dec.{eqb}
 use lib.ListN.{length}
 use borrow.Author.Tests.{eqb-true, lt-ltb}
-use Rattle.fifo.specs.Line.{has, entriesOf}
+use Rattle.fifo.specs.WaitingLine.{standsIn, entriesOf}
 use Rattle.fifo.specs.Layout.{limit}
-use Rattle.fifo.specs.Steps.{Jobs, fresh, joins, joiners, ticked, front, popped, popStep}
-use Rattle.fifo.specs.Fairness.{Call, tick, pop, roomOf, unrefused, lineAfter, Follows, Paced, upTo, Names, span, Fair}
-use Rattle.fifo.proofs.Lines.{has-append, has-pick, entries-length, entries-popped}
+use Rattle.fifo.specs.Steps.{Jobs, joins, joiners, ticked, front, popped, popStep}
+use Rattle.fifo.specs.Fairness.{Call, tick, pop, roomOf, unrefused, lineAfter, Follows, Paced, upTo, Names, Soon}
+use Rattle.fifo.proofs.WaitingLines.{stands-append, stands-pick, entries-length, entries-popped}
 use Rattle.fifo.proofs.Laid.{lineOf-laid}
-use Rattle.fifo.proofs.Calls.{Undone, Done, effect, effect-entries, outcome, fresh-entries, ticked-entries, after-entries, goes-on}
+use Rattle.fifo.proofs.Calls.{Undone, Done, effect, effect-entries, outcome, ticked-entries, after-entries}
 
 -- ---- where an entry stands
 
@@ -33,12 +33,12 @@ at-length : {e p : ℕ} {l : List ℕ} → At e p l → p < length l
 at-length here = omega arith
 at-length (there a) = omega (arith, at-length a)
 
-at-has : (e : ℕ) (l : List ℕ) → has e l ≡ true → (p : ℕ) × At e p l
-unfolding has
-at-has e [] q = absurd (false≢true q)
-at-has e (x ∷ l) q = go (eqb x e) refl q (λ k. at-has e l k)
+at-stands : (e : ℕ) (l : List ℕ) → standsIn e l ≡ true → (p : ℕ) × At e p l
+unfolding standsIn
+at-stands e [] q = absurd (false≢true q)
+at-stands e (x ∷ l) q = go (eqb x e) refl q (λ k. at-stands e l k)
   where
-    go : (b : Bool) → eqb x e ≡ b → (b || has e l) ≡ true → (has e l ≡ true → (p : ℕ) × At e p l) → (p : ℕ) × At e p (x ∷ l)
+    go : (b : Bool) → eqb x e ≡ b → (b || standsIn e l) ≡ true → (standsIn e l ≡ true → (p : ℕ) × At e p l) → (p : ℕ) × At e p (x ∷ l)
     go true r k later = (0, rw (eqb-true x e r) here)
     go false r k later = let a = later k in (suc (a .0), there (a .1))
 
@@ -55,7 +55,7 @@ module _ (jobs : Jobs) (h : jobs .count < limit) where
   runs-done (tick minute room) cs l d r = r
   runs-done (pop room) cs l d r = (d .answer, r)
 
-  runs : (cs : List Call) (l : List ℕ) → entriesOf (jobs .count) l ≡ true → Follows jobs l cs → Runs jobs l (unrefused jobs cs)
+  pub runs : (cs : List Call) (l : List ℕ) → entriesOf (jobs .count) l ≡ true → Follows jobs l cs → Runs jobs l (unrefused jobs cs)
   unfolding unrefused lineAfter
   runs [] l e f = tt
   runs (c ∷ cs) l e f = go (outcome jobs h l e c (f .0)) (runs cs (lineAfter jobs l c) (after-entries jobs h l c e (f .0)) (f .1))
@@ -75,33 +75,33 @@ module _ (jobs : Jobs) (e : ℕ) where
   Near true p n = p < n
   Near false p n = p ≤ n
 
-  named : (cs : List Call) (l : List ℕ) (p m n : ℕ) (asked : Bool) → At e p l → Near asked p n → Runs jobs l cs → Paced m n asked cs
+  waiting-named : (cs : List Call) (l : List ℕ) (p m n : ℕ) (asked : Bool) → At e p l → Near asked p n → Runs jobs l cs → Paced m n asked cs
       → Names jobs e (upTo n cs)
   unfolding ticked front popped
-  named [] l p m n true a near r paced = absurd (omega (arith, paced .0))
-  named [] l p m n false a near r paced = absurd (false≢true (paced .1))
-  named (tick minute room ∷ cs) l p m zero asked a near r paced = absurd paced
-  named (tick minute room ∷ cs) l p m (suc n) true a near r paced =
-      named cs (ticked jobs minute l) p (m + 1) n false (at-append (joiners jobs minute l) a) (omega arith) r (paced .2)
-  named (tick minute room ∷ cs) l p m (suc n) false a near r paced = absurd (false≢true (paced .0))
-  named (pop room ∷ cs) (x ∷ l) zero m zero asked here near r paced = inl (r .0)
-  named (pop room ∷ cs) (x ∷ l) zero m (suc n) asked here near r paced = inl (r .0)
-  named (pop room ∷ cs) (x ∷ l) (suc p) m zero true (there a) near r paced = absurd (omega arith)
-  named (pop room ∷ cs) (x ∷ l) (suc p) m zero false (there a) near r paced = absurd (omega arith)
-  named (pop room ∷ cs) (x ∷ l) (suc p) m (suc n) true (there a) near r paced =
-      inr (named cs l p m (suc n) true a (omega arith) (r .1) paced)
-  named (pop room ∷ cs) (x ∷ l) (suc p) m (suc n) false (there a) near r paced =
-      inr (named cs l p m (suc n) true a (omega arith) (r .1) paced)
+  waiting-named [] l p m n true a near r paced = absurd (omega (arith, paced .0))
+  waiting-named [] l p m n false a near r paced = absurd (false≢true (paced .1))
+  waiting-named (tick minute room ∷ cs) l p m zero asked a near r paced = absurd paced
+  waiting-named (tick minute room ∷ cs) l p m (suc n) true a near r paced =
+      waiting-named cs (ticked jobs minute l) p (m + 1) n false (at-append (joiners jobs minute l) a) (omega arith) r (paced .2)
+  waiting-named (tick minute room ∷ cs) l p m (suc n) false a near r paced = absurd (false≢true (paced .0))
+  waiting-named (pop room ∷ cs) (x ∷ l) zero m zero asked here near r paced = inl (r .0)
+  waiting-named (pop room ∷ cs) (x ∷ l) zero m (suc n) asked here near r paced = inl (r .0)
+  waiting-named (pop room ∷ cs) (x ∷ l) (suc p) m zero true (there a) near r paced = absurd (omega arith)
+  waiting-named (pop room ∷ cs) (x ∷ l) (suc p) m zero false (there a) near r paced = absurd (omega arith)
+  waiting-named (pop room ∷ cs) (x ∷ l) (suc p) m (suc n) true (there a) near r paced =
+      inr (waiting-named cs l p m (suc n) true a (omega arith) (r .1) paced)
+  waiting-named (pop room ∷ cs) (x ∷ l) (suc p) m (suc n) false (there a) near r paced =
+      inr (waiting-named cs l p m (suc n) true a (omega arith) (r .1) paced)
 
 -- ---- an entry joins where a minute matches it
 
 -- after the announcement it waits, whether it joined or waited before
-ticked-has : (jobs : Jobs) (e minute : ℕ) (l : List ℕ) → e < jobs .count → jobs .boot e ≡ false → jobs .matches e minute ≡ true
-    → has e (ticked jobs minute l) ≡ true
+ticked-stands : (jobs : Jobs) (e minute : ℕ) (l : List ℕ) → e < jobs .count → jobs .boot e ≡ false → jobs .matches e minute ≡ true
+    → standsIn e (ticked jobs minute l) ≡ true
 unfolding ticked joiners joins
-ticked-has jobs e minute l h b q =
-    has-append e l (joiners jobs minute l)
-    ∙ rw (has-pick (joins jobs minute l) (jobs .count) e, lt-ltb e (jobs .count) h, b, q) (either (has e l))
+ticked-stands jobs e minute l h b q =
+    stands-append e l (joiners jobs minute l)
+    ∙ rw (stands-pick (joins jobs minute l) (jobs .count) e, lt-ltb e (jobs .count) h, b, q) (either (standsIn e l))
   where
     either : (b : Bool) → (b || not b) ≡ true
     either true = refl
@@ -109,29 +109,28 @@ ticked-has jobs e minute l h b q =
 
 module _ (jobs : Jobs) (e : ℕ) (below : e < jobs .count) (timed : jobs .boot e ≡ false) where
   -- Minute m is next, m + j matches, and n minutes are to come, enough for those before that one and for a whole line after.
-  joined : (cs : List Call) (l : List ℕ) (m n j : ℕ) (asked : Bool) → entriesOf (jobs .count) l ≡ true → jobs .matches e (m + j) ≡ true
+  pub matched-named : (cs : List Call) (l : List ℕ) (m n j : ℕ) (asked : Bool) → entriesOf (jobs .count) l ≡ true → jobs .matches e (m + j) ≡ true
       → j + jobs .count ≤ n → Runs jobs l cs → Paced m n asked cs → Names jobs e (upTo n cs)
-  joined [] l m n j asked g q k r paced = absurd (omega (arith, paced .0))
-  joined (pop room ∷ cs) l m zero j asked g q k r paced = absurd (omega arith)
-  joined (pop room ∷ cs) l m (suc n) j asked g q k r paced =
-      inr (joined cs (popped l) m (suc n) j true (entries-popped (jobs .count) l g) q k (r .1) paced)
-  joined (tick minute room ∷ cs) l m zero j asked g q k r paced = absurd paced
-  joined (tick minute room ∷ cs) l m (suc n) zero asked g q k r paced =
+  matched-named [] l m n j asked g q k r paced = absurd (omega (arith, paced .0))
+  matched-named (pop room ∷ cs) l m zero j asked g q k r paced = absurd (omega arith)
+  matched-named (pop room ∷ cs) l m (suc n) j asked g q k r paced =
+      inr (matched-named cs (popped l) m (suc n) j true (entries-popped (jobs .count) l g) q k (r .1) paced)
+  matched-named (tick minute room ∷ cs) l m zero j asked g q k r paced = absurd paced
+  matched-named (tick minute room ∷ cs) l m (suc n) zero asked g q k r paced =
       let now : m + 0 ≡ minute = omega (arith, paced .1) in
-      let waits = at-has e (ticked jobs minute l) (ticked-has jobs e minute l below timed (rw now at q)) in
+      let waits = at-stands e (ticked jobs minute l) (ticked-stands jobs e minute l below timed (rw now at q)) in
       let short = entries-length (jobs .count) (ticked jobs minute l) (ticked-entries jobs minute l g) in
       let near : waits .0 ≤ n = omega (arith, at-length (waits .1)) in
-      named jobs e cs (ticked jobs minute l) (waits .0) (m + 1) n false (waits .1) near r (paced .2)
-  joined (tick minute room ∷ cs) l m (suc n) (suc j) asked g q k r paced =
+      waiting-named jobs e cs (ticked jobs minute l) (waits .0) (m + 1) n false (waits .1) near r (paced .2)
+  matched-named (tick minute room ∷ cs) l m (suc n) (suc j) asked g q k r paced =
       let next : m + suc j ≡ m + 1 + j = omega arith in
-      joined cs (ticked jobs minute l) (m + 1) n j false (ticked-entries jobs minute l g) (rw next at q) (omega arith) r (paced .2)
+      matched-named cs (ticked jobs minute l) (m + 1) n j false (ticked-entries jobs minute l g) (rw next at q) (omega arith) r (paced .2)
 
--- ---- the theorem
+-- ---- what is used of `Soon`
 
-pub fair : Fair
-fair jobs gap e t first second h below timed recurs follows end paced =
-    let (m, after, within, matched) = recurs t (omega arith) in
-    let (l, entries, goes) = goes-on jobs h first second (fresh jobs) (fresh-entries jobs) follows in
+-- the place, from t + 1 on, of the minute that matches
+pub soon-at : (jobs : Jobs) (gap e t : ℕ) → Soon jobs gap e t → (j : ℕ) × (j < gap) × (jobs .matches e (t + 1 + j) ≡ true)
+unfolding Soon
+soon-at jobs gap e t (m, after, within, matched) =
     let at : t + 1 + (m - (t + 1)) ≡ m = omega arith in
-    joined jobs e below timed (unrefused jobs second) l (t + 1) (span jobs gap) (m - (t + 1)) true entries (rw at matched) (omega arith)
-    (runs jobs h second l entries goes) paced
+    (m - (t + 1), omega arith, rw at matched)

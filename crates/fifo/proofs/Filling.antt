@@ -10,17 +10,18 @@ use lib.Dec.{leb, ltb}
 use lib.ListN.{length, length-append}
 use borrow.Author.Tests.{not-true, leb-true, le-leb, lt-leb, lt-ltb, le-ltb}
 use Rattle.fifo.specs.declared.Ticked.the-variants.{Joined, Refused}
-use Rattle.fifo.specs.Line.{has, entriesOf, pick}
+use Rattle.fifo.specs.WaitingLine.{standsIn, entriesOf, pick}
 use Rattle.fifo.specs.Layout.{isLine, lineOf, laid, lineSize, roomy, limit}
-use Rattle.fifo.specs.Steps.{Jobs, fresh, initStep, joins, joiners, ticked, tickStep, cleared, canPush, pushed, canJoin, joined}
-use Rattle.fifo.proofs.Lines.{has-append, has-pick, entries-length, entries-snoc, entries-pick}
+use Rattle.fifo.specs.Steps.{Jobs, fresh, initStep, joins, joiners, ticked, tickStep}
+use Rattle.fifo.specs.SmallSteps.{cleared, canPush, pushed, canJoin, joined}
+use Rattle.fifo.proofs.WaitingLines.{stands-append, stands-pick, entries-length, entries-snoc, entries-pick}
 use Rattle.fifo.proofs.Rooms.{is-line}
 use Rattle.fifo.proofs.Laid.{isLine-laid, lineOf-laid, laid-laid}
 
 -- ---- one entry more
 
 -- in a room that holds a line of n entries there is room for one that doesn't wait
-pub push-room : (n : ℕ) (room : List ℕ) (e : ℕ) → n < limit → isLine n room ≡ true → e < n → has e (lineOf room) ≡ false
+pub push-room : (n : ℕ) (room : List ℕ) (e : ℕ) → n < limit → isLine n room ≡ true → e < n → standsIn e (lineOf room) ≡ false
     → (canPush room ≡ true) × (pushed e room ≡ laid (lineOf room ++ e ∷ []) room)
 unfolding canPush pushed roomy
 push-room n room e h q below out =
@@ -33,7 +34,7 @@ push-room n room e h q below out =
     (rw (fits, small), rw (fits, small))
 
 -- the line is longer by it, and the room holds a line of n entries again
-pub push-line : (n : ℕ) (room : List ℕ) (e : ℕ) → n < limit → isLine n room ≡ true → e < n → has e (lineOf room) ≡ false
+pub push-line : (n : ℕ) (room : List ℕ) (e : ℕ) → n < limit → isLine n room ≡ true → e < n → standsIn e (lineOf room) ≡ false
     → (lineOf (pushed e room) ≡ lineOf room ++ e ∷ []) × (isLine n (pushed e room) ≡ true)
 push-line n room e h q below out =
     let l = lineOf room in
@@ -43,7 +44,7 @@ push-line n room e h q below out =
     (ap lineOf done ∙ lineOf-laid n (l ++ e ∷ []) room h g, ap (isLine n) done ∙ isLine-laid n (l ++ e ∷ []) room h g (i .roomy-is))
 
 -- the same of a line that was laid
-pub push-laid : (n : ℕ) (l room : List ℕ) (e : ℕ) → n < limit → roomy n room ≡ true → entriesOf n l ≡ true → e < n → has e l ≡ false
+pub push-laid : (n : ℕ) (l room : List ℕ) (e : ℕ) → n < limit → roomy n room ≡ true → entriesOf n l ≡ true → e < n → standsIn e l ≡ false
     → (canPush (laid l room) ≡ true) × (pushed e (laid l room) ≡ laid (l ++ e ∷ []) room)
 push-laid n l room e h r g below out =
     let line : lineOf (laid l room) ≡ l = lineOf-laid n l room h g in
@@ -68,7 +69,7 @@ module _ (l room : List ℕ) (p : ℕ → Bool) where
   filled-pass i q = rw (add-one i, q, append-nil (pick p i))
 
   module _ (n : ℕ) (h : n < limit) (r : roomy n room ≡ true) (g : entriesOf n l ≡ true)
-      (new : (e : ℕ) → p e ≡ true → has e l ≡ false) where
+      (new : (e : ℕ) → p e ≡ true → standsIn e l ≡ false) where
     filled-entries : (i : ℕ) → i ≤ n → entriesOf n (l ++ pick p i) ≡ true
     filled-entries i k = entries-pick n l p new g i k
 
@@ -76,11 +77,11 @@ module _ (l room : List ℕ) (p : ℕ → Bool) where
     filled-line i k = lineOf-laid n (l ++ pick p i) room h (filled-entries i k)
 
     -- entry i waits there if it waited before
-    waits-before : (i : ℕ) → has i (l ++ pick p i) ≡ has i l
-    waits-before i = has-append i l (pick p i) ∙ rw (has-pick p i i, le-ltb i i (omega arith)) (or-false (has i l))
+    waits-before : (i : ℕ) → standsIn i (l ++ pick p i) ≡ standsIn i l
+    waits-before i = stands-append i l (pick p i) ∙ rw (stands-pick p i i, le-ltb i i (omega arith)) (or-false (standsIn i l))
 
-    pub filled-waits : (i : ℕ) → i ≤ n → has i (lineOf (filled i)) ≡ has i l
-    filled-waits i k = ap (has i) (filled-line i k) ∙ waits-before i
+    pub filled-waits : (i : ℕ) → i ≤ n → standsIn i (lineOf (filled i)) ≡ standsIn i l
+    filled-waits i k = ap (standsIn i) (filled-line i k) ∙ waits-before i
 
     -- an entry that passes joins
     pub filled-push : (i : ℕ) → i < n → p i ≡ true → (canPush (filled i) ≡ true) × (pushed i (filled i) ≡ filled (i + 1))
@@ -90,16 +91,16 @@ module _ (l room : List ℕ) (p : ℕ → Bool) where
         (step .0, rw (add-one i, q, ← append-assoc) (step .1))
 
     -- so it does where the test is only that it doesn't wait
-    pub filled-join : (i : ℕ) → i < n → p i ≡ not (has i l) → (canJoin i (filled i) ≡ p i) × (joined i (filled i) ≡ filled (i + 1))
+    pub filled-join : (i : ℕ) → i < n → p i ≡ not (standsIn i l) → (canJoin i (filled i) ≡ p i) × (joined i (filled i) ≡ filled (i + 1))
     unfolding canJoin joined
-    filled-join i k q = rw (filled-waits i (omega arith), q) (go (has i l) refl)
+    filled-join i k q = rw (filled-waits i (omega arith), q) (go (standsIn i l) refl)
       where
-        go : (b : Bool) → has i l ≡ b → ((not b && canPush (filled i)) ≡ not b) × (cond b (filled i) (pushed i (filled i)) ≡ filled (i + 1))
+        go : (b : Bool) → standsIn i l ≡ b → ((not b && canPush (filled i)) ≡ not b) × (cond b (filled i) (pushed i (filled i)) ≡ filled (i + 1))
         go true w = (refl, filled-pass i (q ∙ rw w))
         go false w = filled-push i k (q ∙ rw w)
 
     -- and so it does where it is offered only if it is due
-    pub filled-offer : (i : ℕ) (due : Bool) → i < n → p i ≡ (due && not (has i l))
+    pub filled-offer : (i : ℕ) (due : Bool) → i < n → p i ≡ (due && not (standsIn i l))
         → ((due && canJoin i (filled i)) ≡ p i) × (cond due (joined i (filled i)) (filled i) ≡ filled (i + 1))
     filled-offer i true k q = filled-join i k q
     filled-offer i false k q = (sym q, filled-pass i q)
@@ -154,24 +155,24 @@ module _ (l room₀ : List ℕ) (p : ℕ → Bool) (n : ℕ) where
 -- A turn of the loop: an entry that is called joins unless it waits.
 module _ (n : ℕ) (room : List ℕ) (called : ℕ → Bool) where
   abbrev joinsNow : ℕ → Bool
-  joinsNow e = not (has e (lineOf room)) && called e
+  joinsNow e = not (standsIn e (lineOf room)) && called e
 
-  now-new : (e : ℕ) → joinsNow e ≡ true → has e (lineOf room) ≡ false
-  now-new e q = not-true (has e (lineOf room)) (and-eq-true-iff (not (has e (lineOf room))) (called e) .0 q .0)
+  now-new : (e : ℕ) → joinsNow e ≡ true → standsIn e (lineOf room) ≡ false
+  now-new e q = not-true (standsIn e (lineOf room)) (and-eq-true-iff (not (standsIn e (lineOf room))) (called e) .0 q .0)
 
   pub offer-next : (i : ℕ) → n < limit → isLine n room ≡ true → i < n
       → let at = filled (lineOf room) room joinsNow in
       ((called i && canJoin i (at i)) ≡ joinsNow i) × (cond (called i) (joined i (at i)) (at i) ≡ at (i + 1))
   offer-next i h q k =
       let line = is-line n room q in
-      filled-offer (lineOf room) room joinsNow n h (line .roomy-is) (line .entries-is) now-new i (called i) k (and-comm (not (has i (lineOf room))) (called i))
+      filled-offer (lineOf room) room joinsNow n h (line .roomy-is) (line .entries-is) now-new i (called i) k (and-comm (not (standsIn i (lineOf room))) (called i))
 
 -- ---- a fresh line and an announced minute end in their steps
 
 -- who joins doesn't wait
-pub joins-new : (jobs : Jobs) (minute : ℕ) (l : List ℕ) (e : ℕ) → joins jobs minute l e ≡ true → has e l ≡ false
+pub joins-new : (jobs : Jobs) (minute : ℕ) (l : List ℕ) (e : ℕ) → joins jobs minute l e ≡ true → standsIn e l ≡ false
 unfolding joins
-joins-new jobs minute l e q = not-true (has e l) (and-eq-true-iff (not (jobs .boot e) && jobs .matches e minute) (not (has e l)) .0 q .1)
+joins-new jobs minute l e q = not-true (standsIn e l) (and-eq-true-iff (not (jobs .boot e) && jobs .matches e minute) (not (standsIn e l)) .0 q .1)
 
 module _ (jobs : Jobs) (room : List ℕ) where
   pub init-start : roomy (jobs .count) room ≡ true → (roomy 0 room ≡ true) × (cleared room ≡ laid [] room)

@@ -11,17 +11,12 @@ use lib.Dec.{leb, ltb}
 use borrow.Author.Tests.{leb-true, lt-ltb, le-ltb, le-leb, lt-leb}
 use lib.ListN.{length, getD, take, drop, length-append, length-drop, take-append-drop}
 use lib.Seq.{take-append-seam, drop-append-add, drop-drop}
-use Rattle.fifo.specs.Line.{entriesOf}
-use Rattle.fifo.proofs.Lines.{entries-cons, entries-length}
+use Rattle.fifo.specs.WaitingLine.{entriesOf}
+use Rattle.fifo.proofs.WaitingLines.{entries-cons, entries-length}
 use Rattle.fifo.specs.Layout.{isLine, numbers, bytes, counted, lineOf, image, laid, lineSize, roomy, limit}
 use Rattle.fifo.proofs.Numbers.{Bytes, low, high, pair, length-bytes, bytes-line}
 
 -- ---- a line laid into a room
-
--- eight bytes for each entry and 64 more are always room enough
-pub room-enough : (n : ℕ) (s : List ℕ) → 8 * n + 64 ≤ length s → roomy n s ≡ true
-unfolding roomy
-room-enough n s h = le-leb (lineSize n) (length s) (omega arith)
 
 -- n entries have room where their count and they are fewer than the numbers that the room has
 pub roomy-half : (n : ℕ) (s : List ℕ) → ltb n (length s / 2) ≡ roomy n s

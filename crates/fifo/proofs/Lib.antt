@@ -1,4 +1,4 @@
-pub mod Lines
+pub mod WaitingLines
 pub mod Numbers
 pub mod Laid
 pub mod Stores
@@ -7,6 +7,6 @@ pub mod Rooms
 pub mod Filling
 pub mod Calls
 pub mod Fair
-pub mod Refusals
 pub mod Buffer
 pub mod Steady
+pub mod Theorems

@@ -13,8 +13,8 @@ use lib.Dec.{eqb}
 use lib.ListN.{length, getD, set, replicate, length-replicate, length-set}
 use lib.Seq.{getD-set-same, getD-set-other}
 use borrow.Author.Tests.{eq-eqb, ne-eqb}
-use Rattle.fifo.specs.Line.{has}
-use Rattle.fifo.proofs.Lines.{has-append}
+use Rattle.fifo.specs.WaitingLine.{standsIn}
+use Rattle.fifo.proofs.WaitingLines.{stands-append}
 
 -- ---- one word
 
@@ -82,10 +82,10 @@ mark seen e = set seen (e / 64) (bitOr (getD seen (e / 64) 0) (2 ^ (e % 64)))
 -- the numbers marked are those of a list
 pub record Marks (w : ℕ) (seen l : List ℕ) : Type 0 where
   pub words : length seen ≡ w
-  pub each : (x : ℕ) → marked seen x ≡ has x l
+  pub each : (x : ℕ) → marked seen x ≡ standsIn x l
 
 pub marks-none : (w : ℕ) → Marks w (replicate w 0) []
-unfolding marked has
+unfolding marked standsIn
 marks-none w = record { words = length-replicate w 0; each = λ x. rw (blank w (x / 64), zero-div (2 ^ (x % 64))) }
   where
     blank : (w i : ℕ) → _≡_ {A = ℕ} (getD (replicate w 0) i 0) 0
@@ -93,20 +93,20 @@ marks-none w = record { words = length-replicate w 0; each = λ x. rw (blank w (
     blank (suc w) zero = refl
     blank (suc w) (suc i) = blank w i
 
-pub marks-has : (w : ℕ) (seen l : List ℕ) (e : ℕ) → Marks w seen l → getD seen (e / 64) 0 / 2 ^ (e % 64) % 2 ≡ 1 → has e l ≡ true
+pub marks-stands : (w : ℕ) (seen l : List ℕ) (e : ℕ) → Marks w seen l → getD seen (e / 64) 0 / 2 ^ (e % 64) % 2 ≡ 1 → standsIn e l ≡ true
 unfolding marked
-marks-has w seen l e m q = sym (m .each e) ∙ eq-eqb (getD seen (e / 64) 0 / 2 ^ (e % 64) % 2) 1 q
+marks-stands w seen l e m q = sym (m .each e) ∙ eq-eqb (getD seen (e / 64) 0 / 2 ^ (e % 64) % 2) 1 q
 
-pub marks-has-not : (w : ℕ) (seen l : List ℕ) (e : ℕ) → Marks w seen l → (getD seen (e / 64) 0 / 2 ^ (e % 64) % 2 ≡ 1 → ⊥) → has e l ≡ false
+pub marks-stands-not : (w : ℕ) (seen l : List ℕ) (e : ℕ) → Marks w seen l → (getD seen (e / 64) 0 / 2 ^ (e % 64) % 2 ≡ 1 → ⊥) → standsIn e l ≡ false
 unfolding marked
-marks-has-not w seen l e m q = sym (m .each e) ∙ ne-eqb (getD seen (e / 64) 0 / 2 ^ (e % 64) % 2) 1 q
+marks-stands-not w seen l e m q = sym (m .each e) ∙ ne-eqb (getD seen (e / 64) 0 / 2 ^ (e % 64) % 2) 1 q
 
 pub marks-more : (w : ℕ) (seen l : List ℕ) (e : ℕ) → e / 64 < w → Marks w seen l → Marks w (mark seen e) (l ++ e ∷ [])
-unfolding marked mark bit has
+unfolding marked mark bit standsIn
 marks-more w seen l e h m =
     record {
       words = length-set seen (e / 64) (bitOr (getD seen (e / 64) 0) (2 ^ (e % 64))) ∙ m .words;
-      each = λ x. one x ∙ rw (m .each x) (sym (has-append x l (e ∷ []) ∙ swap (has x l) (eqb e x)));
+      each = λ x. one x ∙ rw (m .each x) (sym (stands-append x l (e ∷ []) ∙ swap (standsIn x l) (eqb e x)));
     }
   where
     swap : (a b : Bool) → (a || (b || false)) ≡ (b || a)

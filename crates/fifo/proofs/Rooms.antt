@@ -10,9 +10,10 @@ use lib.ListN.{length, getD, drop}
 use lib.Seq.{paste}
 use borrow.Author.Tests.{leb-true, lt-ltb, le-ltb, le-leb, lt-leb}
 use Rattle.fifo.specs.declared.Popped.the-variants.{Entry, Nothing, Refused}
-use Rattle.fifo.specs.Line.{has, entriesOf}
-use Rattle.fifo.specs.Layout.{numbers, stored, lineOf, laid, lineSize, roomy, isLine, limit}
-use Rattle.fifo.specs.Steps.{canPush, pushed, canJoin, joined, cleared, front, popped, popStep}
+use Rattle.fifo.specs.WaitingLine.{standsIn, entriesOf}
+use Rattle.fifo.specs.Layout.{numbers, lineOf, laid, lineSize, roomy, isLine, limit}
+use Rattle.fifo.specs.Steps.{front, popped, popStep}
+use Rattle.fifo.specs.SmallSteps.{stored, canPush, pushed, canJoin, joined, cleared}
 use Rattle.fifo.proofs.Numbers.{Bytes, line-length, line-short, line-at}
 use Rattle.fifo.proofs.Laid.{roomy-half, laid-same}
 use Rattle.fifo.proofs.Stores.{laid-push, laid-pop, laid-clear}
@@ -82,11 +83,11 @@ module _ (s : List ℕ) (e k : ℕ) (q : k ≡ length (lineOf s)) where
 -- ---- join
 
 module _ (s : List ℕ) (e : ℕ) where
-  pub join-waits : has e (lineOf s) ≡ true → (false ≡ canJoin e s) × (s ≡ joined e s)
+  pub join-waits : standsIn e (lineOf s) ≡ true → (false ≡ canJoin e s) × (s ≡ joined e s)
   unfolding canJoin joined
   join-waits q = (rw q, rw q)
 
-  pub join-push : has e (lineOf s) ≡ false → (canPush s ≡ canJoin e s) × (pushed e s ≡ joined e s)
+  pub join-push : standsIn e (lineOf s) ≡ false → (canPush s ≡ canJoin e s) × (pushed e s ≡ joined e s)
   unfolding canJoin joined
   join-push q = (rw q, rw q)
 

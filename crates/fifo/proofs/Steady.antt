@@ -1,39 +1,39 @@
 -- The steady list is paced, and none of its calls is refused: a buffer keeps its length and always has a line of entries at its front.
 -- Assumes nothing.
-use mathlib.Core.Path.{_≡_, refl, sym, ap, _∙_}
+use mathlib.Core.Path.{_≡_, refl, ap, _∙_}
 use mathlib.Core.Logic.{inl, inr}
-use mathlib.Core.Bool.{Bool, true, false, not, cond, true≢false}
-use mathlib.Core.List.{List, [], _∷_, _++_}
+use mathlib.Core.Bool.{Bool, true, false, cond, true≢false}
+use mathlib.Core.List.{List, [], _∷_}
 use Prim.Native.Nat.{ℕ, zero, suc, _+_, _≤_, _<_}
 use native.Mathlib.Omega.{arith}
-use lib.Dec.{eqb, leb}
-use lib.ListN.{length, take, drop, length-take, length-drop, length-append, take-append-drop}
+use lib.Dec.{leb}
+use lib.ListN.{length, take, drop, length-take, length-drop, length-append}
 use borrow.Author.Tests.{leb-true, le-leb}
-use Rattle.fifo.specs.Line.{entriesOf}
+use Rattle.fifo.specs.WaitingLine.{entriesOf}
 use Rattle.fifo.specs.Layout.{laid, lineSize, roomy, limit}
 use Rattle.fifo.specs.Steps.{Jobs, fresh, initStep}
-use Rattle.fifo.specs.Refusals.{expected}
-use Rattle.fifo.specs.Fairness.{Call, tick, pop, roomOf, roomAfter, refusal, refused, unrefused, lineAfter, Holds, Paced, span}
-use Rattle.fifo.specs.Buffer.{Use, tickIn, popIn, lent, callOn, bufferAfter, callsOn, endOf, started}
-use Rattle.fifo.specs.Steady.{steady, SteadyPaced, FairSteady}
-use Rattle.fifo.proofs.Lines.{entries-length}
+use Rattle.fifo.specs.RefusedCalls.{expected}
+use Rattle.fifo.specs.Fairness.{Call, tick, pop, roomOf, roomAfter, refusal, isRefused, unrefused, lineAfter, Holds, Paced}
+use Rattle.fifo.specs.Buffer.{Use, tickIn, popIn, lent, callOn, bufferAfter, callsOn, bufferAfterAll, started}
+use Rattle.fifo.specs.Steady.{steady}
+use Rattle.fifo.proofs.WaitingLines.{entries-length}
 use Rattle.fifo.proofs.Laid.{length-laid}
-use Rattle.fifo.proofs.Calls.{Undone, Done, effect, effect-entries, outcome, fresh-entries, after-entries}
-use Rattle.fifo.proofs.Buffer.{room-on, on-holds, on-after, started-holds, fair-in-buffer}
+use Rattle.fifo.proofs.Calls.{Done, effect, effect-entries, outcome, fresh-entries, after-entries}
+use Rattle.fifo.proofs.Buffer.{room-on, on-holds, on-after, started-holds}
 
 -- ---- the buffer between calls
 
 -- a line of entries stands at the front of a buffer of n bytes
 record Stands (jobs : Jobs) (n : ℕ) (buffer : List ℕ) : Type 0 where
-  line : List ℕ
-  entries : entriesOf (jobs .count) line ≡ true
-  held : Holds line buffer
+  waiting : List ℕ
+  entries : entriesOf (jobs .count) waiting ≡ true
+  held : Holds waiting buffer
   long : length buffer ≡ n
 
 module _ (jobs : Jobs) (h : jobs .count < limit) (n : ℕ) where
   -- a call that isn't refused had room enough
   done-roomy : (l : List ℕ) (c : Call) → Done jobs l c → roomy (jobs .count) (roomOf c) ≡ true
-  unfolding refused expected roomOf
+  unfolding isRefused expected roomOf
   done-roomy l (tick minute room) d = go (roomy (jobs .count) room) (d .why)
     where
       go : (b : Bool) → refusal jobs (tick minute room) ≡ cond b (cond (leb minute (jobs .last)) 0 14) 28 → b ≡ true
@@ -49,41 +49,41 @@ module _ (jobs : Jobs) (h : jobs .count < limit) (n : ℕ) where
     c : Call
     c = callOn buffer u
 
-    seen : roomy (jobs .count) (roomOf c) ≡ true → Holds (s .line) (roomOf c)
+    seen : roomy (jobs .count) (roomOf c) ≡ true → Holds (s .waiting) (roomOf c)
     unfolding c
-    seen = on-holds jobs h buffer (s .line) u (s .entries) (s .held)
+    seen = on-holds jobs h buffer (s .waiting) u (s .entries) (s .held)
 
     room-length : length (roomAfter jobs c) ≡ length (roomOf c)
     unfolding roomy
-    room-length = elim (outcome jobs h (s .line) (s .entries) c seen) [ inl w ↦ ap length (w .room) | inr d ↦ done d ]
+    room-length = elim (outcome jobs h (s .waiting) (s .entries) c seen) [ inl w ↦ ap length (w .room) | inr d ↦ done d ]
       where
-        done : Done jobs (s .line) c → length (roomAfter jobs c) ≡ length (roomOf c)
+        done : Done jobs (s .waiting) c → length (roomAfter jobs c) ≡ length (roomOf c)
         done d =
-            let k : lineSize (jobs .count) ≤ length (roomOf c) = leb-true _ _ (done-roomy (s .line) c d) in
-            let few = entries-length (jobs .count) (effect jobs (s .line) c) (effect-entries jobs (s .line) c (s .entries)) in
-            ap length (d .room) ∙ length-laid (effect jobs (s .line) c) (roomOf c) (omega arith)
+            let k : lineSize (jobs .count) ≤ length (roomOf c) = leb-true _ _ (done-roomy (s .waiting) c d) in
+            let few = entries-length (jobs .count) (effect jobs (s .waiting) c) (effect-entries jobs (s .waiting) c (s .entries)) in
+            ap length (d .room) ∙ length-laid (effect jobs (s .waiting) c) (roomOf c) (omega arith)
 
     after-stands : Stands jobs n (bufferAfter jobs buffer u)
     unfolding bufferAfter c
     after-stands =
         record {
-          line = lineAfter jobs (s .line) (callOn buffer u);
-          entries = after-entries jobs h (s .line) (callOn buffer u) (s .entries) seen;
-          held = on-after jobs h buffer (s .line) u (s .entries) (s .held);
+          waiting = lineAfter jobs (s .waiting) (callOn buffer u);
+          entries = after-entries jobs h (s .waiting) (callOn buffer u) (s .entries) seen;
+          held = on-after jobs h buffer (s .waiting) u (s .entries) (s .held);
           long =
               length-append (roomAfter jobs (callOn buffer u)) (drop (lent u) buffer)
               ∙ omega (arith, room-length, ap length (room-on buffer u), length-take (lent u) buffer, length-drop (lent u) buffer, s .long);
         }
 
     -- what nothing speaks against isn't refused
-    taken : expected jobs c ≡ 0 → refused jobs c ≡ false
-    unfolding refused
+    taken : expected jobs c ≡ 0 → isRefused jobs c ≡ false
+    unfolding isRefused
     taken e =
-        let why : refusal jobs c ≡ 0 = elim (outcome jobs h (s .line) (s .entries) c seen) [ inl w ↦ w .why ∙ e | inr d ↦ d .why ∙ e ] in
+        let why : refusal jobs c ≡ 0 = elim (outcome jobs h (s .waiting) (s .entries) c seen) [ inl w ↦ w .why ∙ e | inr d ↦ d .why ∙ e ] in
         rw why
 
-  end-stands : (us : List Use) (buffer : List ℕ) → Stands jobs n buffer → Stands jobs n (endOf jobs buffer us)
-  unfolding endOf
+  end-stands : (us : List Use) (buffer : List ℕ) → Stands jobs n buffer → Stands jobs n (bufferAfterAll jobs buffer us)
+  unfolding bufferAfterAll
   end-stands [] buffer s = s
   end-stands (u ∷ us) buffer s = end-stands us (bufferAfter jobs buffer u) (after-stands buffer u s)
 
@@ -94,11 +94,11 @@ module _ (jobs : Jobs) (h : jobs .count < limit) (n : ℕ) where
     unfolding roomy
     part-roomy buffer s = le-leb (lineSize (jobs .count)) (length (take size buffer)) (omega (arith, length-take size buffer, s .long))
 
-    tick-taken : (m : ℕ) (buffer : List ℕ) → m ≤ jobs .last → Stands jobs n buffer → refused jobs (callOn buffer (tickIn m size)) ≡ false
+    tick-taken : (m : ℕ) (buffer : List ℕ) → m ≤ jobs .last → Stands jobs n buffer → isRefused jobs (callOn buffer (tickIn m size)) ≡ false
     unfolding expected callOn c
     tick-taken m buffer b s = taken buffer (tickIn m size) s (rw (part-roomy buffer s, le-leb m (jobs .last) b))
 
-    pop-taken : (buffer : List ℕ) → Stands jobs n buffer → refused jobs (callOn buffer (popIn size)) ≡ false
+    pop-taken : (buffer : List ℕ) → Stands jobs n buffer → isRefused jobs (callOn buffer (popIn size)) ≡ false
     unfolding expected callOn c
     pop-taken buffer s = taken buffer (popIn size) s (rw (part-roomy buffer s))
 
@@ -119,38 +119,28 @@ paced jobs size (suc k) m buffer = (refl, refl, paced jobs size k (m + 1) _)
 
 -- the buffer as it starts
 module _ (jobs : Jobs) (h : jobs .count < limit) (size : ℕ) (buffer : List ℕ) (r : roomy (jobs .count) (take size buffer) ≡ true) where
-  begun : List ℕ
+  abbrev begun : List ℕ
   begun = started jobs size buffer
 
   at-first : Stands jobs (length begun) begun
-  unfolding begun
-  at-first = record { line = fresh jobs; entries = fresh-entries jobs; held = started-holds jobs h size buffer r; long = refl }
+  at-first = record { waiting = fresh jobs; entries = fresh-entries jobs; held = started-holds jobs h size buffer r; long = refl }
 
   enough : lineSize (jobs .count) ≤ length (take size buffer)
   unfolding roomy
   enough = leb-true _ _ r
 
   begun-long : lineSize (jobs .count) ≤ length begun
-  unfolding begun started initStep
+  unfolding started initStep
   begun-long =
       let few = entries-length (jobs .count) (fresh jobs) (fresh-entries jobs) in
       let same = length-laid (fresh jobs) (take size buffer) (omega (arith, enough)) in
       rw r (omega (arith, enough, same, length-append (laid (fresh jobs) (take size buffer)) (drop size buffer)))
 
-  steady-from : (t n : ℕ) (first : List Use) → t + n ≤ jobs .last
-      → let calls = callsOn jobs (endOf jobs begun first) (steady size (t + 1) n) in
+  pub steady-from : (t n : ℕ) (first : List Use) → t + n ≤ jobs .last
+      → let calls = callsOn jobs (bufferAfterAll jobs begun first) (steady size (t + 1) n) in
       (unrefused jobs calls ≡ calls) × Paced (t + 1) n true calls
   steady-from t n first b = (
-    all-taken jobs h (length begun) size (omega (arith, enough, length-take size buffer)) begun-long n (t + 1) (endOf jobs begun first) (omega arith)
+    all-taken jobs h (length begun) size (omega (arith, enough, length-take size buffer)) begun-long n (t + 1) (bufferAfterAll jobs begun first) (omega arith)
         (end-stands jobs h (length begun) first begun at-first),
-    paced jobs size n (t + 1) (endOf jobs begun first),
+    paced jobs size n (t + 1) (bufferAfterAll jobs begun first),
   )
-
-pub steady-paced : SteadyPaced
-unfolding begun
-steady-paced jobs t n size buffer first h r b = steady-from jobs h size buffer r t n first b
-
-pub fair-steady : FairSteady
-fair-steady jobs gap e t size buffer first h below timed recurs r end =
-    let p = steady-paced jobs t (span jobs gap) size buffer first h r end in
-    rw (p .0) at (fair-in-buffer jobs gap e t size buffer first (steady size (t + 1) (span jobs gap)) h below timed recurs r end (rw (p .0) (p .1)))

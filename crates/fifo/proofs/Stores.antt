@@ -7,7 +7,8 @@ use native.Mathlib.Omega.{arith}
 use native.Mathlib.Numerals.{add-one}
 use lib.ListN.{length, getD, take, drop, set, length-append, length-drop}
 use lib.Seq.{paste, paste-suc, length-paste-head, getD-append-add, getD-drop}
-use Rattle.fifo.specs.Layout.{stored, bytes, lineOf, image, laid}
+use Rattle.fifo.specs.Layout.{bytes, lineOf, image, laid}
+use Rattle.fifo.specs.SmallSteps.{stored}
 use Rattle.fifo.proofs.Numbers.{Bytes, double, bytes-append, bytes-line}
 use Rattle.fifo.proofs.Laid.{laid-cons}
 

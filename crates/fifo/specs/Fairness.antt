@@ -1,23 +1,5 @@
--- Paper 01, "The line of waiting jobs", the third demand: the words of its claim about whole lists of calls. The claim itself
--- is `Fair`, below; that it holds is proved in proofs/Fair.
---
--- The demand, sentence by sentence, and what stands for it here:
---   "Take a table of N entries and a time-based entry in it that some minute of the cycle matches."
---       `e < jobs .count`, `jobs .boot e ≡ false`, `Recurs`: the calendar's part, that such an entry has a match in every window of
---       `gap` minutes, is left to whoever knows the schedule. The jobs may be any.
---   "For every list of announcements and requests with this table from its fresh line, refused ones included, and for every
---   minute t, go on with any second list of this kind"
---       `first` and `second` are any lists of calls, `t` is any number, and `Follows` starts from `fresh jobs`. The calls of the
---       first list are as they like: refused or not, in any order, at any minute.
---   "it announces t+1, t+2 and on, one by one and no other, up to minute t + 21,036,960 + N - 1, which must be on the calendar"
---   "After each of these, and before the next is announced, come one or more requests that aren't refused."
---       `Paced (t + 1) (span jobs gap) true (unrefused jobs second)`. Requests may also come before the first announcement.
---   "Refused calls may stand anywhere in it and don't count."
---       `unrefused` drops them before the list is looked at.
---   "Each call gets the line that the last one left."
---       `Follows`: and only a room that could hold a line has to hold it. A room that is too small may hold anything.
---   "Then a request of the second list names the entry, no later than the first unrefused one after that last minute."
---       `Names jobs e (upTo (span jobs gap) (unrefused jobs second))`: the calls up to the first request after the last announcement.
+-- Paper 01, "The line of waiting jobs", the third demand: the words of its claim about whole lists of calls, and the claim, for any
+-- jobs. docs/PROMISES.md lays it beside the demand, sentence by sentence. That it holds is proved in proofs/Theorems.
 -- Assumes nothing.
 use mathlib.Core.Path.{_≡_}
 use mathlib.Core.Logic.{_⊎_}
@@ -26,8 +8,9 @@ use mathlib.Core.Bool.{Bool, true, false, not, cond}
 use mathlib.Core.List.{List, [], _∷_, _++_}
 use lib.Dec.{eqb}
 use Rattle.fifo.specs.declared.Popped.the-variants.{Entry}
+use Rattle.fifo.specs.WaitingLine.{entriesOf}
 use Rattle.fifo.specs.Layout.{lineOf, laid, roomy, limit}
-use Rattle.fifo.specs.Answers.{tickRefusal, popRefusal}
+use Rattle.fifo.specs.Refusals.{tickRefusal, popRefusal}
 use Rattle.fifo.specs.Steps.{Jobs, fresh, tickStep, popStep}
 
 -- ---- calls
@@ -51,25 +34,26 @@ unfoldable pub refusal : Jobs → Call → ℕ
 refusal jobs (tick minute room) = tickRefusal (tickStep jobs minute room .answer)
 refusal jobs (pop room) = popRefusal (popStep (jobs .count) room .answer)
 
-unfoldable pub refused : Jobs → Call → Bool
-refused jobs c = not (eqb (refusal jobs c) 0)
+unfoldable pub isRefused : Jobs → Call → Bool
+isRefused jobs c = not (eqb (refusal jobs c) 0)
 
--- a list with its refused calls dropped
+-- a list with its refused calls dropped, by what they really answer
 unfoldable pub unrefused : Jobs → List Call → List Call
 unrefused jobs [] = []
-unrefused jobs (c ∷ cs) = let rest = unrefused jobs cs in cond (refused jobs c) rest (c ∷ rest)
+unrefused jobs (c ∷ cs) = let rest = unrefused jobs cs in cond (isRefused jobs c) rest (c ∷ rest)
 
 -- ---- each call gets the line that the last one left
 
 -- the line that stands after a call, where l stood before: a refused call leaves it
 unfoldable pub lineAfter : Jobs → List ℕ → Call → List ℕ
-lineAfter jobs l c = cond (refused jobs c) l (lineOf (roomAfter jobs c))
+lineAfter jobs l c = cond (isRefused jobs c) l (lineOf (roomAfter jobs c))
 
 -- the room holds the line l, and it may hold other bytes behind it: to lay l there would change nothing
 abbrev pub Holds : List ℕ → List ℕ → Type 0
 Holds l room = laid l room ≡ room
 
--- a list of calls that goes on from the line l: each room that is big enough holds the line that the last unrefused call left
+-- A list of calls that goes on from the line l: each room that is big enough holds the line that the last unrefused call left. A room
+-- that is too small for a line may hold anything.
 abbrev pub Follows : Jobs → List ℕ → List Call → Type 0
 Follows jobs l [] = Unit {0}
 Follows jobs l (c ∷ cs) = (roomy (jobs .count) (roomOf c) ≡ true → Holds l (roomOf c)) × Follows jobs (lineAfter jobs l c) cs
@@ -77,7 +61,8 @@ Follows jobs l (c ∷ cs) = (roomy (jobs .count) (roomOf c) ≡ true → Holds l
 -- ---- the second list
 
 -- The minutes m, m + 1 and on are announced, n of them, one by one and no other, and after each, before the next is announced,
--- come one or more requests. `asked` says whether a request came since the last announcement.
+-- come one or more requests. `asked` says whether a request came since the last announcement: with `true` at the start requests may come
+-- before the first one, but needn't.
 abbrev pub Paced : ℕ → ℕ → Bool → List Call → Type 0
 Paced m n asked [] = (n ≡ 0) × (asked ≡ true)
 Paced m n asked (pop room ∷ cs) = Paced m n true cs
@@ -100,19 +85,30 @@ Names jobs e (pop room ∷ cs) = (popStep (jobs .count) room .answer ≡ Entry e
 
 -- ---- the claim
 
--- in every window of so many minutes on the calendar some minute matches the entry
-abbrev pub Recurs : Jobs → ℕ → ℕ → Type 0
-Recurs jobs gap e = (t : ℕ) → t + gap ≤ jobs .last → (m : ℕ) × (t < m) × (m ≤ t + gap) × (jobs .matches e m ≡ true)
+-- one of the `gap` minutes after t matches the entry. That it is so is left to whoever knows the schedule.
+unfoldable pub Soon : Jobs → ℕ → ℕ → ℕ → Type 0
+Soon jobs gap e t = (m : ℕ) × (t < m) × (m ≤ t + gap) × (jobs .matches e m ≡ true)
 
 -- how many minutes the second list announces
-abbrev pub span : Jobs → ℕ → ℕ
-span jobs gap = gap + jobs .count - 1
+abbrev pub bound : Jobs → ℕ → ℕ
+bound jobs gap = gap + jobs .count - 1
 
+-- From any line that names only entries, none twice. That the minutes are on the calendar needn't be said: an announcement of one
+-- that isn't is refused.
+abbrev pub FairFrom : Type 0
+FairFrom = (jobs : Jobs) (gap e t : ℕ) (l : List ℕ) (second : List Call)
+    → jobs .count < limit
+    → e < jobs .count → jobs .boot e ≡ false → Soon jobs gap e t
+    → entriesOf (jobs .count) l ≡ true
+    → Follows jobs l second
+    → Paced (t + 1) (bound jobs gap) true (unrefused jobs second)
+    → Names jobs e (upTo (bound jobs gap) (unrefused jobs second))
+
+-- from the fresh line, through any first list
 abbrev pub Fair : Type 0
 Fair = (jobs : Jobs) (gap e t : ℕ) (first second : List Call)
     → jobs .count < limit
-    → e < jobs .count → jobs .boot e ≡ false → Recurs jobs gap e
+    → e < jobs .count → jobs .boot e ≡ false → Soon jobs gap e t
     → Follows jobs (fresh jobs) (first ++ second)
-    → t + span jobs gap ≤ jobs .last
-    → Paced (t + 1) (span jobs gap) true (unrefused jobs second)
-    → Names jobs e (upTo (span jobs gap) (unrefused jobs second))
+    → Paced (t + 1) (bound jobs gap) true (unrefused jobs second)
+    → Names jobs e (upTo (bound jobs gap) (unrefused jobs second))

@@ -5,8 +5,8 @@ use Prim.Native.Nat.{ℕ, _+_, _*_, _/_, _%_}
 use mathlib.Core.Bool.{Bool, _&&_}
 use mathlib.Core.List.{List, [], _∷_, _++_}
 use lib.Dec.{leb}
-use lib.ListN.{length, getD, take, drop, set}
-use Rattle.fifo.specs.Line.{entriesOf}
+use lib.ListN.{length, getD, take, drop}
+use Rattle.fifo.specs.WaitingLine.{entriesOf}
 
 -- the numbers that bytes hold, two bytes each; an odd byte at the end is part of none
 unfoldable pub numbers : List ℕ → List ℕ
@@ -18,10 +18,6 @@ numbers (a ∷ b ∷ s) = (a + 256 * b) ∷ numbers s
 unfoldable pub bytes : List ℕ → List ℕ
 bytes [] = []
 bytes (x ∷ l) = x % 256 ∷ x / 256 % 256 ∷ bytes l
-
--- the bytes with the number x at place i
-unfoldable pub stored : ℕ → ℕ → List ℕ → List ℕ
-stored i x s = set (set s (2 * i) (x % 256)) (2 * i + 1) (x / 256 % 256)
 
 -- the line that a room holds: as many numbers as the count says, if there are so many
 unfoldable pub counted : List ℕ → List ℕ

@@ -1,9 +1,10 @@
-pub mod Line
+pub mod WaitingLine
 pub mod Layout
-pub mod Answers
-pub mod Steps
-pub mod Fairness
 pub mod Refusals
+pub mod Steps
+pub mod SmallSteps
+pub mod Fairness
+pub mod RefusedCalls
 pub mod Buffer
 pub mod Steady
 pub mod Examples

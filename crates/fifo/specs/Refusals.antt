@@ -1,25 +1,25 @@
--- Paper 01: "In these lists a call is refused only for too little room (28) or for a minute off the calendar (14)." Of a list
--- of calls from the fresh line: each is refused exactly for that. That the claim holds is proved in proofs/Refusals.
+-- Paper 01, "What comes back": the refusals of the run queue's calls.
 -- Assumes nothing.
-use mathlib.Core.Path.{_≡_}
-use Prim.Native.Nat.{ℕ, _<_}
-use mathlib.Core.Bool.{cond}
-use mathlib.Core.List.{List, [], _∷_}
-use lib.Dec.{leb}
-use Rattle.fifo.specs.Layout.{roomy, limit}
-use Rattle.fifo.specs.Answers.{notALine, offCalendar}
-use Rattle.fifo.specs.Steps.{Jobs, fresh}
-use Rattle.fifo.specs.Fairness.{Call, tick, pop, refusal, Follows}
+use Prim.Native.Nat.{ℕ}
+use Rattle.fifo.specs.declared.Ticked.{Ticked}
+use Rattle.fifo.specs.declared.Popped.{Popped}
+use Rattle.fifo.specs.declared.Ticked.the-variants.{Joined, Refused as NotTicked}
+use Rattle.fifo.specs.declared.Popped.the-variants.{Entry, Nothing, Refused as NotPopped}
 
--- the refusal that the room's length and the minute call for, 0 for none
-unfoldable pub expected : Jobs → Call → ℕ
-expected jobs (tick minute room) = cond (roomy (jobs .count) room) (cond (leb minute (jobs .last)) 0 offCalendar) notALine
-expected jobs (pop room) = cond (roomy (jobs .count) room) 0 notALine
+-- not a waiting line of this table, or not room for all its entries
+abbrev pub notALine : ℕ
+notALine = 28
 
--- each call of a list is refused just so
-abbrev pub Expected : Jobs → List Call → Type 0
-Expected jobs [] = Unit {0}
-Expected jobs (c ∷ cs) = (refusal jobs c ≡ expected jobs c) × Expected jobs cs
+-- the minute isn't on the calendar
+abbrev pub offCalendar : ℕ
+offCalendar = 14
 
-abbrev pub RefusedOnly : Type 0
-RefusedOnly = (jobs : Jobs) (cs : List Call) → jobs .count < limit → Follows jobs (fresh jobs) cs → Expected jobs cs
+-- the number of a refusal, and 0 where there is none; "nothing waits" is no refusal
+unfoldable pub tickRefusal : Ticked → ℕ
+tickRefusal (Joined n) = 0
+tickRefusal (NotTicked why) = why
+
+unfoldable pub popRefusal : Popped → ℕ
+popRefusal (Entry e) = 0
+popRefusal Nothing = 0
+popRefusal (NotPopped why) = why

@@ -2,18 +2,18 @@
 -- that a call is lent, for any jobs: what a table says of its entries is left to whoever has a table. A refused call leaves
 -- the room as it was. Of the refusals 28 comes before 14.
 -- Assumes nothing.
-use Prim.Native.Nat.{ℕ, suc}
+use Prim.Native.Nat.{ℕ}
 use mathlib.Core.Bool.{Bool, not, cond, _&&_}
 use mathlib.Core.List.{List, [], _∷_, _++_}
-use lib.Dec.{leb, ltb}
+use lib.Dec.{leb}
 use lib.ListN.{length}
 use Rattle.fifo.specs.declared.Ticked.{Ticked}
 use Rattle.fifo.specs.declared.Popped.{Popped}
 use Rattle.fifo.specs.declared.Ticked.the-variants.{Joined, Refused as NotTicked}
 use Rattle.fifo.specs.declared.Popped.the-variants.{Entry, Nothing, Refused as NotPopped}
-use Rattle.fifo.specs.Line.{has, pick}
-use Rattle.fifo.specs.Layout.{lineOf, laid, roomy, isLine, limit}
-use Rattle.fifo.specs.Answers.{notALine, offCalendar}
+use Rattle.fifo.specs.WaitingLine.{standsIn, pick}
+use Rattle.fifo.specs.Layout.{lineOf, laid, roomy, isLine}
+use Rattle.fifo.specs.Refusals.{notALine, offCalendar}
 
 -- what is known of a table's entries, numbered from 0 in file order
 pub record Jobs : Type 0 where
@@ -48,7 +48,7 @@ initStep jobs room =
 
 -- the time-based entries that match the minute and don't wait, in file order
 unfoldable pub joins : Jobs → ℕ → List ℕ → ℕ → Bool
-joins jobs minute l e = not (jobs .boot e) && jobs .matches e minute && not (has e l)
+joins jobs minute l e = not (jobs .boot e) && jobs .matches e minute && not (standsIn e l)
 
 unfoldable pub joiners : Jobs → ℕ → List ℕ → List ℕ
 joiners jobs minute l = pick (joins jobs minute l) (jobs .count)
@@ -83,23 +83,3 @@ popStep n room =
     cond (isLine n room)
     (record { answer = front (lineOf room); room = laid (popped (lineOf room)) room })
     (record { answer = NotPopped notALine; room = room })
-
--- ---- one entry more, and none at all: what the steps of a fresh line and of an announced minute are made of
-
--- whether there is room behind the line, and its count can grow
-unfoldable pub canPush : List ℕ → Bool
-canPush room = roomy (suc (length (lineOf room))) room && ltb (suc (length (lineOf room))) limit
-
-unfoldable pub pushed : ℕ → List ℕ → List ℕ
-pushed e room = cond (canPush room) (laid (lineOf room ++ e ∷ []) room) room
-
--- an entry that waits doesn't join again
-unfoldable pub canJoin : ℕ → List ℕ → Bool
-canJoin e room = not (has e (lineOf room)) && canPush room
-
-unfoldable pub joined : ℕ → List ℕ → List ℕ
-joined e room = cond (has e (lineOf room)) room (pushed e room)
-
--- the empty line, where the count has room
-unfoldable pub cleared : List ℕ → List ℕ
-cleared room = cond (roomy 0 room) (laid [] room) room

@@ -4,9 +4,10 @@ ghost use mathlib.Core.Path.{_≡_};
 ghost use Prim.Native.Nat.{_+_, _/_, _≤_, _<_};
 ghost use lib.ListN.{length, getD, drop};
 ghost use lib.Seq.{paste};
-ghost use Rattle.fifo.specs.Line.{has, entriesOf};
-ghost use Rattle.fifo.specs.Layout.{numbers, stored, lineOf, laid, roomy, isLine};
-ghost use Rattle.fifo.specs.Steps.{canPush, pushed, canJoin, joined, cleared, popped, popStep};
+ghost use Rattle.fifo.specs.WaitingLine.{standsIn, entriesOf};
+ghost use Rattle.fifo.specs.Layout.{numbers, lineOf, laid, roomy, isLine};
+ghost use Rattle.fifo.specs.Steps.{popped, popStep};
+ghost use Rattle.fifo.specs.SmallSteps.{stored, canPush, pushed, canJoin, joined, cleared};
 
 // The refusal of a room that holds no line of so many entries, or can't hold them all.
 pub const NOT_A_LINE: u8 = 28;
@@ -57,7 +58,7 @@ pub fn len(room: &[u8]) -> usize
 
 // Whether entry e waits.
 pub fn waits(room: &[u8], e: u16) -> bool
-    ensures { λ r. ⌜ r ≡ has e (lineOf (now (room .entry))) ⌝ }
+    ensures { λ r. ⌜ r ≡ standsIn e (lineOf (now (room .entry))) ⌝ }
 {
     let count = len(room);
     let mut i = 0;

@@ -10,9 +10,10 @@ use Rattle.crontab.specs.declared.Table.{Table}
 use Rattle.crontab.specs.Limits.{maxEntries}
 use Rattle.fifo.specs.declared.Ticked.the-variants.{Refused as NotTicked}
 use Rattle.fifo.specs.declared.Popped.the-variants.{Refused as NotPopped}
-use Rattle.fifo.specs.Line.{entriesOf}
+use Rattle.fifo.specs.WaitingLine.{entriesOf}
 use Rattle.fifo.specs.Layout.{lineOf, laid, roomy, isLine}
-use Rattle.fifo.specs.Steps.{initStep, tickStep, popStep, cleared}
+use Rattle.fifo.specs.Steps.{initStep, tickStep, popStep}
+use Rattle.fifo.specs.SmallSteps.{cleared}
 use Rattle.fifo.proofs.Laid.{lineOf-laid, isLine-laid, laid-laid}
 use Rattle.fifo.proofs.Filling.{init-start}
 use Rattle.runqueue.specs.Jobs.{jobsOf}

@@ -1,3 +1,4 @@
 pub mod Whens
 pub mod Exits
-pub mod Demand
+pub mod TableJobs
+pub mod Theorems

@@ -11,9 +11,9 @@ use Rattle.crontab.specs.declared.When.{When}
 use Rattle.crontab.specs.declared.When.the-variants.{Reboot, Timed}
 use Rattle.crontab.specs.Answers.{firesOn, firesAt}
 use Rattle.crontab.specs.declared.Table.{Table}
-use Rattle.fifo.specs.Line.{has}
+use Rattle.fifo.specs.WaitingLine.{standsIn}
 use Rattle.fifo.specs.Steps.{fresh, joins, joiners}
-use Rattle.fifo.proofs.Lines.{pick-same}
+use Rattle.fifo.proofs.WaitingLines.{pick-same}
 use Rattle.runqueue.specs.declared.Called.the-variants.{AtBoot, On}
 use Rattle.runqueue.specs.Jobs.{isBoot, whenOf, jobsOf}
 use Rattle.runqueue.specs.Joining.{isCalled, joining}
@@ -25,10 +25,10 @@ fires-timed Reboot minute date e = refl
 fires-timed (Timed s) minute date e = rw e
 
 pub joining-boot : (t : Table) → joining t AtBoot [] ≡ fresh (jobsOf t)
-unfolding joining isCalled fresh jobsOf has
+unfolding joining isCalled fresh jobsOf standsIn
 joining-boot t = refl
 
 pub joining-due : (t : Table) (minute : ℕ) (date : Date) (l : List ℕ) → date ≡ dateAt minute → joining t (On date) l ≡ joiners (jobsOf t) minute l
 unfolding joining isCalled joiners joins jobsOf
 joining-due t minute date l e =
-    pick-same _ _ (λ i. and-comm (not (has i l)) (firesOn (whenOf t i) date) ∙ rw (fires-timed (whenOf t i) minute date e)) (t .count)
+    pick-same _ _ (λ i. and-comm (not (standsIn i l)) (firesOn (whenOf t i) date) ∙ rw (fires-timed (whenOf t i) minute date e)) (t .count)

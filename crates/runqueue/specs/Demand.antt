@@ -1,12 +1,6 @@
--- The third demand for tables: one claim about whole lists of calls, made of the steps that `init`, `tick` and `pop` promise
--- (`initOf`, `tickOf`, `popOf` of Calls; for a table that isn't refused, as one that has an entry never is, they are the steps
--- of `fifo`: `TableSteps`). The words of the claim are those of fifo's Fairness, whose header lays the demand beside them
--- sentence by sentence; here the jobs are a table's, the calendar ends with its last minute, and the gap is the schedule's.
--- That the claims hold is proved in proofs/Demand.
---   "a table of N entries and a time-based entry in it that some minute of the cycle matches"
---       `e < jobs .count`, `jobs .boot e ≡ false`, and a minute below 210,379,680 that matches.
---   "up to minute t + 21,036,960 + N - 1, which must be on the calendar"
---       `t + span jobs gap ≤ lastMinute`.
+-- The third demand for tables: the claims of fifo's Fairness, in its words, where the jobs are a table's, the calendar ends with its last
+-- minute, and the gap is the schedule's. They are made of the steps that `init`, `tick` and `pop` promise (`TableSteps`).
+-- docs/PROMISES.md lays `TableFair` beside the demand, sentence by sentence. That the claims hold is proved in proofs/Theorems.
 -- Assumes nothing.
 use mathlib.Core.Path.{_≡_}
 use Prim.Native.Nat.{ℕ, _+_, _≤_, _<_}
@@ -16,11 +10,12 @@ use lib.ListN.{take}
 use Rattle.calendar.specs.Dates.{lastMinute, cycleMinutes}
 use Rattle.schedule.specs.Gap.{gap}
 use Rattle.crontab.specs.Tables.{tableOf}
+use Rattle.fifo.specs.WaitingLine.{entriesOf}
 use Rattle.fifo.specs.Layout.{roomy}
 use Rattle.fifo.specs.Steps.{Jobs, fresh, initStep, tickStep, popStep}
-use Rattle.fifo.specs.Fairness.{Call, Follows, unrefused, Paced, upTo, Names, span}
-use Rattle.fifo.specs.Refusals.{Expected}
-use Rattle.fifo.specs.Buffer.{Use, callsOn, endOf, started}
+use Rattle.fifo.specs.Fairness.{Call, Follows, unrefused, Paced, upTo, Names, bound}
+use Rattle.fifo.specs.RefusedCalls.{Expected}
+use Rattle.fifo.specs.Buffer.{Use, callsOn, bufferAfterAll, started}
 use Rattle.fifo.specs.Steady.{steady}
 use Rattle.runqueue.specs.Jobs.{jobsOf}
 use Rattle.runqueue.specs.Calls.{initOf, tickOf, popOf}
@@ -37,26 +32,44 @@ pub record CanFire (table : List ℕ) (e : ℕ) : Type 0 where
   pub cycle : minute < cycleMinutes
   pub matched : jobsIn table .matches e minute ≡ true
 
+-- the third demand
 abbrev pub TableFair : Type 0
 TableFair = (table : List ℕ) (e t : ℕ) (first second : List Call)
     → let jobs = jobsIn table in
     CanFire table e
     → Follows jobs (fresh jobs) (first ++ second)
-    → t + span jobs gap ≤ lastMinute
-    → Paced (t + 1) (span jobs gap) true (unrefused jobs second)
-    → Names jobs e (upTo (span jobs gap) (unrefused jobs second))
+    → t + bound jobs gap ≤ lastMinute
+    → Paced (t + 1) (bound jobs gap) true (unrefused jobs second)
+    → Names jobs e (upTo (bound jobs gap) (unrefused jobs second))
 
--- what the three functions promise, for a table that isn't refused: the steps of which the claims speak
-abbrev pub TableSteps : Type 0
-TableSteps = (table : List ℕ)
+-- the same from any line of the table, such as one that was left when the table was changed
+abbrev pub TableFairFrom : Type 0
+TableFairFrom = (table : List ℕ) (e t : ℕ) (l : List ℕ) (second : List Call)
     → let jobs = jobsIn table in
-    tableOf table .refusal ≡ 0
-    → (room : List ℕ) (minute : ℕ)
-    → (initOf table room ≡ initStep jobs room)
+    CanFire table e
+    → entriesOf (jobs .count) l ≡ true
+    → Follows jobs l second
+    → t + bound jobs gap ≤ lastMinute
+    → Paced (t + 1) (bound jobs gap) true (unrefused jobs second)
+    → Names jobs e (upTo (bound jobs gap) (unrefused jobs second))
+
+-- what the three functions promise for a table is the steps of which the claims speak
+abbrev pub ByTheSteps : List ℕ → Type 0
+ByTheSteps table = (room : List ℕ) (minute : ℕ)
+    → let jobs = jobsIn table in
+    (initOf table room ≡ initStep jobs room)
     × (tickOf table minute room ≡ tickStep jobs minute room)
     × (popOf table room ≡ popStep (jobs .count) room)
 
--- in a list from the fresh line of such a table a call is refused only with 28 for too small a room or 14 for a minute off the calendar
+-- so it is for a table that has an entry, as each does of which the claims speak
+abbrev pub TableSteps : Type 0
+TableSteps = (table : List ℕ) (e : ℕ) → e < jobsIn table .count → ByTheSteps table
+
+-- and for every table that isn't refused
+abbrev pub TableStepsGood : Type 0
+TableStepsGood = (table : List ℕ) → tableOf table .refusal ≡ 0 → ByTheSteps table
+
+-- in a list from the fresh line of a table that isn't refused a call is refused only with 28 for too small a room or 14 for a minute off the calendar
 abbrev pub TableRefusedOnly : Type 0
 TableRefusedOnly = (table : List ℕ) (cs : List Call) → tableOf table .refusal ≡ 0 → Follows (jobsIn table) (fresh (jobsIn table)) cs → Expected (jobsIn table) cs
 
@@ -66,9 +79,9 @@ TableFairInBuffer = (table : List ℕ) (e t : ℕ) (size : ℕ) (buffer : List �
     → let jobs = jobsIn table in
     CanFire table e
     → roomy (jobs .count) (take size buffer) ≡ true
-    → t + span jobs gap ≤ lastMinute
-    → let calls = unrefused jobs (callsOn jobs (endOf jobs (started jobs size buffer) first) second) in
-    Paced (t + 1) (span jobs gap) true calls → Names jobs e (upTo (span jobs gap) calls)
+    → t + bound jobs gap ≤ lastMinute
+    → let calls = unrefused jobs (callsOn jobs (bufferAfterAll jobs (started jobs size buffer) first) second) in
+    Paced (t + 1) (bound jobs gap) true calls → Names jobs e (upTo (bound jobs gap) calls)
 
 -- the claim with no hypothesis about calls: whatever went before, each minute is announced and one request follows
 abbrev pub TableFairSteady : Type 0
@@ -76,5 +89,5 @@ TableFairSteady = (table : List ℕ) (e t size : ℕ) (buffer : List ℕ) (first
     → let jobs = jobsIn table in
     CanFire table e
     → roomy (jobs .count) (take size buffer) ≡ true
-    → t + span jobs gap ≤ lastMinute
-    → Names jobs e (upTo (span jobs gap) (callsOn jobs (endOf jobs (started jobs size buffer) first) (steady size (t + 1) (span jobs gap))))
+    → t + bound jobs gap ≤ lastMinute
+    → Names jobs e (upTo (bound jobs gap) (callsOn jobs (bufferAfterAll jobs (started jobs size buffer) first) (steady size (t + 1) (bound jobs gap))))

@@ -7,7 +7,7 @@ use mathlib.Core.List.{List}
 use Rattle.crontab.specs.declared.When.{When}
 use Rattle.crontab.specs.declared.Table.{Table}
 use Rattle.crontab.specs.Answers.{firesOn}
-use Rattle.fifo.specs.Line.{has, pick}
+use Rattle.fifo.specs.WaitingLine.{standsIn, pick}
 use Rattle.runqueue.specs.declared.Called.{Called}
 use Rattle.runqueue.specs.declared.Called.the-variants.{AtBoot, On}
 use Rattle.runqueue.specs.Jobs.{isBoot, whenOf}
@@ -18,4 +18,4 @@ isCalled (On date) when = firesOn when date
 
 -- the entries that a call lets join a line, in file order
 unfoldable pub joining : Table → Called → List ℕ → List ℕ
-joining t called l = pick (λ e. not (has e l) && isCalled called (whenOf t e)) (t .count)
+joining t called l = pick (λ e. not (standsIn e l) && isCalled called (whenOf t e)) (t .count)

@@ -6,7 +6,7 @@ ghost use mathlib.Core.List.{_++_};
 ghost use Prim.Native.Nat.{_≤_};
 ghost use lib.ListN.{length};
 ghost use Rattle.fifo.specs.Layout.{lineOf, laid, isLine};
-ghost use Rattle.fifo.specs.Steps.{canJoin, joined};
+ghost use Rattle.fifo.specs.SmallSteps.{canJoin, joined};
 ghost use Rattle.runqueue.specs.Jobs.{isBoot};
 ghost use Rattle.runqueue.specs.Joining.{isCalled, joining};
 ghost use Rattle.runqueue.specs.Calls.{initOf, tickOf, popOf};

@@ -1,7 +1,7 @@
 -- How soon a day matches again: within the gap, even where a date must fall on a weekday.
 -- Assumes nothing.
 use mathlib.Core.Path.{_≡_, refl, _∙_}
-use mathlib.Core.Bool.{Bool, true, false, not}
+use mathlib.Core.Bool.{Bool, true, false}
 use Prim.Native.Nat.{ℕ, _+_, _-_, _%_, _≤_, _<_}
 use native.Mathlib.Omega.{arith}
 use lib.Dec.{T, eqb, eqb→eq}
@@ -13,7 +13,7 @@ use Rattle.schedule.specs.declared.Schedule.{Schedule}
 use Rattle.schedule.specs.Gap.{gapDays}
 use Rattle.schedule.specs.Match.{matchesDay, matchesOn}
 use Rattle.schedule.proofs.LeapYears.{leapAt, leapOn, leap-on-soon}
-use Rattle.schedule.proofs.Dates.{month-lengths, into, Is, into-small, date-comes, date-matches}
+use Rattle.schedule.proofs.Dates.{into, Is, into-small, date-comes, date-matches}
 
 -- some day matches in each g days of the calendar
 abbrev pub Within : Schedule → ℕ → Type 0

@@ -8,18 +8,12 @@ use Rattle.calendar.proofs.Minutes.{dateOf-off}
 use Rattle.calendar.proofs.date_of.Statement.{statement}
 use Rattle.calendar.proofs.date_of.Tie as tie
 
-no-date-requires : tie.Need-no-date-requires
-no-date-requires c κs = search needs
-
 returns : tie.Need-returns
 returns c = c .no-date .ensures ∙ dateOf-off _ (c .before .if1 .taken)
-
-date-at-requires : tie.Need-date-at-requires
-date-at-requires c κs = search needs
 
 returns-2 : tie.Need-returns-2
 unfolding dateOf
 returns-2 c = rw (le-leb _ lastMinute (c .before .if1 .left), c .date-at .ensures)
 
 pub date-of-spec : {M : Type 1} → statement M
-date-of-spec = tie.close (tie.spec no-date-requires returns date-at-requires returns-2)
+date-of-spec = tie.close (tie.spec (λ c κs. search needs) returns (λ c κs. search needs) returns-2)

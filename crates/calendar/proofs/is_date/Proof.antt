@@ -5,12 +5,9 @@ use Rattle.calendar.specs.Dates.{exists}
 use Rattle.calendar.proofs.is_date.Statement.{statement}
 use Rattle.calendar.proofs.is_date.Tie as tie
 
-month-days-requires : tie.Need-month-days-requires
-month-days-requires c κs = search needs
-
 returns : tie.Need-returns
 unfolding exists
 returns c = rw (c .month-days .ensures)
 
 pub is-date-spec : {M : Type 1} → statement M
-is-date-spec = tie.close (tie.spec month-days-requires returns)
+is-date-spec = tie.close (tie.spec (λ c κs. search needs) returns)

@@ -4,11 +4,8 @@ use borrow.Author.Needs.{needs}
 use Rattle.calendar.proofs.on_calendar.Statement.{statement}
 use Rattle.calendar.proofs.on_calendar.Tie as tie
 
-is-date-requires : tie.Need-is-date-requires
-is-date-requires c κs = search needs
-
 returns : tie.Need-returns
 returns c = rw (c .is-date .ensures)
 
 pub on-calendar-spec : {M : Type 1} → statement M
-on-calendar-spec = tie.close (tie.spec is-date-requires returns)
+on-calendar-spec = tie.close (tie.spec (λ c κs. search needs) returns)

@@ -5,12 +5,6 @@ use Rattle.command.specs.Pieces.{byteOf}
 use Rattle.command.proofs.byte_of.Statement.{statement}
 use Rattle.command.proofs.byte_of.Tie as tie
 
-enum-known-piece : tie.Need-enum-known-piece
-enum-known-piece c = search needs
-
-enum-told : tie.Need-enum-told
-enum-told c = search needs
-
 returns : tie.Need-returns
 unfolding byteOf
 returns c = search needs
@@ -20,4 +14,4 @@ unfolding byteOf
 returns-2 c = search needs
 
 pub byte-of-spec : {M : Type 1} → statement M
-byte-of-spec = tie.close (tie.spec enum-known-piece enum-told returns returns-2)
+byte-of-spec = tie.close (tie.spec (λ c. search needs) (λ c. search needs) returns returns-2)

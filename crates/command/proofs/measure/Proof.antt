@@ -5,18 +5,6 @@ use Rattle.command.proofs.Buffers.{whole-lengths, cut-lengths}
 use Rattle.command.proofs.measure.Statement.{statement}
 use Rattle.command.proofs.measure.Tie as tie
 
-shell-end-requires : tie.Need-shell-end-requires
-shell-end-requires c κs = search needs
-
-enum-known-n : tie.Need-enum-known-n
-enum-known-n c = search needs
-
-enum-known-length : tie.Need-enum-known-length
-enum-known-length c = search needs
-
-count-requires : tie.Need-count-requires
-count-requires c κs = search needs
-
 returns : tie.Need-returns
 returns c =
     whole-lengths (c .before .before .before .before .before .args .c .now) (c .before .n .given .0 .0)
@@ -31,4 +19,4 @@ returns-2 c =
 pub measure-spec : {M : Type 1} → statement M
 measure-spec =
     tie.close
-    (tie.spec shell-end-requires enum-known-n enum-known-length count-requires returns returns-2)
+    (tie.spec (λ c κs. search needs) (λ c. search needs) (λ c. search needs) (λ c κs. search needs) returns returns-2)

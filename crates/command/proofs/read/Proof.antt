@@ -19,15 +19,6 @@ over : (c : List ℕ) (i b next : ℕ) (before after : Bool) (r : Step) → r �
     → ahead before (drop i c) ≡ Byte b ∷ ahead after (drop next c) → StepIs c i before r
 over c i b next before after r e h g = rw e (record { onward = h; unpaired = λ k. cc; gives = g })
 
-shared-slice-read-b : tie.Need-shared-slice-read-b
-shared-slice-read-b c = search needs
-
-add-next : tie.Need-add-next
-add-next c = search needs
-
-text-requires : tie.Need-text-requires
-text-requires c κs = search needs
-
 returns : tie.Need-returns
 returns c =
     let s = c .before .before .before .before in
@@ -45,9 +36,6 @@ returns-2 c =
       gives = rw (c .before .if1 .left) (ahead-percent (a .c .now) (a .i) (s .pre) (c .if2 .taken));
     }
 
-text-requires-2 : tie.Need-text-requires-2
-text-requires-2 c κs = search needs
-
 returns-3 : tie.Need-returns-3
 returns-3 c =
     let s = c .before .before .before .before .before .before in
@@ -55,15 +43,6 @@ returns-3 c =
     over (a .c .now) (a .i) _ _ (a .second) false _ (c .text2 .ensures) (omega arith)
     (rw (c .before .before .before .if1 .left)
     (ahead-plain (a .c .now) (a .i) (s .pre) (c .before .before .if2 .left) (c .before .if3 .taken)))
-
-is-percent-requires : tie.Need-is-percent-requires
-is-percent-requires c κs = search needs
-
-add-text : tie.Need-add-text
-add-text c = search needs
-
-text-requires-3 : tie.Need-text-requires-3
-text-requires-3 c κs = search needs
 
 returns-4 : tie.Need-returns-4
 returns-4 c =
@@ -73,9 +52,6 @@ returns-4 c =
     over (a .c .now) (a .i) _ _ (a .second) false _ (c .text3 .ensures) (omega arith)
     (rw (c .before .before .before .before .before .if1 .left)
     (ahead-escaped (a .c .now) (a .i) (s .pre) (c .before .before .before .if3 .left) q))
-
-text-requires-4 : tie.Need-text-requires-4
-text-requires-4 c κs = search needs
 
 returns-5 : tie.Need-returns-5
 returns-5 c =
@@ -90,16 +66,16 @@ pub read-spec : {M : Type 1} → statement M
 read-spec =
     tie.close
     (tie.spec
-    shared-slice-read-b
-    add-next
-    text-requires
+    (λ c. search needs)
+    (λ c. search needs)
+    (λ c κs. search needs)
     returns
     returns-2
-    text-requires-2
+    (λ c κs. search needs)
     returns-3
-    is-percent-requires
-    add-text
-    text-requires-3
+    (λ c κs. search needs)
+    (λ c. search needs)
+    (λ c κs. search needs)
     returns-4
-    text-requires-4
+    (λ c κs. search needs)
     returns-5)

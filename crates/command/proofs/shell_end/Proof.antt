@@ -28,12 +28,6 @@ loop-holds : tie.Need-loop-holds Inv-loop μ-loop
 unfolding ahead shellLine inputOf
 loop-holds c = (omega arith, refl)
 
-read-requires : tie.Need-read-requires Inv-loop μ-loop
-read-requires c κs = search needs
-
-enum-told : tie.Need-enum-told Inv-loop μ-loop
-enum-told c = search needs
-
 returns : tie.Need-returns Inv-loop μ-loop
 unfolding ahead upToPercent restOf
 returns c =
@@ -44,9 +38,6 @@ returns c =
     let e : ahead (at .second) (drop (at .i) (a .c .now)) ≡ Percent ∷ pieces false (drop (r .result .next) (a .c .now)) =
     r .ensures .gives ∙ rw (told, r .ensures .unpaired told) in
     (omega (arith, ap length (ap upToPercent e)), sym (at .inv .1) ∙ ap restOf e)
-
-enum-told-2 : tie.Need-enum-told-2 Inv-loop μ-loop
-enum-told-2 c = search needs
 
 add-n : tie.Need-add-n Inv-loop μ-loop
 add-n c = omega (arith, split-length (c .before .before .before .before .before .before .args .c .now))
@@ -75,10 +66,10 @@ shell-end-spec =
     Inv-loop
     μ-loop
     loop-holds
-    read-requires
-    enum-told
+    (λ c κs. search needs)
+    (λ c. search needs)
     returns
-    enum-told-2
+    (λ c. search needs)
     add-n
     loop-less
     loop-again

@@ -7,13 +7,7 @@ use Rattle.command.proofs.Buffers.{neither, line-within, whole-refused,
 use Rattle.command.proofs.split.Statement.{statement}
 use Rattle.command.proofs.split.Tie as tie
 
-shell-end-requires : tie.Need-shell-end-requires
-shell-end-requires c κs = search needs
-
 -- ---- no unescaped `%`
-
-enum-known-n : tie.Need-enum-known-n
-enum-known-n c = search needs
 
 returns : tie.Need-returns
 returns c =
@@ -29,9 +23,6 @@ fill-requires c κs =
     let is = rw (told .1) at (found .shell-end .ensures) in
     (line-within (found .before .before .before .before .args .c .now) (told .0 .0) (is .0), c .before .if1 .left)
 
-same-length : tie.Need-same-length
-same-length c = search needs
-
 returns-3 : tie.Need-returns-3
 returns-3 c =
     let test = c .before .before .before .before in
@@ -42,12 +33,6 @@ returns-3 c =
     (c .before .before .fill .ensures)
 
 -- ---- an unescaped `%`
-
-enum-known-length : tie.Need-enum-known-length
-enum-known-length c = search needs
-
-count-requires : tie.Need-count-requires
-count-requires c κs = search needs
 
 returns-2 : tie.Need-returns-2
 returns-2 c =
@@ -77,12 +62,6 @@ fill-requires-3 c κs =
     let a = test .before .before .before .before .before .before .before .before .before .args in
     (omega (arith, m .ensures), neither (length (a .shell .now)) (told .0 .0) (length (a .input .now)) (m .result) (test .if2 .left) .1)
 
-same-length-2 : tie.Need-same-length-2
-same-length-2 c = search needs
-
-same-length-3 : tie.Need-same-length-3
-same-length-3 c = search needs
-
 returns-4 : tie.Need-returns-4
 returns-4 c =
     let test = c .before .before .before .before .before .before .before .before in
@@ -98,17 +77,17 @@ pub split-spec : {M : Type 1} → statement M
 split-spec =
     tie.close
     (tie.spec
-    shell-end-requires
-    enum-known-n
+    (λ c κs. search needs)
+    (λ c. search needs)
     returns
     fill-requires
-    enum-known-length
-    count-requires
+    (λ c. search needs)
+    (λ c κs. search needs)
     returns-2
     fill-requires-2
     fill-requires-3
-    same-length
+    (λ c. search needs)
     returns-3
-    same-length-2
-    same-length-3
+    (λ c. search needs)
+    (λ c. search needs)
     returns-4)

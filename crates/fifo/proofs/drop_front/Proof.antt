@@ -10,14 +10,8 @@ use Rattle.fifo.proofs.drop_front.Tie as tie
 mul-move-up : tie.Need-mul-move-up
 mul-move-up c = omega (arith, line-short (c .before .before .args .room .now))
 
-sub-move-up : tie.Need-sub-move-up
-sub-move-up c = search needs
-
 move-up-requires : tie.Need-move-up-requires
 move-up-requires c κs = omega (arith, line-short (c .before .before .args .room .now))
-
-sub-store : tie.Need-sub-store
-sub-store c = search needs
 
 cast-store : tie.Need-cast-store
 cast-store c =
@@ -26,9 +20,6 @@ cast-store c =
 
 store-requires : tie.Need-store-requires
 store-requires c κs = omega (arith, line-short (c .before .before .before .before .before .before .args .room .now), c .before .before .before .move-up .kept .0, c .before .before .before .before .before .before .pre .0, c .before .before .before .before .before .before .pre .1)
-
-same-length : tie.Need-same-length
-same-length c = search needs
 
 returns : tie.Need-returns
 returns c =
@@ -40,10 +31,10 @@ drop-front-spec =
     tie.close
     (tie.spec
     mul-move-up
-    sub-move-up
+    (λ c. search needs)
     move-up-requires
-    sub-store
+    (λ c. search needs)
     cast-store
     store-requires
-    same-length
+    (λ c. search needs)
     returns)

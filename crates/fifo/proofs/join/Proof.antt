@@ -6,20 +6,8 @@ use Rattle.fifo.proofs.Rooms.{join-waits, join-push}
 use Rattle.fifo.proofs.join.Statement.{statement}
 use Rattle.fifo.proofs.join.Tie as tie
 
-waits-requires : tie.Need-waits-requires
-waits-requires c κs = search needs
-
-same-length : tie.Need-same-length
-same-length c = search needs
-
 returns : tie.Need-returns
 returns c = join-waits _ _ (sym (c .before .waits .ensures) ∙ c .if1 .taken)
-
-push-requires : tie.Need-push-requires
-push-requires c κs = search needs
-
-same-length-2 : tie.Need-same-length-2
-same-length-2 c = search needs
 
 returns-2 : tie.Need-returns-2
 returns-2 c =
@@ -29,4 +17,4 @@ returns-2 c =
 
 pub join-spec : {M : Type 1} → statement M
 join-spec =
-    tie.close (tie.spec waits-requires same-length returns push-requires same-length-2 returns-2)
+    tie.close (tie.spec (λ c κs. search needs) (λ c. search needs) returns (λ c κs. search needs) (λ c. search needs) returns-2)

@@ -10,15 +10,6 @@ use Rattle.fifo.proofs.len.Tie as tie
 returns : tie.Need-returns
 returns c = sym (line-none _ (c .if1 .taken))
 
-sub-most : tie.Need-sub-most
-sub-most c = search needs
-
-number-requires : tie.Need-number-requires
-number-requires c κs = search needs
-
-cast-count : tie.Need-cast-count
-cast-count c = search needs
-
 returns-2 : tie.Need-returns-2
 returns-2 c = omega (arith, line-length (c .before .before .before .before .args .room .now) (omega arith), c .before .number .ensures)
 
@@ -26,4 +17,4 @@ returns-3 : tie.Need-returns-3
 returns-3 c = omega (arith, line-length (c .before .before .before .before .args .room .now) (omega arith), c .before .number .ensures)
 
 pub len-spec : {M : Type 1} → statement M
-len-spec = tie.close (tie.spec returns sub-most number-requires cast-count returns-2 returns-3)
+len-spec = tie.close (tie.spec returns (λ c. search needs) (λ c κs. search needs) (λ c. search needs) returns-2 returns-3)

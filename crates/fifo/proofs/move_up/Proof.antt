@@ -19,33 +19,12 @@ abbrev μ-loop : tie.MeasureT-loop
 loop-holds : tie.Need-loop-holds Inv-loop μ-loop
 loop-holds c = (paste-zero (c .args .room .now) 2 (drop 4 (c .args .room .now)), search needs, search needs)
 
-add-room : tie.Need-add-room Inv-loop μ-loop
-add-room c = omega arith
-
-slice-read-room : tie.Need-slice-read-room Inv-loop μ-loop
-slice-read-room c = omega arith
-
-add-room-2 : tie.Need-add-room-2 Inv-loop μ-loop
-add-room-2 c = omega arith
-
-slice-write-room : tie.Need-slice-write-room Inv-loop μ-loop
-slice-write-room c = omega arith
-
-add-i : tie.Need-add-i Inv-loop μ-loop
-add-i c = omega arith
-
-loop-less : tie.Need-loop-less Inv-loop μ-loop
-loop-less c = omega arith
-
 loop-again : tie.Need-loop-again Inv-loop μ-loop
 loop-again c =
     let s = c .before .before .before .args .room .now in
     let i = c .before .before .loop .i in
     let inv = c .before .before .loop .inv in
     (rw (inv .0) (paste-next s i (omega arith)), simp length-set (inv .1), omega arith)
-
-same-length : tie.Need-same-length Inv-loop μ-loop
-same-length c = search needs
 
 returns : tie.Need-returns Inv-loop μ-loop
 returns c =
@@ -59,12 +38,12 @@ move-up-spec =
     Inv-loop
     μ-loop
     loop-holds
-    add-room
-    slice-read-room
-    add-room-2
-    slice-write-room
-    add-i
-    loop-less
+    (λ c. omega arith)
+    (λ c. omega arith)
+    (λ c. omega arith)
+    (λ c. omega arith)
+    (λ c. omega arith)
+    (λ c. omega arith)
     loop-again
-    same-length
+    (λ c. search needs)
     returns)

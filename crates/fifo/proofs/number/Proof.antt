@@ -11,20 +11,8 @@ use Rattle.fifo.proofs.number.Tie as tie
 returns : tie.Need-returns
 returns c = sym (number-past _ _ (c .if1 .taken))
 
-mul-at : tie.Need-mul-at
-mul-at c = search needs
-
-shared-slice-read-result : tie.Need-shared-slice-read-result
-shared-slice-read-result c = search needs
-
 cast-result : tie.Need-cast-result
 cast-result c = omega (arith, c .shared-slice-known .given (2 * c .before .before .args .i))
-
-add-result : tie.Need-add-result
-add-result c = search needs
-
-shared-slice-read-result-2 : tie.Need-shared-slice-read-result-2
-shared-slice-read-result-2 c = search needs
 
 cast-result-2 : tie.Need-cast-result-2
 cast-result-2 c = omega (arith, c .shared-slice-known2 .given (2 * c .before .before .before .args .i + 1))
@@ -45,11 +33,11 @@ number-spec =
     tie.close
     (tie.spec
     returns
-    mul-at
-    shared-slice-read-result
+    (λ c. search needs)
+    (λ c. search needs)
     cast-result
-    add-result
-    shared-slice-read-result-2
+    (λ c. search needs)
+    (λ c. search needs)
     cast-result-2
     mul-result
     add-result-2

@@ -7,36 +7,15 @@ use Rattle.fifo.proofs.Rooms.{pop-refused, pop-none, pop-one}
 use Rattle.fifo.proofs.pop.Statement.{statement}
 use Rattle.fifo.proofs.pop.Tie as tie
 
-is-line-requires : tie.Need-is-line-requires
-is-line-requires c κs = search needs
-
-len-requires : tie.Need-len-requires
-len-requires c κs = search needs
-
-same-length : tie.Need-same-length
-same-length c = search needs
-
 returns : tie.Need-returns
 returns c =
     pop-none _ _ (λ i. omega (arith, c .before .before .before .before .before .before .slice-known .given i))
     (sym (c .before .before .before .before .is-line .ensures) ∙ c .before .before .before .if1 .taken) (sym (c .before .len .ensures) ∙ c .if2 .taken)
 
-number-requires : tie.Need-number-requires
-number-requires c κs = search needs
-
-drop-front-requires : tie.Need-drop-front-requires
-drop-front-requires c κs = search needs
-
-same-length-2 : tie.Need-same-length-2
-same-length-2 c = search needs
-
 returns-2 : tie.Need-returns-2
 returns-2 c =
     rw (c .before .before .before .before .number .ensures, c .before .before .drop-front .ensures)
     (pop-one _ _ (sym (c .before .before .before .before .before .before .before .before .before .before .is-line .ensures) ∙ c .before .before .before .before .before .before .before .before .before .if1 .taken) (λ z. c .before .before .before .before .before .before .if2 .left (c .before .before .before .before .before .before .before .len .ensures ∙ z)))
-
-same-length-3 : tie.Need-same-length-3
-same-length-3 c = search needs
 
 returns-3 : tie.Need-returns-3
 returns-3 c = pop-refused _ _ (sym (c .before .is-line .ensures) ∙ c .if1 .left)
@@ -45,13 +24,13 @@ pub pop-spec : {M : Type 1} → statement M
 pop-spec =
     tie.close
     (tie.spec
-    is-line-requires
-    len-requires
-    same-length
+    (λ c κs. search needs)
+    (λ c κs. search needs)
+    (λ c. search needs)
     returns
-    number-requires
-    drop-front-requires
-    same-length-2
+    (λ c κs. search needs)
+    (λ c κs. search needs)
+    (λ c. search needs)
     returns-2
-    same-length-3
+    (λ c. search needs)
     returns-3)

@@ -7,41 +7,14 @@ use Rattle.fifo.proofs.Rooms.{push-short, push-full, push-done}
 use Rattle.fifo.proofs.push.Statement.{statement}
 use Rattle.fifo.proofs.push.Tie as tie
 
-len-requires : tie.Need-len-requires
-len-requires c κs = search needs
-
 add-if1 : tie.Need-add-if1
 add-if1 c = omega (arith, line-short (c .before .before .before .args .room .now), c .len .ensures)
-
-same-length : tie.Need-same-length
-same-length c = search needs
 
 returns : tie.Need-returns
 returns c = push-short _ _ _ (c .before .len .ensures) (c .if1 .taken)
 
-same-length-2 : tie.Need-same-length-2
-same-length-2 c = search needs
-
 returns-2 : tie.Need-returns-2
 returns-2 c = push-full _ _ _ (c .before .before .len .ensures) (c .before .if1 .left) (c .if2 .taken)
-
-add-store : tie.Need-add-store
-add-store c = search needs
-
-store-requires : tie.Need-store-requires
-store-requires c κs = search needs
-
-add-store-2 : tie.Need-add-store-2
-add-store-2 c = search needs
-
-cast-store : tie.Need-cast-store
-cast-store c = search needs
-
-store-requires-2 : tie.Need-store-requires-2
-store-requires-2 c κs = search needs
-
-same-length-3 : tie.Need-same-length-3
-same-length-3 c = search needs
 
 returns-3 : tie.Need-returns-3
 returns-3 c =
@@ -53,16 +26,16 @@ pub push-spec : {M : Type 1} → statement M
 push-spec =
     tie.close
     (tie.spec
-    len-requires
+    (λ c κs. search needs)
     add-if1
-    same-length
+    (λ c. search needs)
     returns
-    same-length-2
+    (λ c. search needs)
     returns-2
-    add-store
-    store-requires
-    add-store-2
-    cast-store
-    store-requires-2
-    same-length-3
+    (λ c. search needs)
+    (λ c κs. search needs)
+    (λ c. search needs)
+    (λ c. search needs)
+    (λ c κs. search needs)
+    (λ c. search needs)
     returns-3)

@@ -5,7 +5,7 @@ use mathlib.Core.Bool.{not, _&&_}
 use Prim.Native.Nat.{ℕ, _+_, _-_}
 use native.Mathlib.Omega.{arith}
 use borrow.Author.Needs.{needs}
-use Rattle.fifo.specs.Line.{has}
+use Rattle.fifo.specs.WaitingLine.{standsIn}
 use Rattle.fifo.specs.Layout.{lineOf}
 use Rattle.fifo.proofs.Rooms.{laid-line}
 use Rattle.fifo.proofs.Filling.{Fills, fills-none, fills-more, offer-next}
@@ -16,7 +16,7 @@ use Rattle.runqueue.proofs.offer_all.Tie as tie
 
 abbrev Inv-loop : tie.InvT-loop
 Inv-loop room₀ called t n count₀ i₀ room count i =
-    Fills (lineOf room₀) room₀ (λ e. not (has e (lineOf room₀)) && isCalled called (whenOf t e)) (t .count) i room count
+    Fills (lineOf room₀) room₀ (λ e. not (standsIn e (lineOf room₀)) && isCalled called (whenOf t e)) (t .count) i room count
 
 abbrev μ-loop : tie.MeasureT-loop
 μ-loop room₀ called t n count₀ i₀ room count i = t .count - i

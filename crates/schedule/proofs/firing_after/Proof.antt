@@ -18,18 +18,6 @@ returns c =
     let e = c .if1 .taken in
     firing-none (c .before .args .s) (c .before .args .minute) (c .before .args .minute + 1) (from-past _ _ _ (omega arith)) (omega arith)
 
-add-start : tie.Need-add-start
-add-start c = search needs
-
-time-from-requires : tie.Need-time-from-requires
-time-from-requires c κs = search needs
-
-matches-on-requires : tie.Need-matches-on-requires
-matches-on-requires c κs = search needs
-
-mul-t12 : tie.Need-mul-t12
-mul-t12 c = search needs
-
 time-small : (c : tie.Then2) → c .before .before .time-from .result < 1440
 time-small c = ltb-true _ _ (and-true (c .before .matches-on .result) _ (c .if2 .taken) .1)
 
@@ -43,15 +31,6 @@ returns-2 c =
     (digits-here 1440 (lit< tt) (matchesOn (a .s)) (matchesAt (a .s)) calendarDays (a .minute + 1) (omega arith)
     (c .before .matches-on .ensures) (c .before .before .time-from .ensures) (c .if2 .taken))
     (omega (arith, time-small c))
-
-add-day-from : tie.Need-add-day-from
-add-day-from c = search needs
-
-day-from-requires : tie.Need-day-from-requires
-day-from-requires c κs = search needs
-
-time-from-requires-2 : tie.Need-time-from-requires-2
-time-from-requires-2 c κs = search needs
 
 later-small : (c : tie.Then3) → (c .before .before .day-from .result < calendarDays) × (c .before .time-from2 .result < 1440)
 later-small c = let w = and-true _ _ (c .if3 .taken) in (ltb-true _ _ (w .0), ltb-true _ _ (w .1))
@@ -87,15 +66,15 @@ firing-after-spec =
     tie.close
     (tie.spec
     returns
-    add-start
-    time-from-requires
-    matches-on-requires
-    mul-t12
+    (λ c. search needs)
+    (λ c κs. search needs)
+    (λ c κs. search needs)
+    (λ c. search needs)
     add-t13
     returns-2
-    add-day-from
-    day-from-requires
-    time-from-requires-2
+    (λ c. search needs)
+    (λ c κs. search needs)
+    (λ c κs. search needs)
     mul-t14
     add-t15
     returns-3

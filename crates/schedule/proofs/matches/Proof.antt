@@ -13,12 +13,6 @@ returns : tie.Need-returns
 unfolding isDue
 returns c = rw (lt-leb _ _ (c .if1 .taken))
 
-date-of-requires : tie.Need-date-of-requires
-date-of-requires c κs = search needs
-
-matches-date-requires : tie.Need-matches-date-requires
-matches-date-requires c κs = search needs
-
 returns-2 : tie.Need-returns-2
 unfolding isDue matches
 returns-2 c =
@@ -27,4 +21,4 @@ returns-2 c =
     rw (le-leb _ _ h) (c .matches-date .ensures ∙ ap (λ (a : DateAnswer). matchesDate (c .before .before .before .before .args .s) (a .date)) e)
 
 pub matches-spec : {M : Type 1} → statement M
-matches-spec = tie.close (tie.spec returns date-of-requires matches-date-requires returns-2)
+matches-spec = tie.close (tie.spec returns (λ c κs. search needs) (λ c κs. search needs) returns-2)

@@ -9,15 +9,6 @@ use Rattle.schedule.specs.Match.{matchesDay, matchesOn}
 use Rattle.schedule.proofs.matches_on.Statement.{statement}
 use Rattle.schedule.proofs.matches_on.Tie as tie
 
-mul-date-of : tie.Need-mul-date-of
-mul-date-of c = search needs
-
-date-of-requires : tie.Need-date-of-requires
-date-of-requires c κs = search needs
-
-matches-day-requires : tie.Need-matches-day-requires
-matches-day-requires c κs = search needs
-
 returns : tie.Need-returns
 unfolding matchesOn
 returns c =
@@ -26,4 +17,4 @@ returns c =
     ∙ ap (λ (a : DateAnswer). matchesDay (c .before .before .before .args .s) (a .date .month) (a .date .day) (a .date .weekday)) e
 
 pub matches-on-spec : {M : Type 1} → statement M
-matches-on-spec = tie.close (tie.spec mul-date-of date-of-requires matches-day-requires returns)
+matches-on-spec = tie.close (tie.spec (λ c. search needs) (λ c κs. search needs) (λ c κs. search needs) returns)

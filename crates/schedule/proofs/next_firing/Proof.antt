@@ -10,12 +10,6 @@ returns : tie.Need-returns
 unfolding nextAfter
 returns c = rw (lt-leb _ _ (c .if1 .taken))
 
-can-fire-requires : tie.Need-can-fire-requires
-can-fire-requires c κs = search needs
-
-firing-after-requires : tie.Need-firing-after-requires
-firing-after-requires c κs = search needs
-
 returns-2 : tie.Need-returns-2
 unfolding nextAfter
 returns-2 c =
@@ -27,4 +21,4 @@ returns-3 c = rw (le-leb _ _ (c .before .before .if1 .left), ← (c .before .can
 
 pub next-firing-spec : {M : Type 1} → statement M
 next-firing-spec =
-    tie.close (tie.spec returns can-fire-requires firing-after-requires returns-2 returns-3)
+    tie.close (tie.spec returns (λ c κs. search needs) (λ c κs. search needs) returns-2 returns-3)

@@ -9,9 +9,6 @@ use Rattle.bytes.specs.Sets.{withBit, put}
 use Rattle.bytes.proofs.set.with.Statement.{statement}
 use Rattle.bytes.proofs.set.with.Tie as tie
 
-shl-result : tie.Need-shl-result
-shl-result c = search needs
-
 returns : tie.Need-returns
 unfolding put withBit
 returns c =
@@ -22,4 +19,4 @@ unfolding put
 returns-2 c = rw (le-ltb (c .before .args .n) 64 (c .if1 .left))
 
 pub with-spec : {M : Type 1} → statement M
-with-spec = tie.close (tie.spec shl-result returns returns-2)
+with-spec = tie.close (tie.spec (λ c. search needs) returns returns-2)

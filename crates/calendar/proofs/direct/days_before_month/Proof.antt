@@ -7,21 +7,9 @@ use Rattle.calendar.proofs.Dates.{monthStarts, startOf, starts-small, m
 use Rattle.calendar.proofs.direct.days_before_month.Statement.{statement}
 use Rattle.calendar.proofs.direct.days_before_month.Tie as tie
 
-sub-days : tie.Need-sub-days
-sub-days c = search needs
-
-mul-days : tie.Need-mul-days
-mul-days c = search needs
-
-array-read-days : tie.Need-array-read-days
-array-read-days c = search needs
-
 cast-days : tie.Need-cast-days
 unfolding monthStarts
 cast-days c = omega (arith, starts-small (c .args .month - 1) (omega arith))
-
-is-leap-requires : tie.Need-is-leap-requires
-is-leap-requires c κs = search needs
 
 add-result : tie.Need-add-result
 unfolding monthStarts
@@ -42,4 +30,4 @@ returns-2 c =
 pub days-before-month-spec : {M : Type 1} → statement M
 days-before-month-spec =
     tie.close
-    (tie.spec sub-days mul-days array-read-days cast-days is-leap-requires add-result returns returns-2)
+    (tie.spec (λ c. search needs) (λ c. search needs) (λ c. search needs) cast-days (λ c κs. search needs) add-result returns returns-2)

@@ -8,27 +8,6 @@ use Rattle.calendar.proofs.YearStarts.{startAt, start-at}
 use Rattle.calendar.proofs.direct.days_before_year.Statement.{statement}
 use Rattle.calendar.proofs.direct.days_before_year.Tie as tie
 
-sub-last : tie.Need-sub-last
-sub-last c = search needs
-
-sub-result : tie.Need-sub-result
-sub-result c = search needs
-
-mul-result : tie.Need-mul-result
-mul-result c = search needs
-
-add-result : tie.Need-add-result
-add-result c = search needs
-
-add-result-2 : tie.Need-add-result-2
-add-result-2 c = search needs
-
-add-result-3 : tie.Need-add-result-3
-add-result-3 c = search needs
-
-sub-result-2 : tie.Need-sub-result-2
-sub-result-2 c = search needs
-
 returns : tie.Need-returns
 unfolding startAt
 returns c =
@@ -39,11 +18,11 @@ pub days-before-year-spec : {M : Type 1} → statement M
 days-before-year-spec =
     tie.close
     (tie.spec
-    sub-last
-    sub-result
-    mul-result
-    add-result
-    add-result-2
-    add-result-3
-    sub-result-2
+    (λ c. search needs)
+    (λ c. search needs)
+    (λ c. search needs)
+    (λ c. search needs)
+    (λ c. search needs)
+    (λ c. search needs)
+    (λ c. search needs)
     returns)

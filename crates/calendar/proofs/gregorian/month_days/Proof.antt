@@ -17,17 +17,11 @@ returns-2 : tie.Need-returns-2
 unfolding monthDays monthLength monthTable
 returns-2 c = simp (le-leb 1 _ (c .before .if1 .left), lt-leb _ 12 (c .if2 .taken))
 
-is-leap-requires : tie.Need-is-leap-requires
-is-leap-requires c κs = search needs
-
 returns-3 : tie.Need-returns-3
 unfolding monthDays monthLength monthTable
 returns-3 c =
     simp (le-leb 1 _ (c .before .before .before .if1 .left), le-leb _ 12 (c .before .before .if2 .left))
     (rw (← (c .before .is-leap .ensures), c .if3 .taken))
-
-array-read-result : tie.Need-array-read-result
-array-read-result c = search needs
 
 cast-result : tie.Need-cast-result
 unfolding monthTable
@@ -42,4 +36,4 @@ returns-4 c =
 pub month-days-spec : {M : Type 1} → statement M
 month-days-spec =
     tie.close
-    (tie.spec returns returns-2 is-leap-requires returns-3 array-read-result cast-result returns-4)
+    (tie.spec returns returns-2 (λ c κs. search needs) returns-3 (λ c. search needs) cast-result returns-4)

@@ -5,9 +5,6 @@ use Rattle.calendar.specs.Gregorian.{yearDays}
 use Rattle.calendar.proofs.gregorian.year_days.Statement.{statement}
 use Rattle.calendar.proofs.gregorian.year_days.Tie as tie
 
-is-leap-requires : tie.Need-is-leap-requires
-is-leap-requires c κs = search needs
-
 returns : tie.Need-returns
 unfolding yearDays
 returns c = cc
@@ -17,4 +14,4 @@ unfolding yearDays
 returns-2 c = cc
 
 pub year-days-spec : {M : Type 1} → statement M
-year-days-spec = tie.close (tie.spec is-leap-requires returns returns-2)
+year-days-spec = tie.close (tie.spec (λ c κs. search needs) returns returns-2)

@@ -13,14 +13,8 @@ use Rattle.calendar.proofs.Minutes.{dateOf-off}
 use Rattle.calendar.proofs.walk.date_by_walk.Statement.{statement}
 use Rattle.calendar.proofs.walk.date_by_walk.Tie as tie
 
-no-date-requires : tie.Need-no-date-requires
-no-date-requires c κs = search needs
-
 returns : tie.Need-returns
 returns c = c .no-date .ensures ∙ dateOf-off _ (c .before .if1 .taken)
-
-year-of-requires : tie.Need-year-of-requires
-year-of-requires c κs = search needs
 
 in-year : (c : tie.After-year-of) → Falls yearDays 1970 8030 (c .before .before .args .minute / 1440) (c .year-of .result)
 in-year c = rw (c .year-of .ensures) (year-falls _ (omega arith))
@@ -35,9 +29,6 @@ month-of-requires c κs = in-year c .inside
 add-t7 : tie.Need-add-t7
 add-t7 c = omega (arith, in-year (c .before .before) .sum, in-month (c .before) .sum)
 
-add-t11 : tie.Need-add-t11
-add-t11 c = search needs
-
 returns-2 : tie.Need-returns-2
 unfolding dateOf dateAt weekdayOf
 returns-2 c =
@@ -47,4 +38,4 @@ returns-2 c =
 pub date-by-walk-spec : {M : Type 1} → statement M
 date-by-walk-spec =
     tie.close
-    (tie.spec no-date-requires returns year-of-requires month-of-requires add-t7 add-t11 returns-2)
+    (tie.spec (λ c κs. search needs) returns (λ c κs. search needs) month-of-requires add-t7 (λ c. search needs) returns-2)

@@ -17,23 +17,8 @@ Inv-loop year cycles at₀ days₀ at days = (1970 ≤ at) × (at ≤ year) × (
 abbrev μ-loop : tie.MeasureT-loop
 μ-loop year cycles at₀ days₀ at days = year - at
 
-sub-cycles : tie.Need-sub-cycles Inv-loop μ-loop
-sub-cycles c = omega arith
-
-mul-at : tie.Need-mul-at Inv-loop μ-loop
-mul-at c = omega arith
-
-add-at : tie.Need-add-at Inv-loop μ-loop
-add-at c = omega arith
-
-mul-days : tie.Need-mul-days Inv-loop μ-loop
-mul-days c = omega arith
-
 loop-holds : tie.Need-loop-holds Inv-loop μ-loop
 loop-holds c = (omega arith, omega arith, sym (after-cycles _))
-
-year-days-requires : tie.Need-year-days-requires Inv-loop μ-loop
-year-days-requires c κs = search needs
 
 -- the days with one year more
 more : (c : tie.After-year-days Inv-loop μ-loop)
@@ -43,12 +28,6 @@ more c =
 
 add-days : tie.Need-add-days Inv-loop μ-loop
 add-days c = omega (arith, more c, years-small (c .before .before .loop .at + 1 - 1970) (omega arith))
-
-add-at-2 : tie.Need-add-at-2 Inv-loop μ-loop
-add-at-2 c = omega arith
-
-loop-less : tie.Need-loop-less Inv-loop μ-loop
-loop-less c = omega arith
 
 loop-again : tie.Need-loop-again Inv-loop μ-loop
 loop-again c = (omega arith, omega arith, more c)
@@ -62,14 +41,14 @@ days-before-year-spec =
     (tie.spec
     Inv-loop
     μ-loop
-    sub-cycles
-    mul-at
-    add-at
-    mul-days
+    (λ c. omega arith)
+    (λ c. omega arith)
+    (λ c. omega arith)
+    (λ c. omega arith)
     loop-holds
-    year-days-requires
+    (λ c κs. search needs)
     add-days
-    add-at-2
-    loop-less
+    (λ c. omega arith)
+    (λ c. omega arith)
     loop-again
     returns)

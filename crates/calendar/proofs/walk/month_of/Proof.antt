@@ -19,9 +19,6 @@ abbrev μ-loop : tie.MeasureT-loop
 loop-holds : tie.Need-loop-holds Inv-loop μ-loop
 loop-holds c = months-going _ _ (c .pre)
 
-month-days-requires : tie.Need-month-days-requires Inv-loop μ-loop
-month-days-requires c κs = search needs
-
 returns : tie.Need-returns Inv-loop μ-loop
 unfolding monthOf
 returns c = going-ends (monthDays _) (c .before .before .loop .inv) (c .before .month-days .ensures) (c .if1 .taken)
@@ -42,7 +39,7 @@ month-of-spec =
     Inv-loop
     μ-loop
     loop-holds
-    month-days-requires
+    (λ c κs. search needs)
     returns
     add-at
     loop-less

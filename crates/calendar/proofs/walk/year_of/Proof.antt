@@ -16,17 +16,8 @@ Inv-loop day at₀ rest₀ at rest = Going yearDays 1970 8030 day at rest
 abbrev μ-loop : tie.MeasureT-loop
 μ-loop day at₀ rest₀ at rest = 10000 - at
 
-mul-at : tie.Need-mul-at Inv-loop μ-loop
-mul-at c = omega arith
-
-add-at : tie.Need-add-at Inv-loop μ-loop
-add-at c = omega arith
-
 loop-holds : tie.Need-loop-holds Inv-loop μ-loop
 loop-holds c = years-going _ (c .pre)
-
-year-days-requires : tie.Need-year-days-requires Inv-loop μ-loop
-year-days-requires c κs = search needs
 
 returns : tie.Need-returns Inv-loop μ-loop
 unfolding yearOf
@@ -47,10 +38,10 @@ year-of-spec =
     (tie.spec
     Inv-loop
     μ-loop
-    mul-at
-    add-at
+    (λ c. omega arith)
+    (λ c. omega arith)
     loop-holds
-    year-days-requires
+    (λ c κs. search needs)
     returns
     add-at-2
     loop-less

@@ -24,12 +24,6 @@ abbrev μ-loop : tie.MeasureT-loop
 returns : tie.Need-returns Inv-loop μ-loop
 returns c = from-past _ _ _ (c .if1 .taken)
 
-mul-date-of : tie.Need-mul-date-of Inv-loop μ-loop
-mul-date-of c = omega arith
-
-date-of-requires : tie.Need-date-of-requires Inv-loop μ-loop
-date-of-requires c κs = search needs
-
 -- the date that the calendar gives
 date-is : (c : tie.After-date-of Inv-loop μ-loop) → c .date-of .result .date ≡ dateAt (c .before .before .args .day * 1440)
 date-is c = ap (λ (a : DateAnswer). a .date) (c .date-of .ensures ∙ dateOf-on _ (omega arith))
@@ -65,12 +59,6 @@ sub-first-2 c = omega (arith, in-month (c .before .before .before .before) .sum)
 
 loop-holds : tie.Need-loop-holds Inv-loop μ-loop
 loop-holds c = begins (c .before .before .before .before)
-
-add-month : tie.Need-add-month Inv-loop μ-loop
-add-month c = omega arith
-
-month-days-requires : tie.Need-month-days-requires Inv-loop μ-loop
-month-days-requires c κs = search needs
 
 -- the month ends on the calendar
 end-on : (c : tie.After-month-days Inv-loop μ-loop) → c .before .before .loop .first + c .month-days .result ≤ calendarDays
@@ -116,16 +104,16 @@ day-from-spec =
     Inv-loop
     μ-loop
     returns
-    mul-date-of
-    date-of-requires
+    (λ c. omega arith)
+    (λ c κs. search needs)
     mul-count
     sub-count
     add-count
     sub-first
     sub-first-2
     loop-holds
-    add-month
-    month-days-requires
+    (λ c. omega arith)
+    (λ c κs. search needs)
     add-end
     day-in-month-requires
     returns-2

@@ -19,38 +19,14 @@ Inv-loop s month first at end day₀ day =
 abbrev μ-loop : tie.MeasureT-loop
 μ-loop s month first at end day₀ day = end - day
 
-cast-has : tie.Need-cast-has Inv-loop μ-loop
-cast-has c = search needs
-
-has-requires : tie.Need-has-requires Inv-loop μ-loop
-has-requires c κs = search needs
-
 loop-holds : tie.Need-loop-holds Inv-loop μ-loop
 loop-holds c = (omega arith, omega arith, refl)
-
-sub-matches-day : tie.Need-sub-matches-day Inv-loop μ-loop
-sub-matches-day c = omega arith
-
-add-matches-day : tie.Need-add-matches-day Inv-loop μ-loop
-add-matches-day c = omega arith
-
-add-matches-day-2 : tie.Need-add-matches-day-2 Inv-loop μ-loop
-add-matches-day-2 c = omega arith
-
-matches-day-requires : tie.Need-matches-day-requires Inv-loop μ-loop
-matches-day-requires c κs = search needs
 
 returns : tie.Need-returns Inv-loop μ-loop
 unfolding matchesIn weekdayOf
 returns c =
     from-stop _ _ _ (c .before .before .loop-test .taken) (sym (c .before .matches-day .ensures) ∙ c .if2 .taken)
     ∙ c .before .before .before .loop .inv .2
-
-add-day : tie.Need-add-day Inv-loop μ-loop
-add-day c = omega arith
-
-loop-less : tie.Need-loop-less Inv-loop μ-loop
-loop-less c = omega arith
 
 loop-again : tie.Need-loop-again Inv-loop μ-loop
 unfolding matchesIn weekdayOf
@@ -75,16 +51,16 @@ day-in-month-spec =
     (tie.spec
     Inv-loop
     μ-loop
-    cast-has
-    has-requires
+    (λ c. search needs)
+    (λ c κs. search needs)
     loop-holds
-    sub-matches-day
-    add-matches-day
-    add-matches-day-2
-    matches-day-requires
+    (λ c. omega arith)
+    (λ c. omega arith)
+    (λ c. omega arith)
+    (λ c κs. search needs)
     returns
-    add-day
-    loop-less
+    (λ c. omega arith)
+    (λ c. omega arith)
     loop-again
     returns-2
     returns-3)

@@ -5,24 +5,6 @@ use Rattle.schedule.specs.Match.{bothMust, byDayRule, matchesDay}
 use Rattle.schedule.proofs.day.matches_day.Statement.{statement}
 use Rattle.schedule.proofs.day.matches_day.Tie as tie
 
-cast-has : tie.Need-cast-has
-cast-has c = search needs
-
-has-requires : tie.Need-has-requires
-has-requires c κs = search needs
-
-cast-has-2 : tie.Need-cast-has-2
-cast-has-2 c = search needs
-
-has-requires-2 : tie.Need-has-requires-2
-has-requires-2 c κs = search needs
-
-cast-has-3 : tie.Need-cast-has-3
-cast-has-3 c = search needs
-
-has-requires-3 : tie.Need-has-requires-3
-has-requires-3 c κs = search needs
-
 returns : tie.Need-returns
 unfolding matchesDay byDayRule bothMust
 returns c =
@@ -39,11 +21,11 @@ pub matches-day-spec : {M : Type 1} → statement M
 matches-day-spec =
     tie.close
     (tie.spec
-    cast-has
-    has-requires
-    cast-has-2
-    has-requires-2
-    cast-has-3
-    has-requires-3
+    (λ c. search needs)
+    (λ c κs. search needs)
+    (λ c. search needs)
+    (λ c κs. search needs)
+    (λ c. search needs)
+    (λ c κs. search needs)
     returns
     returns-2)

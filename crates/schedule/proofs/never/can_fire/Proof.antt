@@ -5,14 +5,8 @@ use Rattle.schedule.proofs.Gap.{can-fire}
 use Rattle.schedule.proofs.never.can_fire.Statement.{statement}
 use Rattle.schedule.proofs.never.can_fire.Tie as tie
 
-time-from-requires : tie.Need-time-from-requires
-time-from-requires c κs = search needs
-
-some-day-requires : tie.Need-some-day-requires
-some-day-requires c κs = search needs
-
 returns : tie.Need-returns
 returns c = rw (can-fire (c .before .before .args .s), c .some-day .ensures, c .before .time-from .ensures)
 
 pub can-fire-spec : {M : Type 1} → statement M
-can-fire-spec = tie.close (tie.spec time-from-requires some-day-requires returns)
+can-fire-spec = tie.close (tie.spec (λ c κs. search needs) (λ c κs. search needs) returns)

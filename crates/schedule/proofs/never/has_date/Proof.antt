@@ -7,23 +7,8 @@ use Rattle.schedule.proofs.Dates.{month-days-small}
 use Rattle.schedule.proofs.never.has_date.Statement.{statement}
 use Rattle.schedule.proofs.never.has_date.Tie as tie
 
-cast-has : tie.Need-cast-has
-cast-has c = search needs
-
-has-requires : tie.Need-has-requires
-has-requires c κs = search needs
-
-month-days-requires : tie.Need-month-days-requires
-month-days-requires c κs = search needs
-
 add-end : tie.Need-add-end
 add-end c = omega (arith, c .month-days .ensures, month-days-small 2000 (c .before .before .before .before .args .month))
-
-cast-next : tie.Need-cast-next
-cast-next c = search needs
-
-next-requires : tie.Need-next-requires
-next-requires c κs = search needs
 
 returns : tie.Need-returns
 unfolding hasDate
@@ -39,11 +24,11 @@ pub has-date-spec : {M : Type 1} → statement M
 has-date-spec =
     tie.close
     (tie.spec
-    cast-has
-    has-requires
-    month-days-requires
+    (λ c. search needs)
+    (λ c κs. search needs)
+    (λ c κs. search needs)
     add-end
-    cast-next
-    next-requires
+    (λ c. search needs)
+    (λ c κs. search needs)
     returns
     returns-2)

@@ -19,19 +19,10 @@ abbrev μ-loop : tie.MeasureT-loop
 loop-holds : tie.Need-loop-holds Inv-loop μ-loop
 loop-holds c = refl
 
-has-date-requires : tie.Need-has-date-requires Inv-loop μ-loop
-has-date-requires c κs = search needs
-
 returns : tie.Need-returns Inv-loop μ-loop
 returns c =
     from-stop _ _ _ (c .before .before .loop-test .taken) (sym (c .before .has-date .ensures) ∙ c .if1 .taken)
     ∙ c .before .before .before .loop .inv
-
-add-month : tie.Need-add-month Inv-loop μ-loop
-add-month c = omega arith
-
-loop-less : tie.Need-loop-less Inv-loop μ-loop
-loop-less c = omega arith
 
 loop-again : tie.Need-loop-again Inv-loop μ-loop
 loop-again c =
@@ -48,9 +39,9 @@ month-with-date-spec =
     Inv-loop
     μ-loop
     loop-holds
-    has-date-requires
+    (λ c κs. search needs)
     returns
-    add-month
-    loop-less
+    (λ c. omega arith)
+    (λ c. omega arith)
     loop-again
     returns-2)

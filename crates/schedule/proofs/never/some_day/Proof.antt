@@ -6,21 +6,6 @@ use Rattle.schedule.specs.Days.{someDay}
 use Rattle.schedule.proofs.never.some_day.Statement.{statement}
 use Rattle.schedule.proofs.never.some_day.Tie as tie
 
-cast-next : tie.Need-cast-next
-cast-next c = search needs
-
-next-requires : tie.Need-next-requires
-next-requires c κs = search needs
-
-cast-next-2 : tie.Need-cast-next-2
-cast-next-2 c = search needs
-
-next-requires-2 : tie.Need-next-requires-2
-next-requires-2 c κs = search needs
-
-month-with-date-requires : tie.Need-month-with-date-requires
-month-with-date-requires c κs = search needs
-
 returns : tie.Need-returns
 unfolding someDay bothMust
 returns c = let b = c .before .before .before in rw (c .if1 .taken, b .month-with-date .ensures, b .before .next2 .ensures)
@@ -33,10 +18,10 @@ pub some-day-spec : {M : Type 1} → statement M
 some-day-spec =
     tie.close
     (tie.spec
-    cast-next
-    next-requires
-    cast-next-2
-    next-requires-2
-    month-with-date-requires
+    (λ c. search needs)
+    (λ c κs. search needs)
+    (λ c. search needs)
+    (λ c κs. search needs)
+    (λ c κs. search needs)
     returns
     returns-2)

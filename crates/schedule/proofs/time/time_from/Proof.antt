@@ -12,18 +12,6 @@ use Rattle.schedule.proofs.Search.{digits-here, digits-later, digits-no
 use Rattle.schedule.proofs.time.time_from.Statement.{statement}
 use Rattle.schedule.proofs.time.time_from.Tie as tie
 
-cast-hours : tie.Need-cast-hours
-cast-hours c = search needs
-
-next-requires : tie.Need-next-requires
-next-requires c κs = search needs
-
-has-requires : tie.Need-has-requires
-has-requires c κs = search needs
-
-mul-result : tie.Need-mul-result
-mul-result c = search needs
-
 minute-small : (c : tie.Then1) → c .before .before .next .result < 60
 minute-small c = ltb-true _ _ (and-true (c .before .has .result) _ (c .if1 .taken) .1)
 
@@ -36,15 +24,6 @@ returns c =
     let a = c .before .before .before .before .args in
     digits-here 60 (lit< tt) (hasBit (a .s .hours)) (hasBit (a .s .minutes)) 24 (a .t) (omega arith)
     (c .before .has .ensures) (c .before .before .next .ensures) (c .if1 .taken)
-
-add-next : tie.Need-add-next
-add-next c = search needs
-
-next-requires-2 : tie.Need-next-requires-2
-next-requires-2 c κs = search needs
-
-next-requires-3 : tie.Need-next-requires-3
-next-requires-3 c κs = search needs
 
 later-small : (c : tie.Then2) → (c .before .before .next2 .result < 24) × (c .before .next3 .result < 60)
 later-small c = let w = and-true _ _ (c .if2 .taken) in (ltb-true _ _ (w .0), ltb-true _ _ (w .1))
@@ -77,15 +56,15 @@ pub time-from-spec : {M : Type 1} → statement M
 time-from-spec =
     tie.close
     (tie.spec
-    cast-hours
-    next-requires
-    has-requires
-    mul-result
+    (λ c. search needs)
+    (λ c κs. search needs)
+    (λ c κs. search needs)
+    (λ c. search needs)
     add-result
     returns
-    add-next
-    next-requires-2
-    next-requires-3
+    (λ c. search needs)
+    (λ c κs. search needs)
+    (λ c κs. search needs)
     mul-result-2
     add-result-2
     returns-2

@@ -1,7 +1,7 @@
 -- Laws of lines: who waits, and that a line of n entries has at most n.
 -- Assumes nothing.
 use mathlib.Core.Path.{_≡_, refl, sym, ap, _∙_}
-use mathlib.Core.Bool.{Bool, true, false, not, cond, _&&_, _||_, true≢false, false≢true, and-eq-true-iff, and-false, or-true, or-false}
+use mathlib.Core.Bool.{Bool, true, false, not, cond, _&&_, _||_, false≢true, and-eq-true-iff, and-false, or-true, or-false}
 use mathlib.Mathlib.Data.Bool.Basic.{or-eq-false-eq-eq-false-and-eq-false}
 use mathlib.Core.List.{List, [], _∷_, _++_, append-assoc, append-nil}
 use Prim.Native.Nat.{ℕ, zero, suc, _+_, _≤_, _<_}
@@ -13,74 +13,74 @@ use native.Mathlib.Numerals.{add-one}
 use lib.ListN.{drop-of-length-le, length, getD, take, drop}
 use lib.Seq.{drop-cons, split-at, take-suc}
 use borrow.Author.Tests.{ltb-true, eqb-true, eqb-false, lt-ltb, le-ltb, eq-eqb, ne-eqb, not-true}
-use Rattle.fifo.specs.Line.{has, entriesOf, pick}
+use Rattle.fifo.specs.WaitingLine.{standsIn, entriesOf, pick}
 use Rattle.fifo.specs.Steps.{popped}
 
 -- ---- who waits
 
-pub has-append : (e : ℕ) (l k : List ℕ) → has e (l ++ k) ≡ (has e l || has e k)
-unfolding has
-has-append e [] k = refl
-has-append e (x ∷ l) k = go (eqb x e) (has-append e l k)
+pub stands-append : (e : ℕ) (l k : List ℕ) → standsIn e (l ++ k) ≡ (standsIn e l || standsIn e k)
+unfolding standsIn
+stands-append e [] k = refl
+stands-append e (x ∷ l) k = go (eqb x e) (stands-append e l k)
   where
-    go : (b : Bool) → has e (l ++ k) ≡ (has e l || has e k) → (b || has e (l ++ k)) ≡ (b || has e l || has e k)
+    go : (b : Bool) → standsIn e (l ++ k) ≡ (standsIn e l || standsIn e k) → (b || standsIn e (l ++ k)) ≡ (b || standsIn e l || standsIn e k)
     go true h = refl
     go false h = h
 
 -- a search from place i on: it finds e there, goes on, or is at the end
-pub has-here : (e : ℕ) (l : List ℕ) (i : ℕ) → i < length l → getD l i 0 ≡ e → has e (drop i l) ≡ true
-unfolding has
-has-here e l i h q = rw (drop-cons l i 0 h, eq-eqb _ _ q)
+pub stands-here : (e : ℕ) (l : List ℕ) (i : ℕ) → i < length l → getD l i 0 ≡ e → standsIn e (drop i l) ≡ true
+unfolding standsIn
+stands-here e l i h q = rw (drop-cons l i 0 h, eq-eqb _ _ q)
 
-pub has-next : (e : ℕ) (l : List ℕ) (i : ℕ) → i < length l → (getD l i 0 ≡ e → ⊥) → has e (drop (i + 1) l) ≡ has e (drop i l)
-unfolding has
-has-next e l i h q = rw (add-one i, drop-cons l i 0 h, ne-eqb _ _ q)
+pub stands-next : (e : ℕ) (l : List ℕ) (i : ℕ) → i < length l → (getD l i 0 ≡ e → ⊥) → standsIn e (drop (i + 1) l) ≡ standsIn e (drop i l)
+unfolding standsIn
+stands-next e l i h q = rw (add-one i, drop-cons l i 0 h, ne-eqb _ _ q)
 
-pub has-end : (e : ℕ) (l : List ℕ) (i : ℕ) → length l ≤ i → has e (drop i l) ≡ false
-unfolding has
-has-end e l i h = rw (drop-of-length-le l h)
+pub stands-end : (e : ℕ) (l : List ℕ) (i : ℕ) → length l ≤ i → standsIn e (drop i l) ≡ false
+unfolding standsIn
+stands-end e l i h = rw (drop-of-length-le l h)
 
 -- ---- lines of n entries
 
-pub entries-cons : (n x : ℕ) (l : List ℕ) → entriesOf n (x ∷ l) ≡ true → (x < n) × (has x l ≡ false) × (entriesOf n l ≡ true)
+pub entries-cons : (n x : ℕ) (l : List ℕ) → entriesOf n (x ∷ l) ≡ true → (x < n) × (standsIn x l ≡ false) × (entriesOf n l ≡ true)
 unfolding entriesOf
 entries-cons n x l e =
-    let both = and-eq-true-iff (ltb x n && not (has x l)) (entriesOf n l) .0 e in
-    let two = and-eq-true-iff (ltb x n) (not (has x l)) .0 (both .0) in
-    (ltb-true x n (two .0), not-true (has x l) (two .1), both .1)
+    let both = and-eq-true-iff (ltb x n && not (standsIn x l)) (entriesOf n l) .0 e in
+    let two = and-eq-true-iff (ltb x n) (not (standsIn x l)) .0 (both .0) in
+    (ltb-true x n (two .0), not-true (standsIn x l) (two .1), both .1)
 
-entries-more : (n x : ℕ) (l : List ℕ) → x < n → has x l ≡ false → entriesOf n l ≡ true → entriesOf n (x ∷ l) ≡ true
+entries-more : (n x : ℕ) (l : List ℕ) → x < n → standsIn x l ≡ false → entriesOf n l ≡ true → entriesOf n (x ∷ l) ≡ true
 unfolding entriesOf
 entries-more n x l h q e = rw (lt-ltb x n h, q, e)
 
 -- an entry that doesn't wait joins at the back
-pub entries-snoc : (n : ℕ) (l : List ℕ) (x : ℕ) → entriesOf n l ≡ true → x < n → has x l ≡ false → entriesOf n (l ++ x ∷ []) ≡ true
-unfolding has entriesOf
+pub entries-snoc : (n : ℕ) (l : List ℕ) (x : ℕ) → entriesOf n l ≡ true → x < n → standsIn x l ≡ false → entriesOf n (l ++ x ∷ []) ≡ true
+unfolding standsIn entriesOf
 entries-snoc n [] x e h q = entries-more n x [] h refl refl
 entries-snoc n (y ∷ l) x e h q =
     let c = entries-cons n y l e in
-    let o = or-eq-false-eq-eq-false-and-eq-false (eqb y x) (has x l) .0 q in
+    let o = or-eq-false-eq-eq-false-and-eq-false (eqb y x) (standsIn x l) .0 q in
     let d : eqb x y ≡ false = ne-eqb x y (λ r. eqb-false y x (o .0) (sym r)) in
-    let w : has y (l ++ x ∷ []) ≡ false = has-append y l (x ∷ []) ∙ rw (c .1, d) in
+    let w : standsIn y (l ++ x ∷ []) ≡ false = stands-append y l (x ∷ []) ∙ rw (c .1, d) in
     entries-more n y (l ++ x ∷ []) (c .0) w (entries-snoc n l x (c .2) h (o .1))
 
 -- a line with such an entry is none of n entries, whatever stands behind
 pub entries-over : (n : ℕ) (l : List ℕ) (x : ℕ) (k : List ℕ) → n ≤ x → entriesOf n (l ++ x ∷ k) ≡ false
 unfolding entriesOf
 entries-over n [] x k h = rw (le-ltb x n h)
-entries-over n (y ∷ l) x k h = rw (entries-over n l x k h) (and-false (ltb y n && not (has y (l ++ x ∷ k))))
+entries-over n (y ∷ l) x k h = rw (entries-over n l x k h) (and-false (ltb y n && not (standsIn y (l ++ x ∷ k))))
 
-pub entries-twice : (n : ℕ) (l : List ℕ) (x : ℕ) (k : List ℕ) → has x l ≡ true → entriesOf n (l ++ x ∷ k) ≡ false
-unfolding entriesOf has
+pub entries-twice : (n : ℕ) (l : List ℕ) (x : ℕ) (k : List ℕ) → standsIn x l ≡ true → entriesOf n (l ++ x ∷ k) ≡ false
+unfolding entriesOf standsIn
 entries-twice n [] x k q = absurd (false≢true q)
 entries-twice n (y ∷ l) x k q = go (eqb y x) refl q (λ r. entries-twice n l x k r)
   where
-    go : (b : Bool) → eqb y x ≡ b → (b || has x l) ≡ true → (has x l ≡ true → entriesOf n (l ++ x ∷ k) ≡ false)
-        → (ltb y n && not (has y (l ++ x ∷ k)) && entriesOf n (l ++ x ∷ k)) ≡ false
+    go : (b : Bool) → eqb y x ≡ b → (b || standsIn x l) ≡ true → (standsIn x l ≡ true → entriesOf n (l ++ x ∷ k) ≡ false)
+        → (ltb y n && not (standsIn y (l ++ x ∷ k)) && entriesOf n (l ++ x ∷ k)) ≡ false
     go true r t later =
-        let here : has y (l ++ x ∷ k) ≡ true = has-append y l (x ∷ k) ∙ rw (eq-eqb x y (sym (eqb-true y x r))) (or-true (has y l)) in
+        let here : standsIn y (l ++ x ∷ k) ≡ true = stands-append y l (x ∷ k) ∙ rw (eq-eqb x y (sym (eqb-true y x r))) (or-true (standsIn y l)) in
         rw (here, and-false (ltb y n))
-    go false r t later = rw (later t) (and-false (ltb y n && not (has y (l ++ x ∷ k))))
+    go false r t later = rw (later t) (and-false (ltb y n && not (standsIn y (l ++ x ∷ k))))
 
 -- the first of a line is out of it, and the others stay
 pub entries-popped : (n : ℕ) (l : List ℕ) → entriesOf n l ≡ true → entriesOf n (popped l) ≡ true
@@ -94,17 +94,17 @@ without : ℕ → List ℕ → List ℕ
 without n [] = []
 without n (x ∷ l) = let rest = without n l in cond (eqb x n) rest (x ∷ rest)
 
-without-none : (n : ℕ) (l : List ℕ) → has n l ≡ false → without n l ≡ l
-unfolding without has
+without-none : (n : ℕ) (l : List ℕ) → standsIn n l ≡ false → without n l ≡ l
+unfolding without standsIn
 without-none n [] q = refl
-without-none n (x ∷ l) q = let o = or-eq-false-eq-eq-false-and-eq-false (eqb x n) (has n l) .0 q in rw (o .0, without-none n l (o .1))
+without-none n (x ∷ l) q = let o = or-eq-false-eq-eq-false-and-eq-false (eqb x n) (standsIn n l) .0 q in rw (o .0, without-none n l (o .1))
 
-without-has : (n y : ℕ) (l : List ℕ) → has y l ≡ false → has y (without n l) ≡ false
-unfolding without has
-without-has n y [] q = refl
-without-has n y (x ∷ l) q = let o = or-eq-false-eq-eq-false-and-eq-false (eqb x y) (has y l) .0 q in go (eqb x n) (o .0) (without-has n y l (o .1))
+without-stands : (n y : ℕ) (l : List ℕ) → standsIn y l ≡ false → standsIn y (without n l) ≡ false
+unfolding without standsIn
+without-stands n y [] q = refl
+without-stands n y (x ∷ l) q = let o = or-eq-false-eq-eq-false-and-eq-false (eqb x y) (standsIn y l) .0 q in go (eqb x n) (o .0) (without-stands n y l (o .1))
   where
-    go : (b : Bool) → eqb x y ≡ false → has y (without n l) ≡ false → has y (cond b (without n l) (x ∷ without n l)) ≡ false
+    go : (b : Bool) → eqb x y ≡ false → standsIn y (without n l) ≡ false → standsIn y (cond b (without n l) (x ∷ without n l)) ≡ false
     go true o h = h
     go false o h = rw (o, h)
 
@@ -113,7 +113,7 @@ unfolding without entriesOf
 without-entries n [] e = (refl, omega arith)
 without-entries n (x ∷ l) e = go (eqb x n) refl (entries-cons (suc n) x l e) (without-entries n l (entries-cons (suc n) x l e .2))
   where
-    go : (b : Bool) → eqb x n ≡ b → (x < suc n) × (has x l ≡ false) × (entriesOf (suc n) l ≡ true)
+    go : (b : Bool) → eqb x n ≡ b → (x < suc n) × (standsIn x l ≡ false) × (entriesOf (suc n) l ≡ true)
         → (entriesOf n (without n l) ≡ true) × (length l ≤ suc (length (without n l)))
         → (entriesOf n (cond b (without n l) (x ∷ without n l)) ≡ true) × (length (x ∷ l) ≤ suc (length (cond b (without n l) (x ∷ without n l))))
     go true q c h =
@@ -122,7 +122,7 @@ without-entries n (x ∷ l) e = go (eqb x n) refl (entries-cons (suc n) x l e) (
         (h .0, omega (arith, ap length none))
     go false q c h =
         let less : x < n = omega (arith, c .0, eqb-false x n q) in
-        (entries-more n x (without n l) less (without-has n x l (c .1)) (h .0), omega (arith, h .1))
+        (entries-more n x (without n l) less (without-stands n x l (c .1)) (h .0), omega (arith, h .1))
 
 pub entries-length : (n : ℕ) (l : List ℕ) → entriesOf n l ≡ true → length l ≤ n
 entries-length zero [] e = omega arith
@@ -139,24 +139,24 @@ unfolding pick
 pick-same p q h zero = refl
 pick-same p q h (suc n) = rw (pick-same p q h n, h n)
 
-pub has-pick : (p : ℕ → Bool) (n e : ℕ) → has e (pick p n) ≡ (ltb e n && p e)
-unfolding has pick
-has-pick p zero e = rw (le-ltb e 0 (omega arith))
-has-pick p (suc n) e =
-    rw (has-append e (pick p n) (cond (p n) (n ∷ []) []), has-pick p n e)
+pub stands-pick : (p : ℕ → Bool) (n e : ℕ) → standsIn e (pick p n) ≡ (ltb e n && p e)
+unfolding standsIn pick
+stands-pick p zero e = rw (le-ltb e 0 (omega arith))
+stands-pick p (suc n) e =
+    rw (stands-append e (pick p n) (cond (p n) (n ∷ []) []), stands-pick p n e)
     (elim (ℕ-discrete n e) [ yes q ↦ same q | no q ↦ other (p n) q ])
   where
-    same : n ≡ e → (ltb e n && p e || has e (cond (p n) (n ∷ []) [])) ≡ (ltb e (suc n) && p e)
+    same : n ≡ e → (ltb e n && p e || standsIn e (cond (p n) (n ∷ []) [])) ≡ (ltb e (suc n) && p e)
     same q = rw (← q, le-ltb n n (omega arith), lt-ltb n (suc n) (omega arith)) (last (p n))
       where
-        last : (b : Bool) → has n (cond b (n ∷ []) []) ≡ b
+        last : (b : Bool) → standsIn n (cond b (n ∷ []) []) ≡ b
         last true = rw (eq-eqb n n refl)
         last false = refl
 
-    other : (b : Bool) → (n ≡ e → ⊥) → (ltb e n && p e || has e (cond b (n ∷ []) [])) ≡ (ltb e (suc n) && p e)
+    other : (b : Bool) → (n ≡ e → ⊥) → (ltb e n && p e || standsIn e (cond b (n ∷ []) [])) ≡ (ltb e (suc n) && p e)
     other b q = rw (none b) (elim (decLe n e) [ yes h ↦ above h | no h ↦ under (lt-of-not-le h) ])
       where
-        none : (b : Bool) → has e (cond b (n ∷ []) []) ≡ false
+        none : (b : Bool) → standsIn e (cond b (n ∷ []) []) ≡ false
         none true = rw (ne-eqb n e q)
         none false = refl
 
@@ -167,7 +167,7 @@ has-pick p (suc n) e =
         under h = rw (lt-ltb e n h, lt-ltb e (suc n) (omega arith)) (or-false (p e))
 
 -- the picked ones join a line in which none of them waits
-pub entries-pick : (n : ℕ) (l : List ℕ) (p : ℕ → Bool) → ((e : ℕ) → p e ≡ true → has e l ≡ false) → entriesOf n l ≡ true
+pub entries-pick : (n : ℕ) (l : List ℕ) (p : ℕ → Bool) → ((e : ℕ) → p e ≡ true → standsIn e l ≡ false) → entriesOf n l ≡ true
     → (k : ℕ) → k ≤ n → entriesOf n (l ++ pick p k) ≡ true
 unfolding pick
 entries-pick n l p new e zero h = rw append-nil e
@@ -175,7 +175,7 @@ entries-pick n l p new e (suc k) h = go (p k) refl (entries-pick n l p new e k (
   where
     go : (b : Bool) → p k ≡ b → entriesOf n (l ++ pick p k) ≡ true → entriesOf n (l ++ (pick p k ++ cond b (k ∷ []) [])) ≡ true
     go true q m =
-        let out : has k (l ++ pick p k) ≡ false = has-append k l (pick p k) ∙ rw (new k q, has-pick p k k, le-ltb k k (omega arith)) in
+        let out : standsIn k (l ++ pick p k) ≡ false = stands-append k l (pick p k) ∙ rw (new k q, stands-pick p k k, le-ltb k k (omega arith)) in
         rw (← append-assoc) (entries-snoc n (l ++ pick p k) k m (omega arith) out)
     go false q m = rw append-nil m
 
@@ -188,7 +188,7 @@ module _ (l : List ℕ) (i x : ℕ) (h : i < length l) (at : getD l i 0 ≡ x) w
   pub cut-over : (n : ℕ) → n ≤ x → entriesOf n l ≡ false
   cut-over n k = ap (entriesOf n) cut ∙ entries-over n (take i l) x (drop (suc i) l) k
 
-  pub cut-twice : (n : ℕ) → has x (take i l) ≡ true → entriesOf n l ≡ false
+  pub cut-twice : (n : ℕ) → standsIn x (take i l) ≡ true → entriesOf n l ≡ false
   cut-twice n k = ap (entriesOf n) cut ∙ entries-twice n (take i l) x (drop (suc i) l) k
 
   pub take-next : take (i + 1) l ≡ take i l ++ x ∷ []

@@ -7,14 +7,14 @@ use mathlib.Core.List.{List, [], _∷_, _++_}
 use lib.Dec.{ltb, eqb}
 
 -- whether entry e waits in the line
-unfoldable pub has : ℕ → List ℕ → Bool
-has e [] = false
-has e (x ∷ l) = eqb x e || has e l
+unfoldable pub standsIn : ℕ → List ℕ → Bool
+standsIn e [] = false
+standsIn e (x ∷ l) = eqb x e || standsIn e l
 
 -- a line of a table of n entries names only entries of the table, none twice
 unfoldable pub entriesOf : ℕ → List ℕ → Bool
 entriesOf n [] = true
-entriesOf n (e ∷ l) = ltb e n && not (has e l) && entriesOf n l
+entriesOf n (e ∷ l) = ltb e n && not (standsIn e l) && entriesOf n l
 
 -- the entries below n that pass a test, in file order
 unfoldable pub pick : (ℕ → Bool) → ℕ → List ℕ

@@ -1,0 +1,46 @@
+-- What the theorems of `fifo` ask of jobs holds of a table's: an entry that can fire has a match soon, by the schedule's gap, and the entries
+-- are few.
+-- Assumes nothing.
+use mathlib.Core.Path.{_≡_, refl}
+use mathlib.Core.Bool.{true, false, true≢false}
+use mathlib.Core.List.{List}
+use Prim.Native.Nat.{ℕ, _+_, _≤_, _<_}
+use native.Mathlib.Omega.{arith}
+use borrow.Author.Tests.{lt-ltb}
+use Rattle.calendar.specs.Dates.{lastMinute, cycleMinutes}
+use Rattle.schedule.specs.declared.Schedule.{Schedule}
+use Rattle.schedule.specs.Match.{matches}
+use Rattle.schedule.specs.Next.{canFire}
+use Rattle.schedule.specs.Gap.{gap}
+use Rattle.schedule.proofs.Search.{from-some}
+use Rattle.schedule.proofs.Gap.{fires-within}
+use Rattle.crontab.specs.declared.When.{When}
+use Rattle.crontab.specs.declared.When.the-variants.{Reboot, Timed}
+use Rattle.crontab.specs.Tables.{tableOf}
+use Rattle.crontab.specs.Answers.{firesAt}
+use Rattle.crontab.proofs.Theorems.{table-sound}
+use Rattle.fifo.specs.Layout.{limit}
+use Rattle.fifo.specs.Fairness.{Soon, bound}
+use Rattle.runqueue.specs.Jobs.{isBoot, whenOf, jobsOf}
+use Rattle.runqueue.specs.Demand.{jobsIn, CanFire}
+
+fires : (s : Schedule) (m : ℕ) → m < cycleMinutes → matches s m ≡ true → canFire s ≡ true
+unfolding canFire
+fires s m h t = lt-ltb _ _ (from-some (matches s) cycleMinutes 0 m (omega arith) h t)
+
+-- an entry that can fire has a match soon
+pub soon : (table : List ℕ) (e t : ℕ) → CanFire table e → t + bound (jobsIn table) gap ≤ lastMinute → Soon (jobsIn table) gap e t
+unfolding Soon jobsOf isBoot firesAt whenOf
+soon table e t f h = go (whenOf (tableOf table) e) refl (f .timed) (f .matched)
+  where
+    go : (w : When) → whenOf (tableOf table) e ≡ w → isBoot w ≡ false → firesAt w (f .minute) ≡ true
+        → (m : ℕ) × (t < m) × (m ≤ t + gap) × (firesAt (whenOf (tableOf table) e) m ≡ true)
+    go Reboot p b m = absurd (true≢false b)
+    go (Timed s) p b m =
+        let (n, u, v, x) = fires-within s (fires s (f .minute) (f .cycle) m) t (omega (arith, f .entry)) in
+        (n, u, v, rw p x)
+
+-- and they are few
+pub few : (table : List ℕ) → jobsIn table .count < limit
+unfolding jobsOf
+few table = omega (arith, table-sound table .few)
