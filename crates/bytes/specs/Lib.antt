@@ -1,4 +1,5 @@
 pub mod Texts
+pub mod Rows
 pub mod Classes
 pub mod Runs
 pub mod Laid

@@ -8,7 +8,8 @@ use native.Mathlib.Omega.{arith}
 use lib.ListN.{getD}
 use borrow.Author.Tests.{le-leb, lt-leb}
 use Rattle.calendar.specs.Gregorian.{yearDays, monthDays}
-use Rattle.calendar.specs.Dates.{calendarDays, lastMinute, notOnCalendar, weekdayOf, yearOf, monthOf}
+use Rattle.calendar.specs.Refusals.{notOnCalendar}
+use Rattle.calendar.specs.Dates.{calendarDays, lastMinute, weekdayOf, yearOf, monthOf}
 use Rattle.calendar.specs.Dates.{dateAt, noDate, dateOf, daysBefore, minuteAt}
 use Rattle.calendar.specs.Order.{parts, Earlier}
 use Rattle.calendar.proofs.Spans.{Falls, falls-walk, falls-order}

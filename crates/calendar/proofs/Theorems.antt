@@ -1,4 +1,10 @@
 -- What holds of the calendar's definitions. Each theorem is stated by itself; the functions' contracts don't cite them.
+--   minute-date-minute, date-minute-date: from a minute to its date and back, and from a date to its minute and back
+--   has-minute, accepted: which dates have a minute, and are accepted
+--   later-dates: later minutes have later dates
+--   weekday-next, weekday-week: weekdays follow one another
+--   cycle: after 400 years all is the same but the year
+--   direct-is-walk: the date worked out directly is the one that the walk comes to
 -- Assumes nothing.
 use mathlib.Core.Path.{_≡_, refl, subst}
 use mathlib.Core.Bool.{Bool, true, false, cond, _&&_}
@@ -12,11 +18,14 @@ use lib.Dec.{leb}
 use lib.ListN.{getD}
 use borrow.Author.Tests.{le-leb}
 use Rattle.calendar.specs.declared.MinuteAnswer.{MinuteAnswer}
+use Rattle.calendar.specs.Refusals.{notOnCalendar}
 use Rattle.calendar.specs.Dates.{firstYear, lastYear, lastMinute, cycleMinutes, weekdayOf, yearOf, monthOf, dateAt, exists, minuteAt, minuteOf}
 use Rattle.calendar.specs.Order.{parts, Earlier}
 use Rattle.calendar.proofs.Years.{years-shift, months-shift}
 use Rattle.calendar.proofs.Minutes.{dateAt-on, minuteAt-dateAt, minuteAt-on, parts-minuteAt, later-day, weekday-cycle}
 use Rattle.calendar.proofs.Dates.{OnCalendar, on-calendar, exists-on, calendar-on, year-falls}
+unfoldable pub use Rattle.calendar.proofs.DirectDates.{directAt}
+pub use Rattle.calendar.proofs.DirectDates.{direct-is-walk}
 
 -- ---- from a minute to its date and back
 
@@ -36,7 +45,7 @@ unfolding minuteOf
 date-minute-date year month day hour minute = go (exists year month day hour minute && leb 1970 year && leb year 9999) refl
   where
     go : (b : Bool) → (exists year month day hour minute && leb 1970 year && leb year 9999) ≡ b
-        → let a : MinuteAnswer = cond b (record { refusal = 0; minute = minuteAt year month day hour minute }) (record { refusal = 14; minute = 0 }) in
+        → let a : MinuteAnswer = cond b (record { refusal = 0; minute = minuteAt year month day hour minute }) (record { refusal = notOnCalendar; minute = 0 }) in
         a .refusal ≡ 0 → (a .minute ≤ lastMinute) × (parts (dateAt (a .minute)) ≡ year ∷ month ∷ day ∷ hour ∷ minute ∷ [])
     go true e z = (minuteAt-on (on-calendar e), parts-minuteAt (on-calendar e))
     go false e z = absurd (omega arith)

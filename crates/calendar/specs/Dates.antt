@@ -8,6 +8,7 @@ use Rattle.calendar.specs.declared.walk.Place.{Place}
 use Rattle.calendar.specs.declared.Date.{Date}
 use Rattle.calendar.specs.declared.DateAnswer.{DateAnswer}
 use Rattle.calendar.specs.declared.MinuteAnswer.{MinuteAnswer}
+use Rattle.calendar.specs.Refusals.{notOnCalendar}
 use Rattle.calendar.specs.Gregorian.{yearDays, monthDays}
 use Rattle.calendar.specs.Walk.{span, walk}
 
@@ -27,10 +28,6 @@ calendarDays = 2932897
 -- after the cycle of 400 years the calendar comes again, with other years: 146,097 days
 abbrev pub cycleMinutes : ℕ
 cycleMinutes = 210379680
-
--- what comes back for a minute or a date that isn't on the calendar
-abbrev pub notOnCalendar : ℕ
-notOnCalendar = 14
 
 -- ---- from a minute to its date
 

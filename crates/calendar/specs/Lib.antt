@@ -1,5 +1,7 @@
 pub mod Gregorian
 pub mod Walk
+pub mod Refusals
 pub mod Dates
 pub mod Order
+pub mod Computing
 pub mod Examples

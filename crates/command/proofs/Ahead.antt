@@ -13,7 +13,7 @@ use borrow.Author.Tests.{eqb-true, eqb-false}
 use Rattle.command.specs.declared.Piece.the-variants.{Byte, Percent}
 use Rattle.command.specs.Pieces.{percent, backslash, pieces}
 use Rattle.command.specs.Steps.{ahead}
-use Rattle.command.proofs.Sentences.{escaped, kept, ends, unescaped, plain}
+use Rattle.command.proofs.Theorems.{escaped, kept, ends, unescaped, plain}
 
 -- past the end nothing lies ahead
 pub ahead-end : (second : Bool) (c : List ℕ) (i : ℕ) → length c ≤ i → ahead second (drop i c) ≡ []

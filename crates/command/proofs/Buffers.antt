@@ -16,7 +16,7 @@ use Rattle.command.specs.declared.Shell.the-variants.{Whole, Cut}
 use Rattle.command.specs.declared.SplitAnswer.the-variants.{Written, Refused}
 use Rattle.command.specs.Pieces.{pieces, bytesOf}
 use Rattle.command.specs.Parts.{shellLine, inputOf, textOf, inputLength, lengthsOf}
-use Rattle.command.specs.Answers.{tooShort}
+use Rattle.command.specs.Refusals.{tooShort}
 use Rattle.bytes.specs.Laid.{laid}
 use Rattle.command.specs.Buffers.{haveRoom, Split, splitStep}
 use Rattle.command.specs.Steps.{ShellIs}

@@ -1,4 +1,4 @@
-pub mod Sentences
+pub mod Theorems
 pub mod Ahead
 pub mod Sizes
 pub mod Filling

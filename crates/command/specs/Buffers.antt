@@ -10,7 +10,7 @@ use Rattle.bytes.specs.Laid.{laid}
 use Rattle.command.specs.declared.SplitAnswer.{SplitAnswer}
 use Rattle.command.specs.declared.SplitAnswer.the-variants.{Written, Refused}
 use Rattle.command.specs.Parts.{shellLine, inputOf, textOf, inputLength}
-use Rattle.command.specs.Answers.{tooShort}
+use Rattle.command.specs.Refusals.{tooShort}
 
 -- whether both texts have room; "no input" needs none
 unfoldable pub haveRoom : List ℕ → List ℕ → List ℕ → Bool

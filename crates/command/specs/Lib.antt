@@ -1,6 +1,7 @@
 pub mod Pieces
 pub mod Parts
-pub mod Answers
+pub mod Refusals
 pub mod Buffers
 pub mod Steps
+pub mod Computing
 pub mod Examples

@@ -5,11 +5,9 @@ use Prim.Native.Nat.{ℕ}
 use mathlib.Core.Bool.{Bool, true, false, cond}
 use mathlib.Core.List.{List, [], _∷_, _++_}
 use lib.Dec.{eqb}
+use Rattle.bytes.specs.Classes.{newline}
 use Rattle.command.specs.declared.Piece.{Piece}
 use Rattle.command.specs.declared.Piece.the-variants.{Byte, Percent}
-
-abbrev pub newline : ℕ
-newline = 10
 
 -- `%`
 abbrev pub percent : ℕ

@@ -1,45 +1,29 @@
--- The gap for tables: a next firing that is told is at most 21,036,960 minutes ahead.
+-- Laws of an entry at a minute of the calendar.
 -- Assumes nothing.
-use mathlib.Core.Path.{_≡_}
-use mathlib.Core.List.{List}
-use Prim.Native.Nat.{ℕ, _+_, _≤_}
-use native.Mathlib.Omega.{arith}
-use mathlib.Core.Bool.{Bool, true, false, cond}
-use lib.Dec.{leb}
-use Rattle.calendar.specs.Dates.{lastMinute}
-use Rattle.schedule.specs.declared.Next.{Next}
-use Rattle.schedule.specs.declared.Next.the-variants as next
-use Rattle.schedule.specs.Next.{nextAfter}
-use Rattle.schedule.specs.Gap.{gap}
-use Rattle.schedule.proofs.Gap.{next-within}
-use Rattle.crontab.specs.declared.When.{When}
-use Rattle.crontab.specs.declared.When.the-variants.{Reboot, Timed}
-use Rattle.crontab.specs.declared.EntryAnswer.{EntryAnswer}
-use Rattle.crontab.specs.declared.EntryAnswer.the-variants as entry
-use Rattle.crontab.specs.declared.NextAnswer.the-variants as firing
-use Rattle.crontab.specs.Answers.{entryOf, nextFound, nextAt, nextIn, nextOf}
+use mathlib.Core.Path.{_≡_, refl}
+use mathlib.Core.Bool.{false, cond}
+use Prim.Native.Nat.{ℕ, _≤_}
+use borrow.Author.Tests.{le-leb}
+use Rattle.calendar.specs.Dates.{lastMinute, dateAt, dateOf}
+use Rattle.schedule.specs.Match.{matchesDate, matches}
+use Rattle.crontab.specs.declared.time.When.{When}
+use Rattle.crontab.specs.declared.time.When.the-variants.{Reboot, Timed}
+use Rattle.crontab.specs.declared.entry.Entry.{Entry}
+use Rattle.crontab.specs.declared.firing.DueAnswer.the-variants.{Yes, No}
+use Rattle.crontab.specs.Firings.{byWhen, firesOn, firesAt, dueOf}
 
--- only a firing that is found is told as one
-found : (x : Next) (n : ℕ) → nextFound x ≡ firing.At n → x ≡ next.At n
-unfolding nextFound
-found (next.At m) n e = cc
-found next.Never n e = absurd (let z : _≡_ {A = ℕ} 0 1 = cc in omega arith)
-found next.PastEnd n e = absurd (let z : _≡_ {A = ℕ} 0 1 = cc in omega arith)
-found next.NotOnCalendar n e = absurd (let z : _≡_ {A = ℕ} 0 1 = cc in omega arith)
-
-at-within : (when : When) (m n : ℕ) → nextAt when m ≡ firing.At n → n ≤ m + gap
-unfolding nextAt
-at-within Reboot m n e = go (leb m lastMinute) e
+pub fires-date : (e : Entry) (m : ℕ) → firesAt e m ≡ firesOn e (dateAt m)
+unfolding firesAt firesOn matches
+fires-date e m = go (e .when)
   where
-    go : (t : Bool) → cond t (firing.Refused 15) (firing.Refused 14) ≡ firing.At n → n ≤ m + gap
-    go true e = absurd (let z : _≡_ {A = ℕ} 0 1 = cc in omega arith)
-    go false e = absurd (let z : _≡_ {A = ℕ} 0 1 = cc in omega arith)
-at-within (Timed times) m n e = next-within times m n (found (nextAfter times m) n e)
+    go : (when : When) → byWhen when false (λ s. matches s m) ≡ byWhen when false (λ s. matchesDate s (dateAt m))
+    go Reboot = refl
+    go (Timed times) = refl
 
-pub next-in-gap : (s : List ℕ) (i m n : ℕ) → nextOf s i m ≡ firing.At n → n ≤ m + gap
-unfolding nextOf nextIn
-next-in-gap s i m n e = go (entryOf s i) e
-  where
-    go : (x : EntryAnswer) → nextIn x m ≡ firing.At n → n ≤ m + gap
-    go (entry.Found f) e = at-within (f .when) m n e
-    go (entry.Refused number) e = absurd (let z : _≡_ {A = ℕ} 0 1 = cc in omega arith)
+pub on-calendar : (m : ℕ) → m ≤ lastMinute → dateOf m .date ≡ dateAt m
+unfolding dateOf
+on-calendar m h = rw (le-leb m lastMinute h)
+
+pub due-on : (e : Entry) (m : ℕ) → m ≤ lastMinute → dueOf e m ≡ cond (firesOn e (dateOf m .date)) Yes No
+unfolding dueOf
+due-on e m h = rw (le-leb m lastMinute h, on-calendar m h, fires-date e m)

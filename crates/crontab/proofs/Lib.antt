@@ -2,8 +2,9 @@ pub mod Words
 pub mod Times
 pub mod Proper
 pub mod Lines
+pub mod Items
+pub mod Sound
 pub mod Tables
-pub mod Settings
-pub mod Minutes
-pub mod Theorems
+pub mod Walks
 pub mod Firings
+pub mod Theorems

@@ -9,42 +9,35 @@ use native.Mathlib.Omega.{arith}
 use lib.ListN.{length, drop, getD, length-drop}
 use lib.Dec.{eqb, leb, ltb}
 use borrow.Author.Tests.{ltb-true, ltb-false, eqb-true}
+use Rattle.bytes.specs.declared.class.Class.the-variants.{Blank, Solid, Name, Not}
+use Rattle.bytes.specs.Classes.{isQuote}
+use Rattle.bytes.specs.Runs.{skipped, trimmed, between}
+use Rattle.bytes.proofs.Runs.{skipped-from, skipped-within, byte-within, trimmed-le}
 use Rattle.field.specs.declared.Limits.{Limits}
 use Rattle.field.specs.declared.Answer.{Answer}
 use Rattle.field.specs.declared.Answer.the-variants as answer
-use Rattle.field.specs.Limits.{minuteLimits, hourLimits, dayLimits, monthLimits, weekdayLimits}
 use Rattle.field.specs.Fields.{readField}
-use Rattle.crontab.specs.declared.When.{When}
-use Rattle.crontab.specs.declared.When.the-variants.{Timed}
-use Rattle.bytes.specs.declared.class.Class.the-variants.{Blank, Solid, Name, Not}
-use Rattle.crontab.specs.declared.Entry.{Entry}
+use Rattle.field.proofs.Refusals.{FieldNumber, field-number}
+use Rattle.crontab.specs.declared.time.When.{When}
 use Rattle.crontab.specs.declared.Part.{Part}
 use Rattle.crontab.specs.declared.word.Word.{Word}
 use Rattle.crontab.specs.declared.word.Word.the-variants.{Known, Unknown}
 use Rattle.crontab.specs.declared.time.Values.{Values}
 use Rattle.crontab.specs.declared.time.Field.{Field}
-use Rattle.crontab.specs.declared.time.Field.the-variants.{Read, Refused}
+use Rattle.crontab.specs.declared.time.Field.the-variants as field
+use Rattle.crontab.specs.declared.time.Time.{Time}
+use Rattle.crontab.specs.declared.time.Time.the-variants as time
 use Rattle.crontab.specs.declared.assignment.Text.{Text}
 use Rattle.crontab.specs.declared.assignment.Text.the-variants.{Found, Malformed}
-use Rattle.crontab.specs.declared.line.Fault.{Fault}
 use Rattle.crontab.specs.declared.line.Line.{Line}
 use Rattle.crontab.specs.declared.line.Line.the-variants as line
 use Rattle.crontab.specs.Limits.{maxLine}
-use Rattle.bytes.specs.Classes.{isQuote}
-use Rattle.bytes.specs.Runs.{skipped, trimmed, between}
-use Rattle.crontab.specs.Words.{wordOf}
-use Rattle.crontab.specs.Entries.{withCommand, afterWord, wordEntry}
-use Rattle.crontab.specs.Times.{answered, fieldAt, afterMinute, afterHour, afterDay, afterMonth, afterWeekday, timedEntry}
-use Rattle.crontab.specs.Assignments.{quotedAt, nonEmpty, nameAt, closed, valueAt, afterEquals, afterName, settingLine}
-use Rattle.crontab.specs.Lines.{startsFields, contentFrom, contentOf, readLine}
-use Rattle.bytes.proofs.Runs.{skipped-from, skipped-within, byte-within, trimmed-le}
-use Rattle.field.proofs.Refusals.{FieldNumber, field-number}
+use Rattle.crontab.specs.Times.{answered, fieldAt, after, fieldsAt}
+use Rattle.crontab.specs.Words.{wordOf, afterWord, wordAt}
+use Rattle.crontab.specs.Entries.{timeAt, withCommand, afterTime, entryAt}
+use Rattle.crontab.specs.Assignments.{quotedAt, nonEmpty, nameAt, closed, valueAt, afterEquals, afterName, settingAt}
+use Rattle.crontab.specs.Lines.{startsEntry, contentFrom, contentOf, readLine}
 use Rattle.crontab.proofs.Times.{fieldBytes}
-
--- an entry of n bytes
-pub record Sound (n : ℕ) (e : Entry) : Type 0 where
-  pub some : e .start < e .end
-  pub within : e .end ≤ n
 
 -- a part of n bytes
 pub record Inside (n : ℕ) (p : Part) : Type 0 where
@@ -60,14 +53,18 @@ pub record Numbered (n : ℕ) : Type 0 where
 abbrev pub Proper : ℕ → Line → Type 0
 Proper n line.Ignored = Unit {0}
 Proper n (line.Setting name value) = (n ≤ maxLine) × (Inside n name) × (Inside n value)
-Proper n (line.Entry e) = (n ≤ maxLine) × (Sound n e)
+Proper n (line.Entry when start) = (n ≤ maxLine) × (start < n)
 Proper n (line.Refused fault) = Numbered (fault .number)
 
--- ---- the fields
+-- ---- its time
 
 abbrev FieldFault : Field → Type 0
-FieldFault (Read v) = Unit {0}
-FieldFault (Refused fault) = Numbered (fault .number)
+FieldFault (field.Read v) = Unit {0}
+FieldFault (field.Refused fault) = Numbered (fault .number)
+
+abbrev TimeFault : Time → Type 0
+TimeFault (time.Read when next) = Unit {0}
+TimeFault (time.Refused fault) = Numbered (fault .number)
 
 answered-fault : (a : Answer) (next : ℕ) → FieldNumber a → FieldFault (answered a next)
 unfolding answered
@@ -79,13 +76,39 @@ unfolding fieldAt
 field-fault l s at = go (leb (length s) at)
   where
     go : (t : Bool)
-        → FieldFault (cond t (Refused (record { number = 4; column = length s + 1 })) (answered (readField l (at + 1) (fieldBytes s at)) (skipped Blank s (skipped Solid s at))))
+        → FieldFault (cond t (field.Refused (record { number = 4; column = length s + 1 })) (answered (readField l (at + 1) (fieldBytes s at)) (skipped Blank s (skipped Solid s at))))
     go true = record { from = omega arith; to = omega arith }
     go false = answered-fault _ _ (field-number l (at + 1) (fieldBytes s at))
 
-refused-number : {f : Field} {fault : Fault} → FieldFault f → f ≡ Refused fault → Numbered (fault .number)
-refused-number {f = Read v} h e = absurd (let z : _≡_ {A = ℕ} 0 1 = cc in omega arith)
-refused-number {f = Refused g} {fault} h e = let p : fault ≡ g = cc in rw p h
+after-fault : (f : Field) (later : Values → Time) → FieldFault f → ((v : Values) → TimeFault (later v)) → TimeFault (after f later)
+unfolding after
+after-fault (field.Read v) later h k = k v
+after-fault (field.Refused fault) later h k = h
+
+fields-fault : (s : List ℕ) (at : ℕ) → TimeFault (fieldsAt s at)
+unfolding fieldsAt
+fields-fault s at =
+    after-fault _ _ (field-fault _ s at)
+    (λ minute. after-fault _ _ (field-fault _ s (minute .next))
+    (λ hour. after-fault _ _ (field-fault _ s (hour .next))
+    (λ day. after-fault _ _ (field-fault _ s (day .next))
+    (λ month. after-fault _ _ (field-fault _ s (month .next)) (λ weekday. tt)))))
+
+word-fault : (s : List ℕ) (at : ℕ) → TimeFault (wordAt s at)
+unfolding wordAt afterWord
+word-fault s at = go (wordOf (between s at (skipped Solid s at)))
+  where
+    go : (w : Word) → TimeFault (afterWord at (skipped Blank s (skipped Solid s at)) w)
+    go Unknown = record { from = omega arith; to = omega arith }
+    go (Known when) = tt
+
+time-fault : (s : List ℕ) (at first : ℕ) → TimeFault (timeAt s at first)
+unfolding timeAt
+time-fault s at first = go (eqb first 64)
+  where
+    go : (t : Bool) → TimeFault (cond t (wordAt s at) (fieldsAt s at))
+    go true = word-fault s at
+    go false = fields-fault s at
 
 -- ---- a line that is short enough
 
@@ -95,43 +118,14 @@ module _ (s : List ℕ) (short : length s ≤ maxLine) where
   command-proper when start = go (ltb start (length s)) refl
     where
       go : (t : Bool) → ltb start (length s) ≡ t
-          → Proper (length s) (cond t (line.Entry (record { when = when; start = start; end = length s })) (line.Refused (record { number = 9; column = length s + 1 })))
-      go true p = (short, record { some = ltb-true _ _ p; within = omega arith })
+          → Proper (length s) (cond t (line.Entry when start) (line.Refused (record { number = 9; column = length s + 1 })))
+      go true p = (short, ltb-true _ _ p)
       go false p = record { from = omega arith; to = omega arith }
 
-  word-proper : (at : ℕ) → Proper (length s) (wordEntry s at)
-  unfolding wordEntry afterWord wordOf
-  word-proper at = go (wordOf (between s at (skipped Solid s at)))
-    where
-      go : (w : Word) → Proper (length s) (afterWord s at (skipped Blank s (skipped Solid s at)) w)
-      go Unknown = record { from = omega arith; to = omega arith }
-      go (Known when) = command-proper when _
-
-  weekday-proper : (at : ℕ) (minute hour day month : Values) (f : Field) → fieldAt weekdayLimits s at ≡ f
-      → Proper (length s) (afterWeekday s minute hour day month f)
-  unfolding afterWeekday
-  weekday-proper at minute hour day month (Refused fault) p = refused-number (field-fault weekdayLimits s at) p
-  weekday-proper at minute hour day month (Read weekday) p = command-proper (Timed _) (weekday .next)
-
-  month-proper : (at : ℕ) (minute hour day : Values) (f : Field) → fieldAt monthLimits s at ≡ f → Proper (length s) (afterMonth s minute hour day f)
-  unfolding afterMonth
-  month-proper at minute hour day (Refused fault) p = refused-number (field-fault monthLimits s at) p
-  month-proper at minute hour day (Read month) p = weekday-proper (month .next) minute hour day month _ refl
-
-  day-proper : (at : ℕ) (minute hour : Values) (f : Field) → fieldAt dayLimits s at ≡ f → Proper (length s) (afterDay s minute hour f)
-  unfolding afterDay
-  day-proper at minute hour (Refused fault) p = refused-number (field-fault dayLimits s at) p
-  day-proper at minute hour (Read day) p = month-proper (day .next) minute hour day _ refl
-
-  hour-proper : (at : ℕ) (minute : Values) (f : Field) → fieldAt hourLimits s at ≡ f → Proper (length s) (afterHour s minute f)
-  unfolding afterHour
-  hour-proper at minute (Refused fault) p = refused-number (field-fault hourLimits s at) p
-  hour-proper at minute (Read hour) p = day-proper (hour .next) minute hour _ refl
-
-  minute-proper : (at : ℕ) (f : Field) → fieldAt minuteLimits s at ≡ f → Proper (length s) (afterMinute s f)
-  unfolding afterMinute
-  minute-proper at (Refused fault) p = refused-number (field-fault minuteLimits s at) p
-  minute-proper at (Read minute) p = hour-proper (minute .next) minute _ refl
+  time-proper : (t : Time) → TimeFault t → Proper (length s) (afterTime s t)
+  unfolding afterTime
+  time-proper (time.Read when next) h = command-proper when next
+  time-proper (time.Refused fault) h = h
 
   -- ---- a setting
 
@@ -210,14 +204,13 @@ module _ (s : List ℕ) (short : length s ≤ maxLine) where
   -- ---- by the first byte that isn't blank
 
   first-proper : (at first : ℕ) → at ≤ length s → Proper (length s) (contentFrom s at first)
-  unfolding contentFrom timedEntry settingLine
-  first-proper at first h = go (eqb first 35) (eqb first 64) (startsFields first)
+  unfolding contentFrom entryAt settingAt
+  first-proper at first h = go (eqb first 35) (startsEntry first)
     where
-      go : (a b c : Bool) → Proper (length s) (cond a line.Ignored (cond b (wordEntry s at) (cond c (timedEntry s at) (settingLine s at))))
-      go true b c = tt
-      go false true c = word-proper at
-      go false false true = minute-proper at _ refl
-      go false false false = name-proper at _ (name-inside at h)
+      go : (a b : Bool) → Proper (length s) (cond a line.Ignored (cond b (entryAt s at first) (settingAt s at)))
+      go true b = tt
+      go false true = time-proper _ (time-fault s at first)
+      go false false = name-proper at _ (name-inside at h)
 
   content-proper : Proper (length s) (contentOf s)
   unfolding contentOf
@@ -239,12 +232,9 @@ line-proper s = go (ltb maxLine (length s)) (ltb (skipped (Not 0) s 0) (length s
     go false true p = record { from = omega arith; to = omega arith }
     go false false p = content-proper s (ltb-false _ _ p)
 
-pub entry-proper : (s : List ℕ) {e : Entry} → readLine s ≡ line.Entry e → (length s ≤ maxLine) × (Sound (length s) e)
-entry-proper s p = rw p at (line-proper s)
-
 pub setting-proper : (s : List ℕ) {name value : Part} → readLine s ≡ line.Setting name value
     → (length s ≤ maxLine) × (Inside (length s) name) × (Inside (length s) value)
 setting-proper s p = rw p at (line-proper s)
 
-pub refused-proper : (s : List ℕ) {fault : Fault} → readLine s ≡ line.Refused fault → Numbered (fault .number)
-refused-proper s p = rw p at (line-proper s)
+pub entry-proper : (s : List ℕ) {when : When} {start : ℕ} → readLine s ≡ line.Entry when start → (length s ≤ maxLine) × (start < length s)
+entry-proper s p = rw p at (line-proper s)

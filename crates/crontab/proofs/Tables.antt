@@ -1,63 +1,93 @@
--- Laws of a table, line by line: what is left to read always gives the same answer.
+-- Laws of a table by its items: an entry is found in one walk, with no other kept.
 -- Assumes nothing.
-use mathlib.Core.Path.{_≡_, _∙_}
+use mathlib.Core.Path.{_≡_, refl, sym, _∙_}
+use mathlib.Core.Bool.{Bool, true, false, cond}
 use mathlib.Core.List.{List}
-use Prim.Native.Nat.{ℕ, _+_, _-_, _≤_, _<_}
-use lib.ListN.{length, take, drop, drop-of-length-le}
-use borrow.Author.Tests.{lt-ltb, le-ltb}
-use Rattle.crontab.specs.declared.Part.{Part}
-use Rattle.crontab.specs.declared.Entry.{Entry}
-use Rattle.crontab.specs.declared.Table.{Table}
-use Rattle.crontab.specs.declared.line.Fault.{Fault}
-use Rattle.crontab.specs.declared.line.Line.the-variants.{Ignored, Setting, Refused}
-use Rattle.crontab.specs.declared.line.Line.the-variants as line
-use Rattle.crontab.specs.Limits.{maxTable, maxEntries}
-use Rattle.crontab.specs.Lines.{linesOf, readLine}
-use Rattle.crontab.specs.Tables.{refusedTable, emptyTable, placed, withEntry, afterLine, withLines, tableOf}
-use Rattle.crontab.proofs.Lines.{lineEnd, lines-first, next-start}
-
--- ---- the table from a place on
+use Prim.Native.Nat.{ℕ, _+_, _≤_, _<_}
+use native.Mathlib.Nat.{lt-of-not-le}
+use native.Mathlib.Decide.{decLe}
+use native.Mathlib.Omega.{arith}
+use lib.ListN.{length, getD, set, length-set}
+use lib.Seq.{getD-set-same, getD-set-other}
+use lib.Dec.{eqb, ltb}
+use borrow.Author.Tests.{lt-ltb, le-ltb, ne-eqb, eqb-true, eqb-false}
+use Rattle.crontab.specs.declared.entry.Entry.{Entry}
+use Rattle.crontab.specs.declared.table.Table.{Table}
+use Rattle.crontab.specs.declared.table.Verdict.{Verdict}
+use Rattle.crontab.specs.declared.table.EntryAnswer.{EntryAnswer}
+use Rattle.crontab.specs.declared.table.EntryAnswer.the-variants.{Found, Refused}
+use Rattle.crontab.specs.Limits.{maxEntries}
+use Rattle.crontab.specs.Items.{Items, done, fault, setting, entry, itemsOf}
+use Rattle.crontab.specs.Tables.{blankEntry, noEntries, refusedTable, emptyTable, withEntry, withItems, tableOf, verdictOf, entryIn}
+use Rattle.crontab.proofs.Sound.{SoundItems, items-sound}
 
 -- a table so far
 abbrev pub good : ℕ → List Entry → Table
 good count entries = record { refusal = 0; line = 0; column = 0; count = count; entries = entries }
 
-pub reading : List ℕ → Table → ℕ → ℕ → Table
-reading s t at n = withLines t at n (linesOf (drop at s))
+-- entry i, or what was found so far, behind k entries
+unfoldable pub entryFrom : EntryAnswer → ℕ → ℕ → Items → EntryAnswer
+entryFrom so-far k i done = so-far
+entryFrom so-far k i (fault number line column) = Refused number
+entryFrom so-far k i (setting line name value later) = entryFrom so-far k i later
+entryFrom so-far k i (entry e later) = entryFrom (cond (eqb k i) (Found e) so-far) (k + 1) i later
 
-pub reading-end : (s : List ℕ) (t : Table) (at n : ℕ) → length s ≤ at → reading s t at n ≡ t
-unfolding reading withLines linesOf
-reading-end s t at n h = rw (drop-of-length-le s h)
+-- the verdict behind k entries
+unfoldable pub verdictFrom : ℕ → Items → Verdict
+verdictFrom k done = record { refusal = 0; line = 0; column = 0; count = k }
+verdictFrom k (fault number line column) = record { refusal = number; line = line; column = column; count = 0 }
+verdictFrom k (setting line name value later) = verdictFrom k later
+verdictFrom k (entry e later) = verdictFrom (k + 1) later
 
-module _ (s : List ℕ) (t : Table) (at n end : ℕ) (inside : at < length s) (found : end ≡ lineEnd s at) where
-  abbrev bytes : List ℕ
-  bytes = take (end - at) (drop at s)
+verdict-found : (k : ℕ) (es : List Entry) (items : Items) → verdictFrom k items ≡ verdictOf (withItems (good k es) items)
+unfolding verdictFrom verdictOf withItems withEntry refusedTable
+verdict-found k es done = refl
+verdict-found k es (fault number line column) = refl
+verdict-found k es (setting line name value later) = verdict-found k es later
+verdict-found k es (entry e later) = verdict-found (k + 1) (set es k e) later
 
-  here : reading s t at n ≡ afterLine t at n (readLine bytes) (λ u. reading s u (end + 1) (n + 1))
-  unfolding reading withLines
-  here = rw (lines-first s at end inside found, next-start s at end inside found)
+pub table-verdict : (s : List ℕ) → verdictFrom 0 (itemsOf s) ≡ verdictOf (tableOf s)
+unfolding tableOf emptyTable refusedTable
+table-verdict s = verdict-found 0 noEntries (itemsOf s)
 
-  pub reading-ignored : readLine bytes ≡ Ignored → reading s t at n ≡ reading s t (end + 1) (n + 1)
-  unfolding afterLine
-  reading-ignored e = here ∙ rw e
+-- a fault refuses the whole table
+refused-in : (number line column i : ℕ) → 1 ≤ number → entryIn (refusedTable number line column) i ≡ Refused number
+unfolding entryIn refusedTable
+refused-in number line column i h = rw (ne-eqb number 0 (λ e. omega (arith, e)))
 
-  pub reading-setting : {name value : Part} → readLine bytes ≡ Setting name value → reading s t at n ≡ reading s t (end + 1) (n + 1)
-  unfolding afterLine
-  reading-setting e = here ∙ rw e
+-- one entry more
+added-in : (k i : ℕ) (es : List Entry) (e : Entry) → k < length es
+    → entryIn (good (k + 1) (set es k e)) i ≡ cond (eqb k i) (Found e) (entryIn (good k es) i)
+unfolding entryIn
+added-in k i es e h = go (eqb k i) refl
+  where
+    go : (t : Bool) → eqb k i ≡ t
+        → cond (ltb i (k + 1)) (Found (getD (set es k e) i blankEntry)) (Refused 13)
+        ≡ cond t (Found e) (cond (ltb i k) (Found (getD es i blankEntry)) (Refused 13))
+    go true p =
+        let q : k ≡ i = eqb-true k i p in
+        rw (← q, lt-ltb k (k + 1) (omega arith), getD-set-same es k e blankEntry h)
+    go false p = elim (decLe k i) [ yes j ↦ rw (le-ltb i k j, le-ltb i (k + 1) (past j)) | no j ↦ rw (lt-ltb i k (lt-of-not-le j), lt-ltb i (k + 1) (below j), getD-set-other es k i e blankEntry (λ q. eqb-false k i p (sym q))) ]
+      where
+        past : k ≤ i → k + 1 ≤ i
+        past j = let d = eqb-false k i p in omega (arith, d)
 
-  pub reading-refused : {f : Fault} → readLine bytes ≡ Refused f → reading s t at n ≡ refusedTable (f .number) n (f .column)
-  unfolding afterLine
-  reading-refused e = here ∙ rw e
+        below : (k ≤ i → ⊥) → i < k + 1
+        below j = let l = lt-of-not-le j in omega arith
 
-  module _ {e : Entry} (is : readLine bytes ≡ line.Entry e) where
-    pub reading-entry : t .count < maxEntries → reading s t at n ≡ reading s (withEntry t (placed at e)) (end + 1) (n + 1)
-    unfolding afterLine
-    reading-entry h = here ∙ rw (is, lt-ltb (t .count) maxEntries h)
+pub entry-found : (n k i : ℕ) (es : List Entry) (items : Items) → length es ≡ maxEntries → SoundItems n k items
+    → entryIn (withItems (good k es) items) i ≡ entryFrom (entryIn (good k es) i) k i items
+unfolding withItems withEntry entryFrom
+entry-found n k i es done full sound = refl
+entry-found n k i es (fault number line column) full sound = refused-in number line column i (sound .0)
+entry-found n k i es (setting line name value later) full sound = entry-found n k i es later full (sound .2)
+entry-found n k i es (entry e later) full sound =
+    entry-found n (k + 1) i (set es k e) later (simp length-set full) (sound .2)
+    ∙ rw (added-in k i es e (omega (arith, full, sound .1)))
 
-    pub reading-full : maxEntries ≤ t .count → reading s t at n ≡ refusedTable 12 n 1
-    unfolding afterLine
-    reading-full h = here ∙ rw (is, le-ltb (t .count) maxEntries h)
-
-pub reading-starts : (s : List ℕ) → length s ≤ maxTable → reading s emptyTable 0 1 ≡ tableOf s
-unfolding reading tableOf
-reading-starts s h = rw (le-ltb maxTable (length s) h)
+pub table-entry : (s : List ℕ) (i : ℕ) → entryIn (tableOf s) i ≡ entryFrom (Refused 13) 0 i (itemsOf s)
+unfolding tableOf emptyTable refusedTable noEntries entryIn
+table-entry s i = entry-found (length s) 0 i noEntries (itemsOf s) refl (items-sound s) ∙ rw (none i)
+  where
+    none : (i : ℕ) → entryIn (good 0 noEntries) i ≡ Refused 13
+    none i = rw (le-ltb i 0 (omega arith))

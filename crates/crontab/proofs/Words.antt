@@ -1,6 +1,6 @@
 -- Laws of the `@` words.
 -- Assumes nothing.
-use mathlib.Core.Path.{_≡_, refl, ap, _∙_}
+use mathlib.Core.Path.{_≡_, refl, sym, ap, _∙_}
 use mathlib.Core.Bool.{Bool, true, false, cond, _&&_}
 use mathlib.Core.List.{List, [], _∷_}
 use Prim.Native.Nat.{ℕ, suc, _+_, _≤_, _<_}
@@ -12,7 +12,11 @@ use lib.Dec.{eqb}
 use borrow.Author.Tests.{eq-eqb, ne-eqb}
 use Rattle.crontab.specs.declared.word.Word.{Word}
 use Rattle.crontab.specs.declared.word.Word.the-variants.{Known, Unknown}
-use Rattle.crontab.specs.Words.{same, Meaning, meaningIn}
+use Rattle.crontab.specs.declared.time.When.{When}
+use Rattle.crontab.specs.declared.time.When.the-variants.{Timed}
+use Rattle.crontab.specs.Words.{same, fields, Named, wordFor, chosen, wordIn}
+use Rattle.crontab.specs.Computing.{reading}
+use Rattle.bytes.specs.Texts.{text}
 
 and-false : (x : Bool) → false ≡ (x && false)
 and-false true = refl
@@ -47,11 +51,39 @@ module _ (s word : List ℕ) (alike : length s ≡ length word) where
       rw (drop-of-length-le s h, drop-of-length-le word k)
 
 -- a row of words, from its last to its first
-pub meaning-none : (s : List ℕ) → Unknown ≡ meaningIn [] s
-unfolding meaningIn
-meaning-none s = refl
+pub row-none : (s : List ℕ) → Unknown ≡ wordIn [] s
+unfolding wordIn
+row-none s = refl
 
-pub meaning-next : (s : List ℕ) (m : Meaning) (ms : List Meaning) {r other : Word} → r ≡ cond (same s (m .word)) (Known (m .when)) other
-    → other ≡ meaningIn ms s → r ≡ meaningIn (m ∷ ms) s
-unfolding meaningIn
-meaning-next s m ms e f = e ∙ rw f
+pub row-next : (s : List ℕ) (n : Named) (ns : List Named) {when : When} {r other : Word} → wordFor (n .meaning) ≡ Known when
+    → r ≡ cond (same s (n .word)) (Known when) other → other ≡ wordIn ns s → r ≡ wordIn (n ∷ ns) s
+unfolding wordIn chosen
+row-next s n ns {when} {r} {other} k e f = e ∙ go (same s (n .word))
+  where
+    go : (t : Bool) → cond t (Known when) other ≡ chosen t (n .meaning) (wordIn ns s)
+    go true = sym k
+    go false = f
+
+-- The words' schedules, as the numbers that the code has: what their fields read to.
+module _ (minutes hours days months weekdays : ℕ) (day weekday : Bool) where
+  abbrev timed : Word
+  timed =
+      Known
+      (Timed
+      (record {
+        minutes = minutes;
+        hours = hours;
+        days = days;
+        months = months;
+        weekdays = weekdays;
+        stars = record { days = day; weekdays = weekday };
+      }))
+
+pub word-meanings :
+    (wordFor (fields (text "0 0 1 1 *")) ≡ timed 1 1 2 2 127 false true)
+    × (wordFor (fields (text "0 0 1 * *")) ≡ timed 1 1 2 8190 127 false true)
+    × (wordFor (fields (text "0 0 * * 0")) ≡ timed 1 1 4294967294 8190 1 true false)
+    × (wordFor (fields (text "0 0 * * *")) ≡ timed 1 1 4294967294 8190 127 true true)
+    × (wordFor (fields (text "0 * * * *")) ≡ timed 1 16777215 4294967294 8190 127 true true)
+unfolding reading
+word-meanings = (refl, refl, refl, refl, refl)

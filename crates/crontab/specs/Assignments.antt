@@ -12,7 +12,7 @@ use Rattle.crontab.specs.declared.assignment.Text.{Text}
 use Rattle.crontab.specs.declared.assignment.Text.the-variants.{Found, Malformed}
 use Rattle.crontab.specs.declared.line.Line.{Line}
 use Rattle.crontab.specs.declared.line.Line.the-variants.{Setting, Refused}
-use Rattle.crontab.specs.Limits.{badSetting}
+use Rattle.crontab.specs.Refusals.{badSetting}
 use Rattle.bytes.specs.Classes.{equalsSign, isQuote}
 use Rattle.bytes.specs.Runs.{skipped, trimmed}
 
@@ -58,5 +58,5 @@ afterName s at (Found name next) =
     (afterEquals at name (valueAt s (skipped Blank s (equals + 1))))
     (Refused (record { number = badSetting; column = at + 1 }))
 
-unfoldable pub settingLine : List ℕ → ℕ → Line
-settingLine s at = afterName s at (nameAt s at)
+unfoldable pub settingAt : List ℕ → ℕ → Line
+settingAt s at = afterName s at (nameAt s at)

@@ -1,34 +1,36 @@
--- Paper 01, "Entry": what follows the fifth field or the `@` word and its blanks is the command, one byte or more, trailing blanks
--- kept.
+-- Paper 01, "Entry": its time, and then a command of one byte or more, trailing blanks kept. What follows the time has one door,
+-- `afterTime`.
 -- Assumes nothing.
 use Prim.Native.Nat.{ℕ, _+_}
 use mathlib.Core.Bool.{cond}
 use mathlib.Core.List.{List}
 use lib.ListN.{length}
-use lib.Dec.{ltb}
-use Rattle.bytes.specs.declared.class.Class.the-variants.{Blank, Solid}
-use Rattle.crontab.specs.declared.When.{When}
-use Rattle.crontab.specs.declared.word.Word.{Word}
-use Rattle.crontab.specs.declared.word.Word.the-variants.{Known, Unknown}
+use lib.Dec.{eqb, ltb}
+use Rattle.crontab.specs.declared.time.When.{When}
+use Rattle.crontab.specs.declared.time.Time.{Time}
+use Rattle.crontab.specs.declared.time.Time.the-variants as time
 use Rattle.crontab.specs.declared.line.Line.{Line}
 use Rattle.crontab.specs.declared.line.Line.the-variants.{Entry, Refused}
-use Rattle.crontab.specs.Limits.{noCommand, unknownWord}
-use Rattle.bytes.specs.Runs.{skipped, between}
-use Rattle.crontab.specs.Words.{wordOf}
+use Rattle.crontab.specs.Refusals.{noCommand}
+use Rattle.crontab.specs.Times.{fieldsAt}
+use Rattle.crontab.specs.Words.{wordAt}
+
+-- `@`
+abbrev pub atSign : ℕ
+atSign = 64
+
+-- the time that starts at a place, by its first byte
+unfoldable pub timeAt : List ℕ → ℕ → ℕ → Time
+timeAt s at first = cond (eqb first atSign) (wordAt s at) (fieldsAt s at)
 
 -- the command from a place to the line's end
 unfoldable pub withCommand : List ℕ → When → ℕ → Line
 withCommand s when start =
-    cond (ltb start (length s))
-    (Entry (record { when = when; start = start; end = length s }))
-    (Refused (record { number = noCommand; column = length s + 1 }))
+    cond (ltb start (length s)) (Entry when start) (Refused (record { number = noCommand; column = length s + 1 }))
 
-unfoldable pub afterWord : List ℕ → ℕ → ℕ → Word → Line
-afterWord s at next Unknown = Refused (record { number = unknownWord; column = at + 1 })
-afterWord s at next (Known when) = withCommand s when next
+unfoldable pub afterTime : List ℕ → Time → Line
+afterTime s (time.Refused fault) = Refused fault
+afterTime s (time.Read when next) = withCommand s when next
 
--- the entry whose `@` word starts at a place: the whole run of non-blank bytes
-unfoldable pub wordEntry : List ℕ → ℕ → Line
-wordEntry s at =
-    let end = skipped Solid s at in
-    afterWord s at (skipped Blank s end) (wordOf (between s at end))
+unfoldable pub entryAt : List ℕ → ℕ → ℕ → Line
+entryAt s at first = afterTime s (timeAt s at first)

@@ -1,96 +1,130 @@
--- Worked examples of paper 01 and of the readings that it leaves open, checked by computing.
+-- Worked examples of paper 01 and of the readings that it leaves open, checked by computing: rows of a text and what it is.
 -- Assumes nothing.
-use Prim.Native.Nat.{ℕ}
-use mathlib.Core.Path.{_≡_, refl}
-use mathlib.Core.Bool.{true, false}
-use mathlib.Core.List.{List, [], _∷_}
+use Prim.Native.Nat.{ℕ, zero, suc, _+_}
+use mathlib.Core.Path.{refl}
+use mathlib.Core.Bool.{Bool, true, false}
+use mathlib.Core.List.{List, [], _∷_, _++_}
+use lib.ListN.{replicate}
 use Rattle.bytes.specs.Texts.{text}
-use Rattle.crontab.specs.declared.When.the-variants.{Reboot, Timed}
+use Rattle.bytes.specs.Rows.{Hold}
+use Rattle.bytes.specs.Sets.{setOf, upTo}
+use Rattle.crontab.specs.declared.time.When.{When}
+use Rattle.crontab.specs.declared.time.When.the-variants.{Reboot, Timed}
+use Rattle.crontab.specs.declared.line.Line.{Line}
 use Rattle.crontab.specs.declared.line.Line.the-variants.{Ignored, Setting, Entry, Refused}
-use Rattle.schedule.specs.declared.Schedule.{Schedule}
-use Rattle.schedule.specs.Examples.{oddMondays}
-use Rattle.field.specs.Parts.{contains, before, after, afterEach, split}
-use Rattle.field.specs.Numbers.{isDigit, areDigits, valueFrom, numberOf}
-use Rattle.field.specs.Elements.{isElement, ranging, numberOr, endOf, upperOf, afterDash, elementOf}
-use Rattle.field.specs.Names.{lower, alike, named, monthNames, weekdayNames, nameOf, isSunday}
-use Rattle.field.specs.Values.{everyStep, valuesOf, bitOf, including}
-use Rattle.field.specs.Judgement.{outside, judged}
-use Rattle.field.specs.Fields.{areElements, judgedAll, listField, starElement, starField, readField}
-use Rattle.bytes.specs.Sets.{withBit, put}
-use Rattle.bytes.specs.Classes.{isBlank, isQuote, ofClass}
-use Rattle.bytes.specs.Runs.{run, skipped, trimmed, between}
-use Rattle.crontab.specs.Assignments.{quotedAt, nonEmpty, nameAt, closed, valueAt, afterEquals, afterName, settingLine}
-use Rattle.crontab.specs.Words.{same, yearly, monthly, weekly, daily, hourly, meanings, meaningIn, wordOf}
-use Rattle.crontab.specs.Entries.{withCommand, afterWord, wordEntry}
-use Rattle.crontab.specs.Times.{answered, fieldAt, afterWeekday, afterMonth, afterDay, afterHour, afterMinute, timedEntry}
-use Rattle.crontab.specs.Lines.{onto, linesOf, startsFields, contentFrom, contentOf, readLine}
-use Rattle.crontab.specs.Tables.{noEntries, refusedTable, emptyTable, withEntry, afterLine, withLines, tableOf}
+use Rattle.crontab.specs.Limits.{maxTable, maxLine, maxEntries}
+use Rattle.crontab.specs.Lines.{readLine}
+use Rattle.crontab.specs.Tables.{tableOf}
+use Rattle.crontab.specs.Computing.{reading}
 
--- the refusal of a table, its place, and the count of entries
-fault : List ℕ → List ℕ
+-- ---- lines
+
+-- at midnight; whether the day fields begin with `*`
+abbrev midnight : List ℕ → List ℕ → List ℕ → Bool → Bool → When
+midnight days months weekdays day weekday =
+    Timed
+    (record {
+      minutes = setOf (0 ∷ []);
+      hours = setOf (0 ∷ []);
+      days = setOf days;
+      months = setOf months;
+      weekdays = setOf weekdays;
+      stars = record { days = day; weekdays = weekday };
+    })
+
+abbrev hourly : When
+hourly =
+    Timed
+    (record {
+      minutes = setOf (0 ∷ []);
+      hours = setOf (upTo 0 23);
+      days = setOf (upTo 1 31);
+      months = setOf (upTo 1 12);
+      weekdays = setOf (upTo 0 6);
+      stars = record { days = true; weekdays = true };
+    })
+
+abbrev refused : ℕ → ℕ → Line
+refused number column = Refused (record { number = number; column = column })
+
+-- name and value from a place to before another
+abbrev setting : ℕ → ℕ → ℕ → ℕ → Line
+setting n m v w = Setting (record { start = n; end = m }) (record { start = v; end = w })
+
+lines-read : Hold readLine
+    -- at the first field
+    ((text "60 0 * * * x", refused 6 1)
+    -- Monday to Friday; and at the fifth field from high to low, and a name of another field
+    ∷ (text "0 0 * * mon-fri x", Entry (midnight (upTo 1 31) (upTo 1 12) (upTo 1 5) true false) 16)
+    ∷ (text "0 0 * * fri-mon x", refused 7 9)
+    ∷ (text "0 0 * * jan x", refused 5 9)
+    -- names in any letter case
+    ∷ (text "0 0 * JAN,feb Sat x", Entry (midnight (upTo 1 31) (1 ∷ 2 ∷ []) (6 ∷ []) true false) 18)
+    -- a day field that begins with a star and has some values only
+    ∷ (text "0 0 */15 * 1 x", Entry (midnight (1 ∷ 16 ∷ 31 ∷ []) (upTo 1 12) (1 ∷ []) true false) 13)
+    -- no command: after the last byte, blanks counted
+    ∷ (text "0 0 * * * ", refused 9 11)
+    -- too few fields: after the last byte, but a bad field before it comes first
+    ∷ (text "5 5", refused 4 4)
+    ∷ (text "60 5", refused 6 1)
+    -- blanks before and after, and a comment
+    ∷ (text "\t 0 0 1 1 *  a ", Entry (midnight (1 ∷ []) (1 ∷ []) (upTo 0 6) false true) 13)
+    ∷ (text " # 0", Ignored)
+    ∷ ([], Ignored)
+    -- an `@` word is the whole run of non-blank bytes, in this case only
+    ∷ (text "@reboot x", Entry Reboot 8)
+    ∷ (text "@Reboot x", refused 10 1)
+    ∷ (text " @", refused 10 2)
+    ∷ (text "@reboot ", refused 9 9)
+    -- the words that stand for fields
+    ∷ (text "@yearly x", Entry (midnight (1 ∷ []) (1 ∷ []) (upTo 0 6) false true) 8)
+    ∷ (text "@annually x", Entry (midnight (1 ∷ []) (1 ∷ []) (upTo 0 6) false true) 10)
+    ∷ (text "@monthly x", Entry (midnight (1 ∷ []) (upTo 1 12) (upTo 0 6) false true) 9)
+    ∷ (text "@weekly x", Entry (midnight (upTo 1 31) (upTo 1 12) (0 ∷ []) true false) 8)
+    ∷ (text "@daily x", Entry (midnight (upTo 1 31) (upTo 1 12) (upTo 0 6) true true) 7)
+    ∷ (text "@midnight x", Entry (midnight (upTo 1 31) (upTo 1 12) (upTo 0 6) true true) 10)
+    ∷ (text "@hourly x", Entry hourly 8)
+    -- byte 0, in a comment too
+    ∷ (35 ∷ 0 ∷ [], refused 3 2)
+    -- settings: without their quotes and the last blanks; a value may be empty
+    ∷ (text "A = \"b c\" ", setting 0 1 5 8)
+    ∷ (text "'A B'=c'd ", setting 1 4 6 9)
+    ∷ (text "A =", setting 0 1 3 3)
+    ∷ (text "A=\"\"", setting 0 1 3 3)
+    -- no settings: at the first byte that isn't blank
+    ∷ (text " A\"B=c", refused 11 2)
+    ∷ (text "\"A'=c", refused 11 1)
+    ∷ (text "A=\"b\"c", refused 11 1)
+    ∷ (text "\"\"=c", refused 11 1)
+    -- as long as a line may be, and a byte more
+    ∷ (replicate maxLine 32, Ignored)
+    ∷ (replicate (maxLine + 1) 32, refused 2 1001)
+    ∷ [])
+unfolding reading
+lines-read = refl
+
+-- ---- tables: the refusal, its line and column, and the count of entries
+
+abbrev fault : List ℕ → List ℕ
 fault s = let t = tableOf s in t .refusal ∷ t .line ∷ t .column ∷ t .count ∷ []
 
--- `0 0 * * mon-fri`
-weekdays5 : Schedule
-weekdays5 =
-    record { minutes = 1; hours = 1; days = 4294967294; months = 8190; weekdays = 62; stars = record { days = true; weekdays = false } }
+times : ℕ → List ℕ → List ℕ
+times zero s = []
+times (suc n) s = s ++ times n s
 
-examples :
-    -- at the first field
-    (readLine (text "60 0 * * * x") ≡ Refused (record { number = 6; column = 1 }))
-    -- Monday to Friday; and at the fifth field from high to low, and a name of another field
-    × (readLine (text "0 0 * * mon-fri x") ≡ Entry (record { when = Timed weekdays5; start = 16; end = 17 }))
-    × (readLine (text "0 0 * * fri-mon x") ≡ Refused (record { number = 7; column = 9 }))
-    × (readLine (text "0 0 * * jan x") ≡ Refused (record { number = 5; column = 9 }))
-    -- Mondays on odd days, since the day field begins with a star
-    × (readLine (text "0 0 */2 * 1 x") ≡ Entry (record { when = Timed oddMondays; start = 12; end = 13 }))
-    -- no command: after the last byte, blanks counted
-    × (readLine (text "0 0 * * * ") ≡ Refused (record { number = 9; column = 11 }))
-    -- too few fields: after the last byte, but a bad field before it comes first
-    × (readLine (text "5 5") ≡ Refused (record { number = 4; column = 4 }))
-    × (readLine (text "60 5") ≡ Refused (record { number = 6; column = 1 }))
-    -- blanks before and after, and a comment
-    × (readLine (text "\t 0 0 1 1 *  a ") ≡ Entry (record { when = Timed yearly; start = 13; end = 15 }))
-    × (readLine (text " # 0") ≡ Ignored)
-    -- an `@` word is the whole run of non-blank bytes, in this case only
-    × (readLine (text "@reboot x") ≡ Entry (record { when = Reboot; start = 8; end = 9 }))
-    × (readLine (text "@Reboot x") ≡ Refused (record { number = 10; column = 1 }))
-    × (readLine (text " @") ≡ Refused (record { number = 10; column = 2 }))
-    × (readLine (text "@reboot ") ≡ Refused (record { number = 9; column = 9 }))
-    -- byte 0, in a comment too
-    × (readLine (35 ∷ 0 ∷ []) ≡ Refused (record { number = 3; column = 2 }))
-    -- settings: without their quotes and the last blanks
-    × (readLine (text "A = \"b c\" ") ≡ Setting (record { start = 0; end = 1 }) (record { start = 5; end = 8 }))
-    × (readLine (text "'A B'=c'd ") ≡ Setting (record { start = 1; end = 4 }) (record { start = 6; end = 9 }))
-    × (readLine (text "A =") ≡ Setting (record { start = 0; end = 1 }) (record { start = 3; end = 3 }))
-    -- no settings: at the first byte that isn't blank
-    × (readLine (text " A\"B=c") ≡ Refused (record { number = 11; column = 2 }))
-    × (readLine (text "\"A'=c") ≡ Refused (record { number = 11; column = 1 }))
-    × (readLine (text "A=\"b\"c") ≡ Refused (record { number = 11; column = 1 }))
-    -- the words mean what the five fields of the paper mean
-    × (readLine (text "0 0 1 1 * x") ≡ Entry (record { when = Timed yearly; start = 10; end = 11 }))
-    × (readLine (text "@yearly x") ≡ Entry (record { when = Timed yearly; start = 8; end = 9 }))
-    × (readLine (text "@annually x") ≡ Entry (record { when = Timed yearly; start = 10; end = 11 }))
-    × (readLine (text "0 0 1 * * x") ≡ Entry (record { when = Timed monthly; start = 10; end = 11 }))
-    × (readLine (text "@monthly x") ≡ Entry (record { when = Timed monthly; start = 9; end = 10 }))
-    × (readLine (text "0 0 * * 0 x") ≡ Entry (record { when = Timed weekly; start = 10; end = 11 }))
-    × (readLine (text "@weekly x") ≡ Entry (record { when = Timed weekly; start = 8; end = 9 }))
-    × (readLine (text "0 0 * * * x") ≡ Entry (record { when = Timed daily; start = 10; end = 11 }))
-    × (readLine (text "@daily x") ≡ Entry (record { when = Timed daily; start = 7; end = 8 }))
-    × (readLine (text "@midnight x") ≡ Entry (record { when = Timed daily; start = 10; end = 11 }))
-    × (readLine (text "0 * * * * x") ≡ Entry (record { when = Timed hourly; start = 10; end = 11 }))
-    × (readLine (text "@hourly x") ≡ Entry (record { when = Timed hourly; start = 8; end = 9 }))
+tables-read : Hold fault
     -- the empty table has no entries
-    × (tableOf [] ≡ emptyTable)
+    (([], 0 ∷ 0 ∷ 0 ∷ 0 ∷ [])
     -- the three lines of the paper's whole run, the last without a newline
-    × (fault (text "* * * * * a\n@reboot b\n0 * * * * c") ≡ 0 ∷ 0 ∷ 0 ∷ 3 ∷ [])
+    ∷ (text "* * * * * a\n@reboot b\n0 * * * * c", 0 ∷ 0 ∷ 0 ∷ 3 ∷ [])
     -- the first bad line, and no entry
-    × (fault (text "@reboot b\n\n60 * * * * a\nA\n") ≡ 6 ∷ 3 ∷ 1 ∷ 0 ∷ [])
-unfolding weekdays5 oddMondays contains before after afterEach split isDigit areDigits valueFrom numberOf isElement ranging numberOr endOf
-    upperOf afterDash elementOf lower alike named monthNames weekdayNames nameOf isSunday everyStep valuesOf bitOf put including
-    outside judged areElements judgedAll listField starElement starField readField withBit isBlank isQuote ofClass run skipped
-    trimmed between quotedAt nonEmpty nameAt closed valueAt afterEquals afterName settingLine same meanings meaningIn wordOf
-    withCommand afterWord wordEntry answered fieldAt afterWeekday afterMonth afterDay afterHour afterMinute timedEntry
-    startsFields contentFrom contentOf readLine onto linesOf noEntries refusedTable emptyTable withEntry afterLine withLines
-    tableOf fault
-examples = (refl, refl, refl, refl, refl, refl, refl, refl, refl, refl, refl, refl, refl, refl, refl, refl, refl, refl, refl, refl, refl, refl, refl, refl, refl, refl, refl, refl, refl, refl, refl, refl, refl, refl, refl, refl)
+    ∷ (text "@reboot b\n\n60 * * * * a\nA\n", 6 ∷ 3 ∷ 1 ∷ 0 ∷ [])
+    -- as many entries as there may be, and one more, which a bad line follows
+    ∷ (times maxEntries (text "@reboot x\n"), 0 ∷ 0 ∷ 0 ∷ 128 ∷ [])
+    ∷ (times (maxEntries + 1) (text "@reboot x\n") ++ text "A\n", 12 ∷ 129 ∷ 1 ∷ 0 ∷ [])
+    -- as many bytes as there may be, and one more
+    ∷ (replicate maxTable 10, 0 ∷ 0 ∷ 0 ∷ 0 ∷ [])
+    ∷ (replicate (maxTable + 1) 10, 1 ∷ 0 ∷ 0 ∷ 0 ∷ [])
+    ∷ [])
+unfolding times reading
+tables-read = refl

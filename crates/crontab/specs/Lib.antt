@@ -1,10 +1,14 @@
 pub mod Limits
+pub mod Refusals
 pub mod Assignments
+pub mod Times
 pub mod Words
 pub mod Entries
-pub mod Times
 pub mod Lines
+pub mod Items
 pub mod Tables
-pub mod Answers
 pub mod Settings
+pub mod Firings
+pub mod Steps
+pub mod Computing
 pub mod Examples

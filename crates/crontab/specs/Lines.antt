@@ -5,17 +5,17 @@ use mathlib.Core.Bool.{Bool, cond, _||_}
 use mathlib.Core.List.{List, [], _∷_}
 use lib.ListN.{length, getD}
 use lib.Dec.{eqb, leb, ltb}
-use Rattle.field.specs.Numbers.{isDigit}
-use Rattle.field.specs.Fields.{asterisk}
 use Rattle.bytes.specs.declared.class.Class.the-variants.{Blank, Not}
-use Rattle.crontab.specs.declared.line.Line.{Line}
-use Rattle.crontab.specs.declared.line.Line.the-variants.{Ignored, Refused}
-use Rattle.crontab.specs.Limits.{maxLine, lineTooLong, nulByte}
 use Rattle.bytes.specs.Classes.{newline}
 use Rattle.bytes.specs.Runs.{skipped}
-use Rattle.crontab.specs.Assignments.{settingLine}
-use Rattle.crontab.specs.Entries.{wordEntry}
-use Rattle.crontab.specs.Times.{timedEntry}
+use Rattle.field.specs.Numbers.{isDigit}
+use Rattle.field.specs.Fields.{asterisk}
+use Rattle.crontab.specs.declared.line.Line.{Line}
+use Rattle.crontab.specs.declared.line.Line.the-variants.{Ignored, Refused}
+use Rattle.crontab.specs.Limits.{maxLine}
+use Rattle.crontab.specs.Refusals.{lineTooLong, nulByte}
+use Rattle.crontab.specs.Assignments.{settingAt}
+use Rattle.crontab.specs.Entries.{atSign, entryAt}
 
 -- ---- the lines of a table
 
@@ -34,19 +34,14 @@ linesOf (b ∷ s) = let later = linesOf s in cond (eqb b newline) ([] ∷ later)
 abbrev pub hash : ℕ
 hash = 35
 
--- `@`
-abbrev pub atSign : ℕ
-atSign = 64
-
-unfoldable pub startsFields : ℕ → Bool
-startsFields b = eqb b asterisk || isDigit b
+-- a digit, `*` or `@` starts an entry
+unfoldable pub startsEntry : ℕ → Bool
+startsEntry b = eqb b asterisk || (isDigit b || eqb b atSign)
 
 -- by its first byte that isn't blank
 unfoldable pub contentFrom : List ℕ → ℕ → ℕ → Line
 contentFrom s at first =
-    cond (eqb first hash)
-    Ignored
-    (cond (eqb first atSign) (wordEntry s at) (cond (startsFields first) (timedEntry s at) (settingLine s at)))
+    cond (eqb first hash) Ignored (cond (startsEntry first) (entryAt s at first) (settingAt s at))
 
 -- leading blanks are skipped, and an empty rest is ignored
 unfoldable pub contentOf : List ℕ → Line

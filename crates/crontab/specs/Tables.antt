@@ -1,52 +1,60 @@
--- Paper 01, "What comes back": a table is read line by line. Refusal 1 comes first, then the first bad line; 12 comes after all else
--- on its line; a refused table yields no entries.
+-- Paper 01: "a refused table yields no entries". What a table means, by its items; its entries stand in an array, and an entry is found
+-- by its number. The order is table, 13.
 -- Assumes nothing.
 use Prim.Native.Nat.{ℕ, _+_}
 use mathlib.Core.Bool.{cond}
-use mathlib.Core.List.{List, [], _∷_}
-use lib.ListN.{length, set, replicate}
-use lib.Dec.{ltb}
-use Rattle.crontab.specs.declared.When.the-variants.{Reboot}
-use Rattle.crontab.specs.declared.Entry.{Entry}
-use Rattle.crontab.specs.declared.Table.{Table}
-use Rattle.crontab.specs.declared.line.Line.{Line}
-use Rattle.crontab.specs.declared.line.Line.the-variants as line
-use Rattle.crontab.specs.Limits.{maxTable, maxEntries, tableTooLong, tooManyEntries}
-use Rattle.crontab.specs.Lines.{linesOf, readLine}
+use mathlib.Core.List.{List, []}
+use lib.ListN.{getD, set, replicate}
+use lib.Dec.{eqb, ltb}
+use Rattle.bytes.specs.Runs.{between}
+use Rattle.crontab.specs.declared.time.When.the-variants.{Reboot}
+use Rattle.crontab.specs.declared.entry.Entry.{Entry}
+use Rattle.crontab.specs.declared.table.Table.{Table}
+use Rattle.crontab.specs.declared.table.Verdict.{Verdict}
+use Rattle.crontab.specs.declared.table.EntryAnswer.{EntryAnswer}
+use Rattle.crontab.specs.declared.table.EntryAnswer.the-variants.{Found, Refused}
+use Rattle.crontab.specs.Limits.{maxEntries}
+use Rattle.crontab.specs.Refusals.{noSuchEntry}
+use Rattle.crontab.specs.Items.{Items, done, fault, setting, entry, itemsOf}
 
 -- what stands in the place of an entry that isn't there
 abbrev pub blankEntry : Entry
-blankEntry = record { when = Reboot; start = 0; end = 0 }
+blankEntry = record { when = Reboot; line = 0; at = 0; start = 0; end = 0 }
 
 unfoldable pub noEntries : List Entry
 noEntries = replicate maxEntries blankEntry
 
 unfoldable pub refusedTable : ℕ → ℕ → ℕ → Table
-refusedTable number n column = record { refusal = number; line = n; column = column; count = 0; entries = noEntries }
+refusedTable number line column = record { refusal = number; line = line; column = column; count = 0; entries = noEntries }
 
 -- refusal, line and column 0 where it is good
 unfoldable pub emptyTable : Table
 emptyTable = refusedTable 0 0 0
 
--- an entry of a line that starts at a place of the table
-abbrev pub placed : ℕ → Entry → Entry
-placed at e = record { when = e .when; start = at + e .start; end = at + e .end }
-
 unfoldable pub withEntry : Table → Entry → Table
 withEntry t e = record { refusal = t .refusal; line = t .line; column = t .column; count = t .count + 1; entries = set (t .entries) (t .count) e }
 
--- a good table and its line n, which starts at a place of the table, with what the lines after it make of the table
-unfoldable pub afterLine : Table → ℕ → ℕ → Line → (Table → Table) → Table
-afterLine t at n line.Ignored later = later t
-afterLine t at n (line.Setting name value) later = later t
-afterLine t at n (line.Refused fault) later = refusedTable (fault .number) n (fault .column)
-afterLine t at n (line.Entry e) later =
-    cond (ltb (t .count) maxEntries) (later (withEntry t (placed at e))) (refusedTable tooManyEntries n 1)
-
--- line by line: the next one starts a newline after this one
-unfoldable pub withLines : Table → ℕ → ℕ → List (List ℕ) → Table
-withLines t at n [] = t
-withLines t at n (l ∷ ls) = afterLine t at n (readLine l) (λ u. withLines u (at + length l + 1) (n + 1) ls)
+-- a good table with items more
+unfoldable pub withItems : Table → Items → Table
+withItems t done = t
+withItems t (fault number line column) = refusedTable number line column
+withItems t (setting line name value later) = withItems t later
+withItems t (entry e later) = withItems (withEntry t e) later
 
 unfoldable pub tableOf : List ℕ → Table
-tableOf s = cond (ltb maxTable (length s)) (refusedTable tableTooLong 0 0) (withLines emptyTable 0 1 (linesOf s))
+tableOf s = withItems emptyTable (itemsOf s)
+
+-- without its entries
+unfoldable pub verdictOf : Table → Verdict
+verdictOf t = record { refusal = t .refusal; line = t .line; column = t .column; count = t .count }
+
+-- ---- an entry by its number, and its command
+
+unfoldable pub entryIn : Table → ℕ → EntryAnswer
+entryIn t i =
+    cond (eqb (t .refusal) 0) (cond (ltb i (t .count)) (Found (getD (t .entries) i blankEntry)) (Refused noSuchEntry)) (Refused (t .refusal))
+
+-- empty where there is none
+unfoldable pub commandIn : List ℕ → EntryAnswer → List ℕ
+commandIn s (Found e) = between s (e .start) (e .end)
+commandIn s (Refused number) = []

@@ -1,16 +1,19 @@
--- Paper 01: "Words, in this case only": `@reboot`, and seven that stand for five fields. `specs.Examples` checks that the
--- schedules are what those fields read to.
+-- Paper 01: "Words, in this case only": `@reboot`, and seven that stand for five fields.
 -- Assumes nothing.
-use Prim.Native.Nat.{ℕ}
-use mathlib.Core.Bool.{Bool, true, false, cond, _&&_}
+use Prim.Native.Nat.{ℕ, _+_}
+use mathlib.Core.Bool.{Bool, true, false, _&&_}
 use mathlib.Core.List.{List, [], _∷_}
 use lib.Dec.{eqb}
 use Rattle.bytes.specs.Texts.{text}
-use Rattle.schedule.specs.declared.Schedule.{Schedule}
-use Rattle.crontab.specs.declared.When.{When}
-use Rattle.crontab.specs.declared.When.the-variants.{Reboot, Timed}
+use Rattle.bytes.specs.declared.class.Class.the-variants.{Blank, Solid}
+use Rattle.bytes.specs.Runs.{skipped, between}
+use Rattle.crontab.specs.declared.time.When.the-variants.{Reboot}
+use Rattle.crontab.specs.declared.time.Time.{Time}
+use Rattle.crontab.specs.declared.time.Time.the-variants.{Read, Refused}
 use Rattle.crontab.specs.declared.word.Word.{Word}
 use Rattle.crontab.specs.declared.word.Word.the-variants.{Known, Unknown}
+use Rattle.crontab.specs.Refusals.{unknownWord}
+use Rattle.crontab.specs.Times.{fieldsAt}
 
 unfoldable pub same : List ℕ → List ℕ → Bool
 same [] [] = true
@@ -18,55 +21,58 @@ same (b ∷ s) (x ∷ word) = eqb b x && same s word
 same [] (x ∷ word) = false
 same (b ∷ s) [] = false
 
--- ---- the schedules
-
--- `0 0 1 1 *`
-abbrev pub yearly : Schedule
-yearly =
-    record { minutes = 1; hours = 1; days = 2; months = 2; weekdays = 127; stars = record { days = false; weekdays = true } }
-
--- `0 0 1 * *`
-abbrev pub monthly : Schedule
-monthly =
-    record { minutes = 1; hours = 1; days = 2; months = 8190; weekdays = 127; stars = record { days = false; weekdays = true } }
-
--- `0 0 * * 0`
-abbrev pub weekly : Schedule
-weekly =
-    record { minutes = 1; hours = 1; days = 4294967294; months = 8190; weekdays = 1; stars = record { days = true; weekdays = false } }
-
--- `0 0 * * *`
-abbrev pub daily : Schedule
-daily =
-    record { minutes = 1; hours = 1; days = 4294967294; months = 8190; weekdays = 127; stars = record { days = true; weekdays = true } }
-
--- `0 * * * *`
-abbrev pub hourly : Schedule
-hourly =
-    record { minutes = 1; hours = 16777215; days = 4294967294; months = 8190; weekdays = 127; stars = record { days = true; weekdays = true } }
-
 -- ---- the words
 
-pub record Meaning : Type 0 where
-  pub word : List ℕ
-  pub when : When
+-- what a word stands for
+pub data Meaning : Type 0 where
+  reboot : Meaning
+  fields : List ℕ → Meaning
 
-unfoldable pub meanings : List Meaning
+pub record Named : Type 0 where
+  pub word : List ℕ
+  pub meaning : Meaning
+
+unfoldable pub meanings : List Named
 meanings =
-    record { word = text "@reboot"; when = Reboot }
-    ∷ record { word = text "@yearly"; when = Timed yearly }
-    ∷ record { word = text "@annually"; when = Timed yearly }
-    ∷ record { word = text "@monthly"; when = Timed monthly }
-    ∷ record { word = text "@weekly"; when = Timed weekly }
-    ∷ record { word = text "@daily"; when = Timed daily }
-    ∷ record { word = text "@midnight"; when = Timed daily }
-    ∷ record { word = text "@hourly"; when = Timed hourly }
+    record { word = text "@reboot"; meaning = reboot }
+    ∷ record { word = text "@yearly"; meaning = fields (text "0 0 1 1 *") }
+    ∷ record { word = text "@annually"; meaning = fields (text "0 0 1 1 *") }
+    ∷ record { word = text "@monthly"; meaning = fields (text "0 0 1 * *") }
+    ∷ record { word = text "@weekly"; meaning = fields (text "0 0 * * 0") }
+    ∷ record { word = text "@daily"; meaning = fields (text "0 0 * * *") }
+    ∷ record { word = text "@midnight"; meaning = fields (text "0 0 * * *") }
+    ∷ record { word = text "@hourly"; meaning = fields (text "0 * * * *") }
     ∷ []
 
--- the meaning of a word in a row of words
-unfoldable pub meaningIn : List Meaning → List ℕ → Word
-meaningIn [] s = Unknown
-meaningIn (m ∷ ms) s = let later = meaningIn ms s in cond (same s (m .word)) (Known (m .when)) later
+-- five fields mean what they are read to
+unfoldable pub known : Time → Word
+known (Read when next) = Known when
+known (Refused fault) = Unknown
+
+unfoldable pub wordFor : Meaning → Word
+wordFor reboot = Known Reboot
+wordFor (fields s) = known (fieldsAt s 0)
+
+-- the word of a meaning if it is the one, otherwise another
+unfoldable pub chosen : Bool → Meaning → Word → Word
+chosen true m other = wordFor m
+chosen false m other = other
+
+-- a word in a row of words
+unfoldable pub wordIn : List Named → List ℕ → Word
+wordIn [] s = Unknown
+wordIn (n ∷ ns) s = let later = wordIn ns s in chosen (same s (n .word)) (n .meaning) later
 
 unfoldable pub wordOf : List ℕ → Word
-wordOf s = meaningIn meanings s
+wordOf s = wordIn meanings s
+
+-- ---- a word at a place: the whole run of non-blank bytes
+
+unfoldable pub afterWord : ℕ → ℕ → Word → Time
+afterWord at next Unknown = Refused (record { number = unknownWord; column = at + 1 })
+afterWord at next (Known when) = Read when next
+
+unfoldable pub wordAt : List ℕ → ℕ → Time
+wordAt s at =
+    let end = skipped Solid s at in
+    afterWord at (skipped Blank s end) (wordOf (between s at end))

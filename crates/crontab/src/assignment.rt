@@ -2,16 +2,16 @@
 ghost use mathlib.Core.Path.{_≡_};
 ghost use Prim.Native.Nat.{_≤_, _<_};
 ghost use lib.ListN.{length};
-ghost use Rattle.crontab.specs.Assignments.{quotedAt, nonEmpty, nameAt, closed, valueAt, settingLine};
+ghost use Rattle.crontab.specs.Assignments.{quotedAt, nonEmpty, nameAt, closed, valueAt, settingAt};
 use crate::BAD_SETTING;
 use crate::Part;
-use bytes::class::Class;
-use bytes::run::byte_at;
-use bytes::class::is_quote;
-use bytes::run::skip;
-use bytes::run::trimmed_end;
 use crate::line::Fault;
 use crate::line::Line;
+use bytes::class::Class;
+use bytes::class::is_quote;
+use bytes::run::byte_at;
+use bytes::run::skip;
+use bytes::run::trimmed_end;
 
 // A name or a value: where it stands, and where the line goes on after it.
 pub(crate) enum Text {
@@ -95,7 +95,7 @@ fn value_at(s: &[u8], at: usize) -> Text
 // The setting whose name starts at a place.
 pub(crate) fn read(s: &[u8], at: usize) -> Line
     requires { ⌜ at < length (now s) ⌝ }
-    ensures { λ r. ⌜ r ≡ settingLine (now (s .entry)) at ⌝ }
+    ensures { λ r. ⌜ r ≡ settingAt (now (s .entry)) at ⌝ }
 {
     let refused = Line::Refused(Fault {
         number: BAD_SETTING,

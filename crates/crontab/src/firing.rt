@@ -1,57 +1,106 @@
 // Whether an entry is due at a minute, and when it fires next.
 ghost use mathlib.Core.Path.{_≡_};
-ghost use Rattle.crontab.specs.Answers.{firesOn, dueAt, nextFound, nextAt};
+ghost use Rattle.crontab.specs.Tables.{tableOf};
+ghost use Rattle.crontab.specs.Firings.{isBoot, firesOn, dueOf, told, nextOf, dueIn, nextIn};
 use crate::AT_BOOT_ONLY;
-use crate::DueAnswer;
-use crate::NextAnswer;
-use crate::When;
+use crate::entry::Entry;
+use crate::table::EntryAnswer;
+use crate::table::find_entry;
+use crate::time::When;
 use calendar::Date;
+use calendar::LAST_MINUTE;
+use calendar::NOT_ON_CALENDAR;
 use schedule::Next;
 
-// Whether an entry matches a date.
-pub fn fires_on(when: When, date: Date) -> bool
-    ensures { λ r. ⌜ r ≡ firesOn when date ⌝ }
+// Whether an entry is due at a minute.
+pub enum DueAnswer {
+    Yes,
+    No,
+    Refused(u8),
+}
+
+// When an entry fires next after a minute.
+pub enum NextAnswer {
+    At(u64),
+    // Never and past the calendar's end are refusals here, by their numbers.
+    Refused(u8),
+}
+
+// Whether an entry is an `@reboot` entry.
+pub fn is_boot(entry: Entry) -> bool
+    ensures { λ r. ⌜ r ≡ isBoot entry ⌝ }
 {
+    let when = entry.when;
+    match when {
+        When::Reboot => true,
+        When::Timed(_) => false,
+    }
+}
+
+// Whether an entry matches a date.
+pub fn fires_on(entry: Entry, date: Date) -> bool
+    ensures { λ r. ⌜ r ≡ firesOn entry date ⌝ }
+{
+    let when = entry.when;
     match when {
         When::Reboot => false,
         When::Timed(times) => schedule::matches_date(times, date),
     }
 }
 
-pub(crate) fn due_at(when: When, minute: u64) -> DueAnswer
-    ensures { λ r. ⌜ r ≡ dueAt when minute ⌝ }
+// Whether an entry is due at a minute.
+pub fn due_at(entry: Entry, minute: u64) -> DueAnswer
+    ensures { λ r. ⌜ r ≡ dueOf entry minute ⌝ }
 {
-    let found = calendar::date_of(minute);
-    if found.refusal != 0 {
-        return DueAnswer::Refused(found.refusal);
+    if LAST_MINUTE < minute {
+        return DueAnswer::Refused(NOT_ON_CALENDAR);
     }
-    let date = found.date;
-    if fires_on(when, date) {
+    let date = calendar::date_of(minute).date;
+    if fires_on(entry, date) {
         return DueAnswer::Yes;
     }
     DueAnswer::No
 }
 
-fn next_found(next: Next) -> NextAnswer
-    ensures { λ r. ⌜ r ≡ nextFound next ⌝ }
+fn told(next: Next) -> NextAnswer
+    ensures { λ r. ⌜ r ≡ told next ⌝ }
 {
     match next {
         Next::At(minute) => NextAnswer::At(minute),
-        Next::Never => NextAnswer::Never,
-        Next::PastEnd => NextAnswer::PastEnd,
-        Next::NotOnCalendar => NextAnswer::Refused(calendar::NOT_ON_CALENDAR),
+        Next::Never => NextAnswer::Refused(schedule::NEVER),
+        Next::PastEnd => NextAnswer::Refused(schedule::PAST_END),
     }
 }
 
-pub(crate) fn next_at(when: When, minute: u64) -> NextAnswer
-    ensures { λ r. ⌜ r ≡ nextAt when minute ⌝ }
+// When an entry fires next, strictly after a minute.
+pub fn next_after(entry: Entry, minute: u64) -> NextAnswer
+    ensures { λ r. ⌜ r ≡ nextOf entry minute ⌝ }
 {
-    let When::Timed(times) = when else {
-        let found = calendar::date_of(minute);
-        if found.refusal != 0 {
-            return NextAnswer::Refused(found.refusal);
-        }
-        return NextAnswer::Refused(AT_BOOT_ONLY);
-    };
-    next_found(schedule::next_firing(times, minute))
+    if LAST_MINUTE < minute {
+        return NextAnswer::Refused(NOT_ON_CALENDAR);
+    }
+    let when = entry.when;
+    match when {
+        When::Reboot => NextAnswer::Refused(AT_BOOT_ONLY),
+        When::Timed(times) => told(schedule::next_firing(times, minute)),
+    }
+}
+
+// The same of an entry of a table, by its number.
+pub fn due(s: &[u8], entry: u64, minute: u64) -> DueAnswer
+    ensures { λ r. ⌜ r ≡ dueIn (tableOf (now (s .entry))) entry minute ⌝ }
+{
+    match find_entry(s, entry) {
+        EntryAnswer::Found(found) => due_at(found, minute),
+        EntryAnswer::Refused(number) => DueAnswer::Refused(number),
+    }
+}
+
+pub fn next(s: &[u8], entry: u64, minute: u64) -> NextAnswer
+    ensures { λ r. ⌜ r ≡ nextIn (tableOf (now (s .entry))) entry minute ⌝ }
+{
+    match find_entry(s, entry) {
+        EntryAnswer::Found(found) => next_after(found, minute),
+        EntryAnswer::Refused(number) => NextAnswer::Refused(number),
+    }
 }

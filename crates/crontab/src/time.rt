@@ -3,18 +3,21 @@ ghost use mathlib.Core.Path.{_≡_};
 ghost use Prim.Native.Nat.{_≤_};
 ghost use lib.ListN.{length};
 ghost use Rattle.crontab.specs.Limits.{maxLine};
-ghost use Rattle.crontab.specs.Times.{fieldAt, timedEntry};
+ghost use Rattle.crontab.specs.Times.{fieldAt, fieldsAt};
 use crate::TOO_FEW_FIELDS;
-use crate::When;
+use crate::line::Fault;
 use bytes::class::Class;
 use bytes::run::skip;
-use crate::line;
-use crate::line::Fault;
-use crate::line::Line;
 use field::Answer;
 use field::Limits;
 use schedule::Schedule;
 use schedule::Stars;
+
+// When an entry's command starts: at boot only, or at the minutes of a schedule.
+pub enum When {
+    Reboot,
+    Timed(Schedule),
+}
 
 // What a field of a line says, and where the line goes on after its blanks.
 pub(crate) struct Values {
@@ -25,6 +28,12 @@ pub(crate) struct Values {
 
 pub(crate) enum Field {
     Read(Values),
+    Refused(Fault),
+}
+
+// When an entry fires, and where its line goes on after that and its blanks.
+pub(crate) enum Time {
+    Read { when: When, next: usize },
     Refused(Fault),
 }
 
@@ -54,30 +63,30 @@ fn field_at(s: &[u8], at: usize, limits: Limits) -> Field
     }
 }
 
-// The entry whose first field starts at a place.
-pub(crate) fn read(s: &[u8], at: usize) -> Line
+// The five fields of which the first starts at a place.
+pub(crate) fn read(s: &[u8], at: usize) -> Time
     requires { ⌜ length (now s) ≤ maxLine ⌝ }
-    ensures { λ r. ⌜ r ≡ timedEntry (now (s .entry)) at ⌝ }
+    ensures { λ r. ⌜ r ≡ fieldsAt (now (s .entry)) at ⌝ }
 {
     let minute = match field_at(s, at, field::MINUTE) {
         Field::Read(values) => values,
-        Field::Refused(fault) => return Line::Refused(fault),
+        Field::Refused(fault) => return Time::Refused(fault),
     };
     let hour = match field_at(s, minute.next, field::HOUR) {
         Field::Read(values) => values,
-        Field::Refused(fault) => return Line::Refused(fault),
+        Field::Refused(fault) => return Time::Refused(fault),
     };
     let day = match field_at(s, hour.next, field::DAY) {
         Field::Read(values) => values,
-        Field::Refused(fault) => return Line::Refused(fault),
+        Field::Refused(fault) => return Time::Refused(fault),
     };
     let month = match field_at(s, day.next, field::MONTH) {
         Field::Read(values) => values,
-        Field::Refused(fault) => return Line::Refused(fault),
+        Field::Refused(fault) => return Time::Refused(fault),
     };
     let weekday = match field_at(s, month.next, field::WEEKDAY) {
         Field::Read(values) => values,
-        Field::Refused(fault) => return Line::Refused(fault),
+        Field::Refused(fault) => return Time::Refused(fault),
     };
     let schedule = Schedule {
         minutes: minute.set,
@@ -90,5 +99,8 @@ pub(crate) fn read(s: &[u8], at: usize) -> Line
             weekdays: weekday.star,
         },
     };
-    line::with_command(s, When::Timed(schedule), weekday.next)
+    Time::Read {
+        when: When::Timed(schedule),
+        next: weekday.next,
+    }
 }

@@ -1,9 +1,16 @@
-// The words that stand for five fields, and `@reboot`.
+// `@reboot`, and the words that stand for five fields. The schedules of those fields stand here as numbers, and are read nowhere.
 ghost use mathlib.Core.Path.{_≡_};
 ghost use mathlib.Core.Bool.{cond};
-ghost use Rattle.crontab.specs.Words.{same, wordOf};
+ghost use Prim.Native.Nat.{_<_};
+ghost use lib.ListN.{length};
+ghost use Rattle.crontab.specs.Words.{same, wordOf, wordAt};
 ghost use Rattle.crontab.specs.declared.word.Word.the-variants.{Known};
-use crate::When;
+use crate::UNKNOWN_WORD;
+use crate::line::Fault;
+use crate::time::Time;
+use crate::time::When;
+use bytes::class::Class;
+use bytes::run::skip;
 use schedule::Schedule;
 use schedule::Stars;
 
@@ -114,7 +121,8 @@ fn known_or(s: &[u8], word: &[u8], when: When, other: Word) -> Word
     other
 }
 
-pub(crate) fn read(s: &[u8]) -> Word
+// What a whole word means.
+fn meaning(s: &[u8]) -> Word
     ensures { λ r. ⌜ r ≡ wordOf (now (s .entry)) ⌝ }
 {
     let w = known_or(s, b"@hourly", When::Timed(HOURLY), Word::Unknown);
@@ -125,4 +133,22 @@ pub(crate) fn read(s: &[u8]) -> Word
     let w = known_or(s, b"@annually", When::Timed(YEARLY), w);
     let w = known_or(s, b"@yearly", When::Timed(YEARLY), w);
     known_or(s, b"@reboot", When::Reboot, w)
+}
+
+// The word that starts at a place: the whole run of non-blank bytes.
+pub(crate) fn read(s: &[u8], at: usize) -> Time
+    requires { ⌜ at < length (now s) ⌝ }
+    ensures { λ r. ⌜ r ≡ wordAt (now (s .entry)) at ⌝ }
+{
+    let end = skip(s, at, Class::Solid);
+    let Word::Known(when) = meaning(&s[at..end]) else {
+        return Time::Refused(Fault {
+            number: UNKNOWN_WORD,
+            column: at + 1,
+        });
+    };
+    Time::Read {
+        when,
+        next: skip(s, end, Class::Blank),
+    }
 }

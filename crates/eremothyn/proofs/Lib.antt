@@ -1,1 +1,1 @@
-pub mod KnownDays
+pub mod Theorems

@@ -3,10 +3,10 @@
 use Prim.Native.Nat.{ℕ, zero, suc, _+_}
 
 -- a refusal is this plus its number
-abbrev pub refused : ℕ
-refused = 4294967296
+abbrev pub refusedFrom : ℕ
+refusedFrom = 4294967296
 
 -- a value is itself where nothing is refused
 unfoldable pub answerOf : ℕ → ℕ → ℕ
 answerOf zero value = value
-answerOf (suc n) value = refused + suc n
+answerOf (suc n) value = refusedFrom + suc n

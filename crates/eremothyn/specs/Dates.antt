@@ -3,11 +3,11 @@
 use Prim.Native.Nat.{ℕ}
 use Rattle.calendar.specs.declared.Date.{Date}
 use Rattle.calendar.specs.Dates.{dateOf, minuteOf}
-use Rattle.eremothyn.specs.declared.dates.Part.{Part}
-use Rattle.eremothyn.specs.declared.dates.Part.the-variants.{Year, Month, Day, Hour, Minute, Weekday}
+use Rattle.eremothyn.specs.declared.dates.DatePart.{DatePart}
+use Rattle.eremothyn.specs.declared.dates.DatePart.the-variants.{Year, Month, Day, Hour, Minute, Weekday}
 use Rattle.eremothyn.specs.Answer.{answerOf}
 
-abbrev pub partIn : Date → Part → ℕ
+abbrev pub partIn : Date → DatePart → ℕ
 partIn d Year = d .year
 partIn d Month = d .month
 partIn d Day = d .day
@@ -16,7 +16,7 @@ partIn d Minute = d .minute
 partIn d Weekday = d .weekday
 
 -- a part of the date of a minute
-unfoldable pub datePart : ℕ → Part → ℕ
+unfoldable pub datePart : ℕ → DatePart → ℕ
 datePart minute part = answerOf (dateOf minute .refusal) (partIn (dateOf minute .date) part)
 
 -- the minute of a date

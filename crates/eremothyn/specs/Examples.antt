@@ -1,107 +1,174 @@
--- What C callers get: paper 01's known days, and small tables, with the numbers that the paper gives.
+-- What C callers get, with the numbers that paper 01 gives: each composed definition by table bytes, as rows of what is asked and what
+-- comes back. 4294967296 and n is refusal n.
 -- Assumes nothing.
 use mathlib.Core.Path.{_≡_, refl}
 use mathlib.Core.List.{List, [], _∷_}
 use Prim.Native.Nat.{ℕ}
+use lib.ListN.{replicate}
 use Rattle.bytes.specs.Texts.{text}
-use Rattle.calendar.specs.Gregorian.{leap, yearDays, monthTable, monthLength, monthDays}
-use Rattle.calendar.specs.Walk.{span, walk}
-use Rattle.calendar.specs.Dates.{weekdayOf, yearOf, monthOf, dateAt, noDate, dateOf, exists, daysBefore, minuteAt, minuteOf}
-use Rattle.bytes.specs.Sets.{hasBit, withBit, put}
-use Rattle.schedule.specs.Match.{bothMust, byDayRule, matchesDay, matchesTime, matchesDate, matches}
-use Rattle.field.specs.Parts.{contains, before, after, afterEach, split}
-use Rattle.field.specs.Numbers.{isDigit, areDigits, valueFrom, numberOf}
-use Rattle.field.specs.Elements.{isElement, ranging, numberOr, endOf, upperOf, afterDash, elementOf}
-use Rattle.field.specs.Names.{lower, alike, named, monthNames, weekdayNames, nameOf, isSunday}
-use Rattle.field.specs.Values.{everyStep, valuesOf, bitOf, including}
-use Rattle.field.specs.Judgement.{outside, judged}
-use Rattle.field.specs.Fields.{areElements, judgedAll, listField, starElement, starField, readField}
-use Rattle.bytes.specs.Classes.{isBlank, isQuote, ofClass}
-use Rattle.bytes.specs.Runs.{run, skipped, trimmed, between}
-use Rattle.crontab.specs.Entries.{withCommand, afterWord, wordEntry}
-use Rattle.crontab.specs.Times.{answered, fieldAt, afterWeekday, afterMonth, afterDay, afterHour, afterMinute, timedEntry}
-use Rattle.crontab.specs.Lines.{onto, linesOf, startsFields, contentFrom, contentOf, readLine}
-use Rattle.crontab.specs.Tables.{noEntries, refusedTable, emptyTable, withEntry, afterLine, withLines, tableOf}
-use Rattle.crontab.specs.Assignments.{quotedAt, nonEmpty, nameAt, closed, valueAt, afterEquals, afterName, settingLine}
-use Rattle.crontab.specs.Words.{same, meanings, meaningIn, wordOf}
-use Rattle.crontab.specs.Answers.{entryIn, entryOf, firesAt, dueAt, dueIn, dueOf}
-use Rattle.crontab.specs.Settings.{refusedSetting, shownAt, settingFrom, settingOf}
-use Rattle.eremothyn.specs.declared.dates.Part.the-variants.{Year, Month, Day, Hour, Minute, Weekday}
-use Rattle.eremothyn.specs.Answer.{answerOf}
+use Rattle.bytes.specs.Rows.{Hold}
+use Rattle.crontab.specs.Items.{itemsOf}
+use Rattle.crontab.specs.Tables.{tableOf}
+use Rattle.crontab.specs.Settings.{settingIn}
+use Rattle.crontab.specs.Firings.{dueIn, nextIn}
+use Rattle.runqueue.specs.Calls.{initTable, tickTable, popTable}
+use Rattle.eremothyn.specs.declared.dates.DatePart.the-variants.{Year, Month, Day, Hour, Minute, Weekday}
+use Rattle.eremothyn.specs.declared.settings.Shown.the-variants.{NameOffset, NameLength, ValueOffset, ValueLength}
 use Rattle.eremothyn.specs.Dates.{datePart, dateMinute}
-use Rattle.eremothyn.specs.Tables.{checkNumber, faultLine, faultColumn}
-use Rattle.eremothyn.specs.Entries.{dueNumber}
-use Rattle.eremothyn.specs.Settings.{nameOffset, nameLength, valueOffset, valueLength}
-use Rattle.eremothyn.specs.Commands.{splitNumber, inputNumber}
+use Rattle.eremothyn.specs.Tables.{checkNumber}
+use Rattle.eremothyn.specs.Entries.{dueNumber, nextNumber}
+use Rattle.eremothyn.specs.Settings.{settingNumber}
+use Rattle.eremothyn.specs.Commands.{splitNumber, splitOf, stdinLength}
 use Rattle.eremothyn.specs.Queue.{tickNumber, popNumber}
-use Rattle.command.specs.declared.Input.the-variants.{None, Length}
-use Rattle.command.specs.declared.SplitAnswer.the-variants as split
-use Rattle.fifo.specs.declared.Ticked.the-variants as tick
-use Rattle.fifo.specs.declared.Popped.the-variants as pop
+use Rattle.eremothyn.specs.Computing.{answering}
 
-allParts : ℕ → List ℕ
+-- ---- dates
+
+abbrev allParts : ℕ → List ℕ
 allParts m = datePart m Year ∷ datePart m Month ∷ datePart m Day ∷ datePart m Hour ∷ datePart m Minute ∷ datePart m Weekday ∷ []
 
--- 9999-12-31 23:59, a Friday, and the minute after it, refused with 14
-last-minute : allParts 4223371679 ≡ 9999 ∷ 12 ∷ 31 ∷ 23 ∷ 59 ∷ 5 ∷ []
-unfolding allParts datePart answerOf dateOf dateAt yearOf monthOf weekdayOf walk yearDays leap monthDays monthLength monthTable
-last-minute = refl
+dates : Hold allParts
+    -- 9999-12-31 23:59, a Friday, and the minute after it, 14
+    ((4223371679, 9999 ∷ 12 ∷ 31 ∷ 23 ∷ 59 ∷ 5 ∷ [])
+    ∷ (4223371680, 4294967310 ∷ 4294967310 ∷ 4294967310 ∷ 4294967310 ∷ 4294967310 ∷ 4294967310 ∷ [])
+    ∷ [])
+unfolding answering
+dates = refl
 
-past-the-end : allParts 4223371680 ≡ 4294967310 ∷ 4294967310 ∷ 4294967310 ∷ 4294967310 ∷ 4294967310 ∷ 4294967310 ∷ []
-unfolding allParts datePart answerOf dateOf dateAt yearOf monthOf weekdayOf walk yearDays leap monthDays monthLength monthTable
-    noDate
-past-the-end = refl
+abbrev midnight : ℕ × ℕ × ℕ → ℕ
+midnight (year, month, day) = dateMinute year month day 0 0
 
--- 29 February of 2096 and of 2100
-leap-day : dateMinute 2096 2 29 0 0 ≡ 66355200
-unfolding dateMinute answerOf minuteOf minuteAt daysBefore exists span yearDays leap monthDays monthLength monthTable
-leap-day = refl
+minutes : Hold midnight
+    -- 29 February of 2096 and of 2100
+    (((2096, 2, 29), 66355200)
+    ∷ ((2100, 2, 29), 4294967310)
+    ∷ [])
+unfolding answering
+minutes = refl
 
-no-leap-day : dateMinute 2100 2 29 0 0 ≡ 4294967310
-unfolding dateMinute answerOf minuteOf minuteAt daysBefore exists span yearDays leap monthDays monthLength monthTable
-no-leap-day = refl
+-- ---- tables: the answer of a check, and the line and the column of its fault
 
--- "no input" and empty input, entry 0 and "nothing waits" are told apart
-told-apart :
-    (_≡_ {A = ℕ} (inputNumber None) 4294967296) × (_≡_ {A = ℕ} (inputNumber (Length 0)) 0)
-    × (_≡_ {A = ℕ} (popNumber pop.Nothing) 4294967296) × (_≡_ {A = ℕ} (popNumber (pop.Entry 0)) 0)
-unfolding inputNumber popNumber
-told-apart = (refl, refl, refl, refl)
+abbrev checked : List ℕ → List ℕ
+checked s = let t = tableOf s in checkNumber t ∷ t .line ∷ t .column ∷ []
 
-refused-numbers :
-    (_≡_ {A = ℕ} (splitNumber (split.Refused 18)) 4294967314) × (_≡_ {A = ℕ} (tickNumber (tick.Refused 14)) 4294967310)
-    × (_≡_ {A = ℕ} (popNumber (pop.Refused 28)) 4294967324)
-unfolding splitNumber tickNumber popNumber
-refused-numbers = (refl, refl, refl)
-
--- Small tables, by their bytes.
-by-bytes :
-    -- two entries: due at minute 60, not at 61, and a boot job never; entry 2 is 13, a minute off the calendar 14
-    (checkNumber (text "@reboot x\n0 * * * * y") ≡ 2)
-    × (dueNumber (dueOf (text "@reboot x\n0 * * * * y") 1 60) ≡ 1)
-    × (dueNumber (dueOf (text "@reboot x\n0 * * * * y") 1 61) ≡ 0)
-    × (dueNumber (dueOf (text "@reboot x\n0 * * * * y") 0 60) ≡ 0)
-    × (dueNumber (dueOf (text "@reboot x\n0 * * * * y") 2 60) ≡ 4294967309)
-    × (dueNumber (dueOf (text "@reboot x\n0 * * * * y") 1 4223371680) ≡ 4294967310)
-    × (faultLine (text "@reboot x\n0 * * * * y") ≡ 0)
-    × (faultColumn (text "@reboot x\n0 * * * * y") ≡ 0)
+tables : Hold checked
+    ((text "@reboot x\n0 * * * * y", 2 ∷ 0 ∷ 0 ∷ [])
     -- 60 as a minute, on line 2 at column 3: 6
-    × (checkNumber (text "\n  60 0 * * * x") ≡ 4294967302)
-    × (faultLine (text "\n  60 0 * * * x") ≡ 2)
-    × (faultColumn (text "\n  60 0 * * * x") ≡ 3)
-    -- a setting on line 2: where its name and its value stand, without the quotes; line 1 is 19
-    × (nameOffset (settingOf (text "\nA = \"b c\"") 2) ≡ 1)
-    × (nameLength (settingOf (text "\nA = \"b c\"") 2) ≡ 1)
-    × (valueOffset (settingOf (text "\nA = \"b c\"") 2) ≡ 6)
-    × (valueLength (settingOf (text "\nA = \"b c\"") 2) ≡ 3)
-    × (valueLength (settingOf (text "\nA = \"b c\"") 1) ≡ 4294967315)
-unfolding contains before after afterEach split isDigit areDigits valueFrom numberOf isElement ranging numberOr endOf upperOf
-    afterDash elementOf lower alike named monthNames weekdayNames nameOf isSunday everyStep valuesOf bitOf including outside
-    judged areElements judgedAll listField starElement starField readField isBlank isQuote ofClass run skipped trimmed between
-    withCommand afterWord wordEntry answered fieldAt afterWeekday afterMonth afterDay afterHour afterMinute timedEntry onto
-    linesOf startsFields contentFrom contentOf readLine noEntries refusedTable emptyTable withEntry afterLine withLines tableOf
-    quotedAt nonEmpty nameAt closed valueAt afterEquals afterName settingLine same meanings meaningIn wordOf entryIn entryOf
-    firesAt dueAt dueIn dueOf refusedSetting shownAt settingFrom settingOf hasBit withBit put bothMust byDayRule matchesDay
-    matchesTime matchesDate matches checkNumber faultLine faultColumn dueNumber nameOffset nameLength valueOffset valueLength
-    answerOf dateAt yearOf monthOf weekdayOf walk yearDays leap monthDays monthLength monthTable
-by-bytes = (refl, refl, refl, refl, refl, refl, refl, refl, refl, refl, refl, refl, refl, refl, refl, refl)
+    ∷ (text "\n  60 0 * * * x", 4294967302 ∷ 2 ∷ 3 ∷ [])
+    ∷ [])
+unfolding answering
+tables = refl
+
+-- ---- entries: one at boot, and one at the hour
+
+abbrev pair : List ℕ
+pair = text "@reboot x\n0 * * * * y\n"
+
+abbrev dueOn : List ℕ × ℕ × ℕ → ℕ
+dueOn (s, i, m) = dueNumber (dueIn (tableOf s) i m)
+
+due : Hold dueOn
+    -- at minute 60, not at 61, and a boot job never
+    (((pair, 1, 60), 1)
+    ∷ ((pair, 1, 61), 0)
+    ∷ ((pair, 0, 60), 0)
+    -- 14, 13, and a table that is refused
+    ∷ ((pair, 1, 4223371680), 4294967310)
+    ∷ ((pair, 0, 4223371680), 4294967310)
+    ∷ ((pair, 2, 4223371680), 4294967309)
+    ∷ ((text "60", 2, 60), 4294967302)
+    ∷ [])
+unfolding answering
+due = refl
+
+abbrev nextOn : List ℕ × ℕ × ℕ → ℕ
+nextOn (s, i, m) = nextNumber (nextIn (tableOf s) i m)
+
+next : Hold nextOn
+    -- 15 of a boot job; 14 comes before it, 13 before 14, and a refused table before all
+    (((pair, 0, 60), 4294967311)
+    ∷ ((pair, 0, 4223371680), 4294967310)
+    ∷ ((pair, 1, 4223371680), 4294967310)
+    ∷ ((pair, 2, 4223371680), 4294967309)
+    ∷ ((text "60", 2, 4223371680), 4294967302)
+    ∷ [])
+unfolding answering
+next = refl
+
+-- ---- settings, by their line: the name's place and length, and the value's
+
+abbrev shown : List ℕ × ℕ → List ℕ
+shown (s, n) =
+    let found = settingIn (itemsOf s) n in
+    settingNumber found NameOffset ∷ settingNumber found NameLength ∷ settingNumber found ValueOffset ∷ settingNumber found ValueLength ∷ []
+
+settings : Hold shown
+    -- on line 2, without the quotes
+    (((text "\nA = \"b c\"", 2), 1 ∷ 1 ∷ 6 ∷ 3 ∷ [])
+    -- an empty value, behind an entry
+    ∷ ((text "@reboot x\nA=\"\"\nB=c", 2), 10 ∷ 1 ∷ 13 ∷ 0 ∷ [])
+    -- line 1, line 0 and line 3 are 19; a refused table is refused here too
+    ∷ ((text "\nA = \"b c\"", 1), 4294967315 ∷ 4294967315 ∷ 4294967315 ∷ 4294967315 ∷ [])
+    ∷ ((text "\nA = \"b c\"", 0), 4294967315 ∷ 4294967315 ∷ 4294967315 ∷ 4294967315 ∷ [])
+    ∷ ((text "\nA = \"b c\"", 3), 4294967315 ∷ 4294967315 ∷ 4294967315 ∷ 4294967315 ∷ [])
+    ∷ ((text "A=b\n60", 1), 4294967302 ∷ 4294967302 ∷ 4294967302 ∷ 4294967302 ∷ [])
+    ∷ [])
+unfolding answering
+settings = refl
+
+-- ---- commands: with buffers of four bytes, the shell line's length, both buffers, and the input's length
+
+abbrev commands : List ℕ
+commands = text "A=b\n@reboot a%b\\%c\n@reboot d\n@reboot e%\n@reboot fghij"
+
+abbrev buffer : List ℕ
+buffer = text "----"
+
+abbrev splitAt : ℕ → ℕ × List ℕ × List ℕ × ℕ
+splitAt i =
+    let r = splitOf commands i buffer buffer in
+    (splitNumber (r .answer), r .shell, r .input, stdinLength commands i)
+
+splits : Hold splitAt
+    -- on line 2, with an input
+    ((0, (1, text "a---", text "b%c-", 3))
+    -- no input, and an empty one
+    ∷ (1, (1, text "d---", buffer, 4294967296))
+    ∷ (2, (1, text "e---", buffer, 0))
+    -- too long for its buffer: 18; no such entry: 13
+    ∷ (3, (4294967314, buffer, buffer, 4294967296))
+    ∷ (4, (4294967309, buffer, buffer, 4294967309))
+    ∷ [])
+unfolding answering
+splits = refl
+
+-- ---- the line of waiting jobs
+
+-- what is asked of a room
+data Ask : Type 0 where
+  init : Ask
+  tick : ℕ → Ask
+  pop : Ask
+
+-- one after the other, each with the room that the last one left
+run : List ℕ → List ℕ → List Ask → List ℕ
+run table room [] = []
+run table room (init ∷ asks) = let s = initTable (tableOf table) room in tickNumber (s .answer) ∷ run table (s .room) asks
+run table room (tick minute ∷ asks) = let s = tickTable (tableOf table) minute room in tickNumber (s .answer) ∷ run table (s .room) asks
+run table room (pop ∷ asks) = let s = popTable (tableOf table) room in popNumber (s .answer) ∷ run table (s .room) asks
+
+-- "Whole run: table `* * * * * a`, `@reboot b`, `0 * * * * c`. Request: entry 1. Announce 59: 1 joined. Announce 60: 1 joined. Requests:
+-- entry 0, entry 2, nothing."
+whole-run :
+    run (text "* * * * * a\n@reboot b\n0 * * * * c\n") (replicate 88 7) (init ∷ pop ∷ tick 59 ∷ tick 60 ∷ pop ∷ pop ∷ pop ∷ [])
+    ≡ 1 ∷ 1 ∷ 1 ∷ 1 ∷ 0 ∷ 2 ∷ 4294967296 ∷ []
+unfolding run answering
+whole-run = refl
+
+-- a refused table comes before 28, and 28 before 14
+refused-run :
+    (run (text "60") (replicate 7 7) (init ∷ tick 4223371680 ∷ pop ∷ []) ≡ 4294967302 ∷ 4294967302 ∷ 4294967302 ∷ [])
+    × (run (text "@reboot x") (replicate 3 0) (init ∷ tick 4223371680 ∷ pop ∷ []) ≡ 4294967324 ∷ 4294967324 ∷ 4294967324 ∷ [])
+    × (run (text "@reboot x") (replicate 4 0) (tick 4223371680 ∷ pop ∷ []) ≡ 4294967310 ∷ 4294967296 ∷ [])
+unfolding run answering
+refused-run = (refl, refl, refl)

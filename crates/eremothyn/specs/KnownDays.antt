@@ -5,11 +5,13 @@ use mathlib.Core.Path.{_≡_}
 use mathlib.Core.Bool.{true, false}
 use mathlib.Core.List.{[], _∷_}
 use Rattle.bytes.specs.Texts.{text}
+use Rattle.bytes.specs.Sets.{setOf}
 use Rattle.calendar.specs.Dates.{dateOf, minuteOf}
 use Rattle.field.specs.declared.Answer.the-variants.{Values, Refused}
 use Rattle.field.specs.Limits.{minuteLimits, monthLimits, weekdayLimits}
 use Rattle.field.specs.Fields.{readField}
-use Rattle.crontab.specs.Answers.{nextOf}
+use Rattle.crontab.specs.Tables.{tableOf}
+use Rattle.crontab.specs.Firings.{nextIn}
 use Rattle.command.specs.Parts.{given, shellLine, inputOf}
 use Rattle.eremothyn.specs.Entries.{nextNumber}
 
@@ -23,26 +25,26 @@ KnownDays =
     -- 2100-02-29: 14
     × (minuteOf 2100 2 29 0 0 .refusal ≡ 14)
     -- `0 0 29 2 *` after 66,355,200
-    × (nextNumber (nextOf (text "0 0 29 2 * a") 0 66355200) ≡ 70561440)
+    × (nextNumber (nextIn (tableOf (text "0 0 29 2 * a")) 0 66355200) ≡ 70561440)
     -- `30 4 1,15 * 5` after 0
-    × (nextNumber (nextOf (text "30 4 1,15 * 5 a") 0 0) ≡ 270)
+    × (nextNumber (nextIn (tableOf (text "30 4 1,15 * 5 a")) 0 0) ≡ 270)
     -- `30 4 1,15 * 5` after 270
-    × (nextNumber (nextOf (text "30 4 1,15 * 5 a") 0 270) ≡ 1710)
+    × (nextNumber (nextIn (tableOf (text "30 4 1,15 * 5 a")) 0 270) ≡ 1710)
     -- `0 0 30 2 *`, never: 16
-    × (nextNumber (nextOf (text "0 0 30 2 * a") 0 0) ≡ 4294967312)
+    × (nextNumber (nextIn (tableOf (text "0 0 30 2 * a")) 0 0) ≡ 4294967312)
     -- `0 0 30 2 1` after 0
-    × (nextNumber (nextOf (text "0 0 30 2 1 a") 0 0) ≡ 46080)
+    × (nextNumber (nextIn (tableOf (text "0 0 30 2 1 a")) 0 0) ≡ 46080)
     -- `0 0 31 12 *` after 4,223,371,679, past the end: 17
-    × (nextNumber (nextOf (text "0 0 31 12 * a") 0 4223371679) ≡ 4294967313)
+    × (nextNumber (nextIn (tableOf (text "0 0 31 12 * a")) 0 4223371679) ≡ 4294967313)
     -- `*/2` as month: 1, 3, 5, 7, 9, 11; it begins with a star
-    × (readField monthLimits 1 (text "*/2") ≡ Values 2730 true)
+    × (readField monthLimits 1 (text "*/2") ≡ Values (setOf (1 ∷ 3 ∷ 5 ∷ 7 ∷ 9 ∷ 11 ∷ [])) true)
     -- `10-10` is 10; `10-9` is 7; `5/2` and `*,5` are 5
-    × (readField minuteLimits 1 (text "10-10") ≡ Values 1024 false)
+    × (readField minuteLimits 1 (text "10-10") ≡ Values (setOf (10 ∷ [])) false)
     × (readField minuteLimits 1 (text "10-9") ≡ Refused 7 1)
     × (readField minuteLimits 1 (text "5/2") ≡ Refused 5 1)
     × (readField minuteLimits 1 (text "*,5") ≡ Refused 5 1)
     -- `5-7` as weekday: Friday, Saturday, Sunday
-    × (readField weekdayLimits 1 (text "5-7") ≡ Values 97 false)
+    × (readField weekdayLimits 1 (text "5-7") ≡ Values (setOf (5 ∷ 6 ∷ 0 ∷ [])) false)
     -- command `a\%b%c%%d%`: shell line `a%b`; input `c`, newline, newline, `d`, newline
     × (shellLine (text "a\\%b%c%%d%") ≡ text "a%b")
     × (inputOf (text "a\\%b%c%%d%") ≡ given (text "c\n\nd\n"))

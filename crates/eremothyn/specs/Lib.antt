@@ -5,5 +5,6 @@ pub mod Entries
 pub mod Commands
 pub mod Settings
 pub mod Queue
+pub mod Computing
 pub mod Examples
 pub mod KnownDays

@@ -6,13 +6,13 @@ use Rattle.fifo.specs.declared.Ticked.{Ticked}
 use Rattle.fifo.specs.declared.Ticked.the-variants as tick
 use Rattle.fifo.specs.declared.Popped.{Popped}
 use Rattle.fifo.specs.declared.Popped.the-variants as pop
-use Rattle.eremothyn.specs.Answer.{refused}
+use Rattle.eremothyn.specs.Answer.{refusedFrom}
 
 unfoldable pub tickNumber : Ticked → ℕ
 tickNumber (tick.Joined n) = n
-tickNumber (tick.Refused number) = refused + number
+tickNumber (tick.Refused number) = refusedFrom + number
 
 unfoldable pub popNumber : Popped → ℕ
 popNumber (pop.Entry e) = e
-popNumber pop.Nothing = refused
-popNumber (pop.Refused number) = refused + number
+popNumber pop.Nothing = refusedFrom
+popNumber (pop.Refused number) = refusedFrom + number

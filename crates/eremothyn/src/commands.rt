@@ -4,7 +4,7 @@ ghost use Rattle.eremothyn.specs.Commands.{splitNumber, inputNumber, spl
 use crate::answer::REFUSED;
 use command::Input;
 use command::SplitAnswer;
-use crontab::EntryAnswer;
+use crontab::table::EntryAnswer;
 
 // The length of the shell line, or the refusal.
 fn split_number(split: SplitAnswer) -> u64
@@ -37,10 +37,10 @@ pub extern "C" fn eremothyn_split_command(
     ensures shell { λ _. ⌜ now (shell .exit) ≡ splitOf (now (table .entry)) entry (now (shell .entry)) (now (input .entry)) .shell ⌝ }
     ensures input { λ _. ⌜ now (input .exit) ≡ splitOf (now (table .entry)) entry (now (shell .entry)) (now (input .entry)) .input ⌝ }
 {
-    match crontab::find_entry(table, entry) {
+    match crontab::table::find_entry(table, entry) {
         EntryAnswer::Found(found) => {
-            let start = found.start;
-            let end = found.end;
+            let start = found.start as usize;
+            let end = found.end as usize;
             split_number(command::split(&table[start..end], shell, input))
         }
         EntryAnswer::Refused(number) => REFUSED + number as u64,
@@ -51,10 +51,10 @@ pub extern "C" fn eremothyn_split_command(
 pub extern "C" fn eremothyn_stdin_length(table: &[u8], entry: u64) -> u64
     ensures { λ r. ⌜ r ≡ stdinLength (now (table .entry)) entry ⌝ }
 {
-    match crontab::find_entry(table, entry) {
+    match crontab::table::find_entry(table, entry) {
         EntryAnswer::Found(found) => {
-            let start = found.start;
-            let end = found.end;
+            let start = found.start as usize;
+            let end = found.end as usize;
             let lengths = command::measure(&table[start..end]);
             let input = lengths.input;
             input_number(input)

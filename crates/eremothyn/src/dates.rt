@@ -18,7 +18,7 @@ pub extern "C" fn eremothyn_minute_of_date(
     answer(found.refusal, found.minute)
 }
 
-enum Part {
+enum DatePart {
     Year,
     Month,
     Day,
@@ -27,20 +27,20 @@ enum Part {
     Weekday,
 }
 
-fn part_in(date: Date, part: Part) -> u64
+fn part_in(date: Date, part: DatePart) -> u64
     ensures { λ r. ⌜ r ≡ partIn date part ⌝ }
 {
     match part {
-        Part::Year => date.year,
-        Part::Month => date.month,
-        Part::Day => date.day,
-        Part::Hour => date.hour,
-        Part::Minute => date.minute,
-        Part::Weekday => date.weekday,
+        DatePart::Year => date.year,
+        DatePart::Month => date.month,
+        DatePart::Day => date.day,
+        DatePart::Hour => date.hour,
+        DatePart::Minute => date.minute,
+        DatePart::Weekday => date.weekday,
     }
 }
 
-fn date_part(minute: u64, part: Part) -> u64
+fn date_part(minute: u64, part: DatePart) -> u64
     ensures { λ r. ⌜ r ≡ datePart minute part ⌝ }
 {
     let found = calendar::date_of(minute);
@@ -50,42 +50,42 @@ fn date_part(minute: u64, part: Part) -> u64
 
 #[no_mangle]
 pub extern "C" fn eremothyn_year(minute: u64) -> u64
-    ensures { λ r. ⌜ r ≡ datePart minute Part.Year ⌝ }
+    ensures { λ r. ⌜ r ≡ datePart minute DatePart.Year ⌝ }
 {
-    date_part(minute, Part::Year)
+    date_part(minute, DatePart::Year)
 }
 
 #[no_mangle]
 pub extern "C" fn eremothyn_month(minute: u64) -> u64
-    ensures { λ r. ⌜ r ≡ datePart minute Part.Month ⌝ }
+    ensures { λ r. ⌜ r ≡ datePart minute DatePart.Month ⌝ }
 {
-    date_part(minute, Part::Month)
+    date_part(minute, DatePart::Month)
 }
 
 #[no_mangle]
 pub extern "C" fn eremothyn_day(minute: u64) -> u64
-    ensures { λ r. ⌜ r ≡ datePart minute Part.Day ⌝ }
+    ensures { λ r. ⌜ r ≡ datePart minute DatePart.Day ⌝ }
 {
-    date_part(minute, Part::Day)
+    date_part(minute, DatePart::Day)
 }
 
 #[no_mangle]
 pub extern "C" fn eremothyn_hour(minute: u64) -> u64
-    ensures { λ r. ⌜ r ≡ datePart minute Part.Hour ⌝ }
+    ensures { λ r. ⌜ r ≡ datePart minute DatePart.Hour ⌝ }
 {
-    date_part(minute, Part::Hour)
+    date_part(minute, DatePart::Hour)
 }
 
 #[no_mangle]
 pub extern "C" fn eremothyn_minute_of_hour(minute: u64) -> u64
-    ensures { λ r. ⌜ r ≡ datePart minute Part.Minute ⌝ }
+    ensures { λ r. ⌜ r ≡ datePart minute DatePart.Minute ⌝ }
 {
-    date_part(minute, Part::Minute)
+    date_part(minute, DatePart::Minute)
 }
 
 #[no_mangle]
 pub extern "C" fn eremothyn_weekday(minute: u64) -> u64
-    ensures { λ r. ⌜ r ≡ datePart minute Part.Weekday ⌝ }
+    ensures { λ r. ⌜ r ≡ datePart minute DatePart.Weekday ⌝ }
 {
-    date_part(minute, Part::Weekday)
+    date_part(minute, DatePart::Weekday)
 }

@@ -1,20 +1,18 @@
 // Entries: whether one is due, and when it fires next.
 ghost use mathlib.Core.Path.{_≡_};
-ghost use Rattle.crontab.specs.Answers.{dueOf, nextOf};
+ghost use Rattle.crontab.specs.Tables.{tableOf};
+ghost use Rattle.crontab.specs.Firings.{dueIn, nextIn};
 ghost use Rattle.eremothyn.specs.Entries.{dueNumber, nextNumber};
 use crate::answer::REFUSED;
-use crontab::DueAnswer;
-use crontab::NextAnswer;
-
-const NEVER: u64 = 16;
-
-const PAST_THE_END: u64 = 17;
+use crontab::firing;
+use crontab::firing::DueAnswer;
+use crontab::firing::NextAnswer;
 
 #[no_mangle]
 pub extern "C" fn eremothyn_due(table: &[u8], entry: u64, minute: u64) -> u64
-    ensures { λ r. ⌜ r ≡ dueNumber (dueOf (now (table .entry)) entry minute) ⌝ }
+    ensures { λ r. ⌜ r ≡ dueNumber (dueIn (tableOf (now (table .entry))) entry minute) ⌝ }
 {
-    match crontab::due(table, entry, minute) {
+    match firing::due(table, entry, minute) {
         DueAnswer::Yes => 1,
         DueAnswer::No => 0,
         DueAnswer::Refused(number) => REFUSED + number as u64,
@@ -23,12 +21,10 @@ pub extern "C" fn eremothyn_due(table: &[u8], entry: u64, minute: u64) -> u64
 
 #[no_mangle]
 pub extern "C" fn eremothyn_next(table: &[u8], entry: u64, minute: u64) -> u64
-    ensures { λ r. ⌜ r ≡ nextNumber (nextOf (now (table .entry)) entry minute) ⌝ }
+    ensures { λ r. ⌜ r ≡ nextNumber (nextIn (tableOf (now (table .entry))) entry minute) ⌝ }
 {
-    match crontab::next(table, entry, minute) {
+    match firing::next(table, entry, minute) {
         NextAnswer::At(m) => m,
-        NextAnswer::Never => REFUSED + NEVER,
-        NextAnswer::PastEnd => REFUSED + PAST_THE_END,
         NextAnswer::Refused(number) => REFUSED + number as u64,
     }
 }

@@ -1,6 +1,7 @@
 // The run queue: the line of waiting jobs of a table, in a room that the caller lends.
 ghost use mathlib.Core.Path.{_≡_};
-ghost use Rattle.runqueue.specs.Calls.{initOf, tickOf, popOf};
+ghost use Rattle.crontab.specs.Tables.{tableOf};
+ghost use Rattle.runqueue.specs.Calls.{initTable, tickTable, popTable};
 ghost use Rattle.eremothyn.specs.Queue.{tickNumber, popNumber};
 use crate::answer::REFUSED;
 use fifo::Popped;
@@ -29,24 +30,24 @@ fn popped_number(popped: Popped) -> u64
 
 #[no_mangle]
 pub extern "C" fn eremothyn_queue_init(table: &[u8], room: &mut [u8]) -> u64
-    ensures answer { λ r. ⌜ r ≡ tickNumber (initOf (now (table .entry)) (now (room .entry)) .answer) ⌝ }
-    ensures room { λ _. ⌜ now (room .exit) ≡ initOf (now (table .entry)) (now (room .entry)) .room ⌝ }
+    ensures answer { λ r. ⌜ r ≡ tickNumber (initTable (tableOf (now (table .entry))) (now (room .entry)) .answer) ⌝ }
+    ensures room { λ _. ⌜ now (room .exit) ≡ initTable (tableOf (now (table .entry))) (now (room .entry)) .room ⌝ }
 {
     ticked_number(runqueue::init(table, room))
 }
 
 #[no_mangle]
 pub extern "C" fn eremothyn_queue_tick(table: &[u8], room: &mut [u8], minute: u64) -> u64
-    ensures answer { λ r. ⌜ r ≡ tickNumber (tickOf (now (table .entry)) minute (now (room .entry)) .answer) ⌝ }
-    ensures room { λ _. ⌜ now (room .exit) ≡ tickOf (now (table .entry)) minute (now (room .entry)) .room ⌝ }
+    ensures answer { λ r. ⌜ r ≡ tickNumber (tickTable (tableOf (now (table .entry))) minute (now (room .entry)) .answer) ⌝ }
+    ensures room { λ _. ⌜ now (room .exit) ≡ tickTable (tableOf (now (table .entry))) minute (now (room .entry)) .room ⌝ }
 {
     ticked_number(runqueue::tick(table, room, minute))
 }
 
 #[no_mangle]
 pub extern "C" fn eremothyn_queue_pop(table: &[u8], room: &mut [u8]) -> u64
-    ensures answer { λ r. ⌜ r ≡ popNumber (popOf (now (table .entry)) (now (room .entry)) .answer) ⌝ }
-    ensures room { λ _. ⌜ now (room .exit) ≡ popOf (now (table .entry)) (now (room .entry)) .room ⌝ }
+    ensures answer { λ r. ⌜ r ≡ popNumber (popTable (tableOf (now (table .entry))) (now (room .entry)) .answer) ⌝ }
+    ensures room { λ _. ⌜ now (room .exit) ≡ popTable (tableOf (now (table .entry))) (now (room .entry)) .room ⌝ }
 {
     popped_number(runqueue::pop(table, room))
 }

@@ -1,50 +1,66 @@
 // Settings, by the number of their line: where the name and the value stand in the table.
 ghost use mathlib.Core.Path.{_≡_};
 ghost use Prim.Native.Nat.{_≤_};
-ghost use Rattle.crontab.specs.Settings.{settingOf};
-ghost use Rattle.eremothyn.specs.Settings.{lengthOf, nameOffset, nameLength, valueOffset, valueLength};
+ghost use Rattle.crontab.specs.Items.{itemsOf};
+ghost use Rattle.crontab.specs.Settings.{settingIn};
+ghost use Rattle.eremothyn.specs.Settings.{shownIn, settingNumber};
 use crate::answer::answer;
-use crontab::Part;
+use crontab::setting;
+use crontab::setting::SettingAnswer;
 
-fn length(part: Part) -> u64
-    requires { ⌜ part .start ≤ part .end ⌝ }
-    ensures { λ r. ⌜ r ≡ lengthOf part ⌝ }
+// What is asked of a setting.
+enum Shown {
+    NameOffset,
+    NameLength,
+    ValueOffset,
+    ValueLength,
+}
+
+fn shown_in(found: SettingAnswer, what: Shown) -> u64
+    requires { ⌜ (found .name .start ≤ found .name .end) × (found .value .start ≤ found .value .end) ⌝ }
+    ensures { λ r. ⌜ r ≡ shownIn found what ⌝ }
 {
-    (part.end - part.start) as u64
+    let name = found.name;
+    let value = found.value;
+    match what {
+        Shown::NameOffset => name.start as u64,
+        Shown::NameLength => (name.end - name.start) as u64,
+        Shown::ValueOffset => value.start as u64,
+        Shown::ValueLength => (value.end - value.start) as u64,
+    }
+}
+
+fn setting_number(table: &[u8], line: u64, what: Shown) -> u64
+    ensures { λ r. ⌜ r ≡ settingNumber (settingIn (itemsOf (now (table .entry))) line) what ⌝ }
+{
+    let found = setting::read(table, line);
+    answer(found.refusal, shown_in(found, what))
 }
 
 #[no_mangle]
 pub extern "C" fn eremothyn_setting_name_offset(table: &[u8], line: u64) -> u64
-    ensures { λ r. ⌜ r ≡ nameOffset (settingOf (now (table .entry)) line) ⌝ }
+    ensures { λ r. ⌜ r ≡ settingNumber (settingIn (itemsOf (now (table .entry))) line) Shown.NameOffset ⌝ }
 {
-    let found = crontab::setting(table, line);
-    let name = found.name;
-    answer(found.refusal, name.start as u64)
+    setting_number(table, line, Shown::NameOffset)
 }
 
 #[no_mangle]
 pub extern "C" fn eremothyn_setting_name_length(table: &[u8], line: u64) -> u64
-    ensures { λ r. ⌜ r ≡ nameLength (settingOf (now (table .entry)) line) ⌝ }
+    ensures { λ r. ⌜ r ≡ settingNumber (settingIn (itemsOf (now (table .entry))) line) Shown.NameLength ⌝ }
 {
-    let found = crontab::setting(table, line);
-    let name = found.name;
-    answer(found.refusal, length(name))
+    setting_number(table, line, Shown::NameLength)
 }
 
 #[no_mangle]
 pub extern "C" fn eremothyn_setting_value_offset(table: &[u8], line: u64) -> u64
-    ensures { λ r. ⌜ r ≡ valueOffset (settingOf (now (table .entry)) line) ⌝ }
+    ensures { λ r. ⌜ r ≡ settingNumber (settingIn (itemsOf (now (table .entry))) line) Shown.ValueOffset ⌝ }
 {
-    let found = crontab::setting(table, line);
-    let value = found.value;
-    answer(found.refusal, value.start as u64)
+    setting_number(table, line, Shown::ValueOffset)
 }
 
 #[no_mangle]
 pub extern "C" fn eremothyn_setting_value_length(table: &[u8], line: u64) -> u64
-    ensures { λ r. ⌜ r ≡ valueLength (settingOf (now (table .entry)) line) ⌝ }
+    ensures { λ r. ⌜ r ≡ settingNumber (settingIn (itemsOf (now (table .entry))) line) Shown.ValueLength ⌝ }
 {
-    let found = crontab::setting(table, line);
-    let value = found.value;
-    answer(found.refusal, length(value))
+    setting_number(table, line, Shown::ValueLength)
 }

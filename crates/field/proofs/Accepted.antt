@@ -1,7 +1,7 @@
 -- A field that is answered with values: each of its elements lies within the limits, and the set is what they put into it.
 -- Assumes nothing.
 use mathlib.Core.Path.{_≡_, refl, sym, _∙_}
-use mathlib.Core.Bool.{Bool, true, false, cond, _&&_, _||_}
+use mathlib.Core.Bool.{Bool, true, false, cond, _||_}
 use mathlib.Mathlib.Data.Bool.Basic.{or-eq-false-eq-eq-false-and-eq-false}
 use mathlib.Core.List.{List, [], _∷_, map}
 use Prim.Native.Nat.{ℕ, _+_, _≤_, _<_}
@@ -9,7 +9,6 @@ use native.Mathlib.Omega.{arith}
 use lib.ListN.{length}
 use lib.Dec.{ltb, eqb}
 use borrow.Author.Tests.{ltb-false, eqb-false}
-use Rattle.field.specs.declared.Names.{Names}
 use Rattle.field.specs.declared.Limits.{Limits}
 use Rattle.field.specs.declared.Answer.{Answer}
 use Rattle.field.specs.declared.Answer.the-variants.{Values, Refused}
@@ -18,6 +17,7 @@ use Rattle.field.specs.declared.element.Element.the-variants.{Range, Mal
 use Rattle.field.specs.Parts.{split}
 use Rattle.field.specs.Elements.{elementOf}
 use Rattle.field.specs.Values.{valuesOf, including}
+use Rattle.field.specs.Refusals.{malformed, outOfLimits, reversed, stepZero}
 use Rattle.field.specs.Judgement.{outside, judged}
 use Rattle.field.specs.Fields.{areElements, judgedAll, listField, starElement, starField, readField}
 use Rattle.field.specs.Members.{isStar, elementsOf}
@@ -69,7 +69,7 @@ module _ (l : Limits) where
       go (outside l low || outside l high) (ltb high low) (eqb step 0) refl refl refl q
     where
       go : (o r z : Bool) → (outside l low || outside l high) ≡ o → ltb high low ≡ r → eqb step 0 ≡ z
-          → cond o (Refused 6 column) (cond r (Refused 7 column) (cond z (Refused 8 column) (Values (including l set (valuesOf low high step)) star)))
+          → cond o (Refused outOfLimits column) (cond r (Refused reversed column) (cond z (Refused stepZero column) (Values (including l set (valuesOf low high step)) star)))
           ≡ Values set' star'
           → Gathered l set star (Range low high step ∷ []) set' star'
       go true r z a b c q = absurd (clash q)
@@ -118,7 +118,7 @@ module _ (l : Limits) where
   read-values column (b ∷ s) {set} {star} q = go (eqb b 42) (areElements (l .names) (split 44 (b ∷ s))) q
     where
       go : (t u : Bool)
-          → cond t (judged l column (Values 0 true) (starElement l s)) (cond u (judgedAll l column (Values 0 false) (split 44 (b ∷ s))) (Refused 5 column))
+          → cond t (judged l column (Values 0 true) (starElement l s)) (cond u (judgedAll l column (Values 0 false) (split 44 (b ∷ s))) (Refused malformed column))
           ≡ Values set star
           → Gathered l 0 t (cond t (starElement l s ∷ []) (map (elementOf (l .names)) (split 44 (b ∷ s)))) set star
       go true u q = judged-values column 0 true (starElement l s) q

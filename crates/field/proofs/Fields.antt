@@ -14,6 +14,7 @@ use Rattle.field.specs.declared.number.Number.the-variants.{Value}
 use Rattle.field.specs.declared.element.Element.the-variants.{Range, Malformed}
 use Rattle.field.specs.Numbers.{numberOf}
 use Rattle.field.specs.Elements.{ranging}
+use Rattle.field.specs.Refusals.{malformed}
 use Rattle.field.specs.Judgement.{judged}
 use Rattle.field.specs.Fields.{listField, starElement, starField, readField}
 
@@ -41,7 +42,7 @@ module _ (l : Limits) where
   star-other (b ∷ s) h e = rw (ne-eqb b 47 e)
 
 module _ (l : Limits) (column : ℕ) where
-  pub read-empty : (s : List ℕ) → length s ≡ 0 → readField l column s ≡ Refused 5 column
+  pub read-empty : (s : List ℕ) → length s ≡ 0 → readField l column s ≡ Refused malformed column
   unfolding readField
   read-empty [] e = refl
   read-empty (b ∷ s) e = absurd (omega arith)

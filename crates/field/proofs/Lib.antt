@@ -6,7 +6,7 @@ pub mod Steps
 pub mod Runs
 pub mod Lists
 pub mod Fields
+pub mod Refusals
 pub mod Accepted
 pub mod Members
 pub mod Theorems
-pub mod Refusals

@@ -16,6 +16,7 @@ use Rattle.field.specs.declared.Answer.{Answer}
 use Rattle.field.specs.declared.Answer.the-variants.{Values, Refused}
 use Rattle.field.specs.Parts.{contains, before, after, split}
 use Rattle.field.specs.Elements.{isElement, elementOf}
+use Rattle.field.specs.Refusals.{malformed}
 use Rattle.field.specs.Judgement.{judged}
 use Rattle.field.specs.Fields.{areElements, judgedAll, listField}
 use Rattle.field.proofs.Parts.{split-first}
@@ -41,7 +42,7 @@ whole-none l column answer other = refl
 module _ (l : Limits) (column : ℕ) (s : List ℕ) where
   -- the list from `at` on, with the answer so far
   pub reading : ℕ → Answer → Answer
-  reading at answer = whole l (column + at) answer (split 44 (drop at s)) (Refused 5 column)
+  reading at answer = whole l (column + at) answer (split 44 (drop at s)) (Refused malformed column)
 
   pub reading-starts : reading 0 (Values 0 false) ≡ listField l column s
   unfolding reading whole listField
@@ -62,7 +63,7 @@ module _ (l : Limits) (column : ℕ) (s : List ℕ) where
     parts : split 44 (drop at s) ≡ part ∷ cond (contains 44 (drop at s)) (split 44 (after 44 (drop at s))) []
     parts = split-first 44 (drop at s) ∙ rw here
 
-    pub reading-other : isElement (elementOf (l .names) part) ≡ false → reading at answer ≡ Refused 5 column
+    pub reading-other : isElement (elementOf (l .names) part) ≡ false → reading at answer ≡ Refused malformed column
     unfolding reading
     reading-other e = rw parts (whole-other _ _ _ _ _ _ e)
 

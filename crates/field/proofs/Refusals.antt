@@ -14,12 +14,13 @@ use Rattle.field.specs.declared.element.Element.the-variants.{Range, Mal
 use Rattle.field.specs.Parts.{split}
 use Rattle.field.specs.Elements.{elementOf}
 use Rattle.field.specs.Values.{valuesOf, including}
+use Rattle.field.specs.Refusals.{malformed, outOfLimits, reversed, stepZero}
 use Rattle.field.specs.Judgement.{outside, judged}
 use Rattle.field.specs.Fields.{areElements, judgedAll, listField, starElement, starField, readField}
 
 abbrev pub FieldNumber : Answer → Type 0
 FieldNumber (Values set star) = Unit {0}
-FieldNumber (Refused number column) = (5 ≤ number) × (number ≤ 8)
+FieldNumber (Refused number column) = (malformed ≤ number) × (number ≤ stepZero)
 
 module _ (l : Limits) where
   judged-number : (column : ℕ) (a : Answer) (e : Element) → FieldNumber a → FieldNumber (judged l column a e)
@@ -29,7 +30,7 @@ module _ (l : Limits) where
   judged-number column (Values set star) (Range low high step) h = go (outside l low || outside l high) (ltb high low) (eqb step 0)
     where
       go : (o r z : Bool)
-          → FieldNumber (cond o (Refused 6 column) (cond r (Refused 7 column) (cond z (Refused 8 column) (Values (including l set (valuesOf low high step)) star))))
+          → FieldNumber (cond o (Refused outOfLimits column) (cond r (Refused reversed column) (cond z (Refused stepZero column) (Values (including l set (valuesOf low high step)) star))))
       go true r z = omega arith
       go false true z = omega arith
       go false false true = omega arith
@@ -46,7 +47,7 @@ module _ (l : Limits) where
   field-number column (b ∷ s) = go (eqb b 42) (areElements (l .names) (split 44 (b ∷ s)))
     where
       go : (t u : Bool)
-          → FieldNumber (cond t (judged l column (Values 0 true) (starElement l s)) (cond u (judgedAll l column (Values 0 false) (split 44 (b ∷ s))) (Refused 5 column)))
+          → FieldNumber (cond t (judged l column (Values 0 true) (starElement l s)) (cond u (judgedAll l column (Values 0 false) (split 44 (b ∷ s))) (Refused malformed column)))
       go true u = judged-number column (Values 0 true) (starElement l s) tt
       go false true = all-number column (Values 0 false) (split 44 (b ∷ s)) tt
       go false false = omega arith

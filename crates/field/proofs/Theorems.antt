@@ -1,5 +1,11 @@
--- What a caller may rely on, over the limits: the width of the set, that it has only values of the limits, and that a plain `*` has
--- all of them.
+-- What a caller may rely on, over the limits.
+--   values-members: the values of an element are those of its range that are a multiple of its step after the first
+--   set-members: a bit is set exactly if it is the bit of a value of one of the elements
+--   set-fits: the width of the set
+--   set-within: it has only values of the limits
+--   star-flag: the flag says just that the field begins with `*`
+--   star-full: a plain `*` has every value of the limits
+--   field-number: a refusal is 5 to 8
 -- Assumes nothing.
 use mathlib.Core.Path.{_≡_, refl, sym, ap, _∙_}
 use mathlib.Core.Logic.{_⊎_, inl, inr, ⊎-elim}
@@ -21,7 +27,9 @@ use Rattle.field.specs.Values.{valuesOf, bitOf, including}
 use Rattle.field.specs.Fields.{starElement, readField}
 use Rattle.field.specs.Members.{isIn, isStep, isStar, elementsOf, elementBits, bitsOf}
 use Rattle.field.proofs.Accepted.{Each, withElements, read-values}
-use Rattle.field.proofs.Members.{values-members, in-append, set-members}
+use Rattle.field.proofs.Members.{in-append}
+pub use Rattle.field.proofs.Members.{values-members, set-members}
+pub use Rattle.field.proofs.Refusals.{FieldNumber, field-number}
 
 or-cases : (a b : Bool) → (a || b) ≡ true → (a ≡ true) ⊎ (b ≡ true)
 or-cases true b e = inl refl

@@ -16,7 +16,8 @@ use Rattle.field.specs.declared.element.Element.the-variants.{Range, Mal
 use Rattle.field.specs.Parts.{split}
 use Rattle.field.specs.Numbers.{numberOf}
 use Rattle.field.specs.Elements.{ranging, isElement, elementOf, slash}
-use Rattle.field.specs.Judgement.{malformed, judged}
+use Rattle.field.specs.Refusals.{malformed}
+use Rattle.field.specs.Judgement.{judged}
 
 abbrev pub comma : ℕ
 comma = 44

@@ -9,22 +9,8 @@ use Rattle.field.specs.declared.Answer.{Answer}
 use Rattle.field.specs.declared.Answer.the-variants.{Values, Refused}
 use Rattle.field.specs.declared.element.Element.{Element}
 use Rattle.field.specs.declared.element.Element.the-variants.{Range, Malformed}
+use Rattle.field.specs.Refusals.{malformed, outOfLimits, reversed, stepZero}
 use Rattle.field.specs.Values.{valuesOf, including}
-
--- not of the form
-abbrev pub malformed : ℕ
-malformed = 5
-
--- a number outside the field's limits
-abbrev pub outOfLimits : ℕ
-outOfLimits = 6
-
--- a range from high to low
-abbrev pub reversed : ℕ
-reversed = 7
-
-abbrev pub stepZero : ℕ
-stepZero = 8
 
 unfoldable pub outside : Limits → ℕ → Bool
 outside l n = ltb n (l .first) || ltb (l .last) n

@@ -4,7 +4,9 @@ pub mod Elements
 pub mod Names
 pub mod Values
 pub mod Limits
+pub mod Refusals
 pub mod Judgement
 pub mod Fields
 pub mod Members
+pub mod Computing
 pub mod Examples

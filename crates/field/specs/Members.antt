@@ -1,5 +1,5 @@
 -- What a field's set has, in other words than those that build it: the values of the field's elements, each of them in the
--- element's range and a multiple of its step after the first. The laws that say so are in `proofs.Members`.
+-- element's range and a multiple of its step after the first. The laws that say so are in `proofs.Theorems`.
 -- Assumes nothing.
 use Prim.Native.Nat.{ℕ, _-_, _%_}
 use mathlib.Core.Bool.{Bool, false, cond, _&&_, _||_}

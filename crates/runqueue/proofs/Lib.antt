@@ -1,4 +1,4 @@
-pub mod Whens
+pub mod Joiners
 pub mod Exits
 pub mod TableJobs
 pub mod Theorems

@@ -14,14 +14,14 @@ use Rattle.schedule.specs.Next.{canFire}
 use Rattle.schedule.specs.Gap.{gap}
 use Rattle.schedule.proofs.Search.{from-some}
 use Rattle.schedule.proofs.Gap.{fires-within}
-use Rattle.crontab.specs.declared.When.{When}
-use Rattle.crontab.specs.declared.When.the-variants.{Reboot, Timed}
+use Rattle.crontab.specs.declared.time.When.{When}
+use Rattle.crontab.specs.declared.time.When.the-variants.{Reboot, Timed}
 use Rattle.crontab.specs.Tables.{tableOf}
-use Rattle.crontab.specs.Answers.{firesAt}
+use Rattle.crontab.specs.Firings.{byWhen, isBoot, firesAt}
 use Rattle.crontab.proofs.Theorems.{table-sound}
 use Rattle.fifo.specs.Layout.{limit}
 use Rattle.fifo.specs.Fairness.{Soon, bound}
-use Rattle.runqueue.specs.Jobs.{isBoot, whenOf, jobsOf}
+use Rattle.runqueue.specs.Jobs.{jobAt, jobsOf}
 use Rattle.runqueue.specs.Demand.{jobsIn, CanFire}
 
 fires : (s : Schedule) (m : ℕ) → m < cycleMinutes → matches s m ≡ true → canFire s ≡ true
@@ -30,11 +30,11 @@ fires s m h t = lt-ltb _ _ (from-some (matches s) cycleMinutes 0 m (omega arith)
 
 -- an entry that can fire has a match soon
 pub soon : (table : List ℕ) (e t : ℕ) → CanFire table e → t + bound (jobsIn table) gap ≤ lastMinute → Soon (jobsIn table) gap e t
-unfolding Soon jobsOf isBoot firesAt whenOf
-soon table e t f h = go (whenOf (tableOf table) e) refl (f .timed) (f .matched)
+unfolding Soon jobsOf isBoot firesAt
+soon table e t f h = go (jobAt (tableOf table) e .when) refl (f .timed) (f .matched)
   where
-    go : (w : When) → whenOf (tableOf table) e ≡ w → isBoot w ≡ false → firesAt w (f .minute) ≡ true
-        → (m : ℕ) × (t < m) × (m ≤ t + gap) × (firesAt (whenOf (tableOf table) e) m ≡ true)
+    go : (w : When) → jobAt (tableOf table) e .when ≡ w → byWhen w true (λ s. false) ≡ false → byWhen w false (λ s. matches s (f .minute)) ≡ true
+        → (m : ℕ) × (t < m) × (m ≤ t + gap) × (byWhen (jobAt (tableOf table) e .when) false (λ s. matches s m) ≡ true)
     go Reboot p b m = absurd (true≢false b)
     go (Timed s) p b m =
         let (n, u, v, x) = fires-within s (fires s (f .minute) (f .cycle) m) t (omega (arith, f .entry)) in

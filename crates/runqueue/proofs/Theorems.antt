@@ -5,13 +5,15 @@ use mathlib.Core.List.{List}
 use Prim.Native.Nat.{ℕ, _<_}
 use native.Mathlib.Decide.{decLe}
 use native.Mathlib.Omega.{arith}
+use borrow.Author.Tests.{eq-eqb, lt-ltb, le-leb}
+use Rattle.calendar.specs.Dates.{lastMinute}
 use Rattle.schedule.specs.Gap.{gap}
-use Rattle.crontab.specs.Tables.{tableOf}
+use Rattle.crontab.specs.Tables.{tableOf, entryIn}
+use Rattle.crontab.specs.Firings.{dueOf, dueAnswer, dueIn}
 use Rattle.crontab.proofs.Theorems.{table-sound}
 use Rattle.fifo.proofs.Theorems.{fair-from, fair, refused-only, fair-in-buffer, fair-steady}
-use Rattle.runqueue.specs.Jobs.{jobsOf}
-use Rattle.runqueue.specs.Demand.{jobsIn, TableFair, TableFairFrom, TableSteps, TableStepsGood, TableRefusedOnly, TableFairInBuffer, TableFairSteady}
-use Rattle.runqueue.specs.Calls.{initOf, tickOf, popOf}
+use Rattle.runqueue.specs.Jobs.{jobAt, jobsOf}
+use Rattle.runqueue.specs.Demand.{jobsIn, TableDue, TableFair, TableFairFrom, TableSteps, TableStepsGood, TableRefusedOnly, TableFairInBuffer, TableFairSteady}
 use Rattle.runqueue.proofs.Exits.{init-good, tick-good, pop-good}
 use Rattle.runqueue.proofs.TableJobs.{soon, few}
 
@@ -23,12 +25,18 @@ entry-good table e h =
 
 -- the functions go by the steps of which the claims speak
 pub table-steps-good : TableStepsGood
-unfolding initOf tickOf popOf jobsOf
+unfolding jobsOf
 table-steps-good table g room minute =
     (init-good (tableOf table) room g, tick-good (tableOf table) room g minute, pop-good (tableOf table) room g)
 
 pub table-steps : TableSteps
 table-steps table e h = table-steps-good table (entry-good table e h)
+
+-- what `due` says of an entry is what the claims' jobs say
+pub table-due : TableDue
+unfolding dueIn dueAnswer entryIn dueOf jobsOf jobAt
+table-due table e minute h on =
+    rw (eq-eqb (tableOf table .refusal) 0 (entry-good table e h), lt-ltb e (tableOf table .count) h, le-leb minute lastMinute on)
 
 -- the third demand, from any line of the table
 pub table-fair-from : TableFairFrom

@@ -1,12 +1,11 @@
--- The run queue's three calls by table bytes and room. The table's own refusal comes first, and then the room stays as it was;
+-- The run queue's three calls by table and room. The table's own refusal comes first, and then the room stays as it was;
 -- 28 and 14 come after it, as the steps of `fifo` have them.
 -- Assumes nothing.
 use Prim.Native.Nat.{ℕ}
 use mathlib.Core.Bool.{cond}
 use mathlib.Core.List.{List}
 use lib.Dec.{eqb}
-use Rattle.crontab.specs.declared.Table.{Table}
-use Rattle.crontab.specs.Tables.{tableOf}
+use Rattle.crontab.specs.declared.table.Table.{Table}
 use Rattle.fifo.specs.declared.Ticked.{Ticked}
 use Rattle.fifo.specs.declared.Popped.{Popped}
 use Rattle.fifo.specs.declared.Ticked.the-variants.{Refused as NotTicked}
@@ -24,12 +23,3 @@ tickTable t minute room =
 
 unfoldable pub popTable : Table → List ℕ → Step Popped
 popTable t room = cond (eqb (t .refusal) 0) (popStep (t .count) room) (record { answer = NotPopped (t .refusal); room = room })
-
-unfoldable pub initOf : List ℕ → List ℕ → Step Ticked
-initOf table room = initTable (tableOf table) room
-
-unfoldable pub tickOf : List ℕ → ℕ → List ℕ → Step Ticked
-tickOf table minute room = tickTable (tableOf table) minute room
-
-unfoldable pub popOf : List ℕ → List ℕ → Step Popped
-popOf table room = popTable (tableOf table) room

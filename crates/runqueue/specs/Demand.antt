@@ -4,12 +4,14 @@
 -- Assumes nothing.
 use mathlib.Core.Path.{_≡_}
 use Prim.Native.Nat.{ℕ, _+_, _≤_, _<_}
-use mathlib.Core.Bool.{true, false}
+use mathlib.Core.Bool.{true, false, cond}
 use mathlib.Core.List.{List, _++_}
 use lib.ListN.{take}
 use Rattle.calendar.specs.Dates.{lastMinute, cycleMinutes}
 use Rattle.schedule.specs.Gap.{gap}
+use Rattle.crontab.specs.declared.firing.DueAnswer.the-variants.{Yes, No}
 use Rattle.crontab.specs.Tables.{tableOf}
+use Rattle.crontab.specs.Firings.{dueIn}
 use Rattle.fifo.specs.WaitingLine.{entriesOf}
 use Rattle.fifo.specs.Layout.{roomy}
 use Rattle.fifo.specs.Steps.{Jobs, fresh, initStep, tickStep, popStep}
@@ -18,7 +20,7 @@ use Rattle.fifo.specs.RefusedCalls.{Expected}
 use Rattle.fifo.specs.Buffer.{Use, callsOn, bufferAfterAll, started}
 use Rattle.fifo.specs.Steady.{steady}
 use Rattle.runqueue.specs.Jobs.{jobsOf}
-use Rattle.runqueue.specs.Calls.{initOf, tickOf, popOf}
+use Rattle.runqueue.specs.Calls.{initTable, tickTable, popTable}
 
 -- the jobs that a table's bytes say
 abbrev pub jobsIn : List ℕ → Jobs
@@ -57,9 +59,9 @@ TableFairFrom = (table : List ℕ) (e t : ℕ) (l : List ℕ) (second : List Cal
 abbrev pub ByTheSteps : List ℕ → Type 0
 ByTheSteps table = (room : List ℕ) (minute : ℕ)
     → let jobs = jobsIn table in
-    (initOf table room ≡ initStep jobs room)
-    × (tickOf table minute room ≡ tickStep jobs minute room)
-    × (popOf table room ≡ popStep (jobs .count) room)
+    (initTable (tableOf table) room ≡ initStep jobs room)
+    × (tickTable (tableOf table) minute room ≡ tickStep jobs minute room)
+    × (popTable (tableOf table) room ≡ popStep (jobs .count) room)
 
 -- so it is for a table that has an entry, as each does of which the claims speak
 abbrev pub TableSteps : Type 0
@@ -68,6 +70,11 @@ TableSteps = (table : List ℕ) (e : ℕ) → e < jobsIn table .count → ByTheS
 -- and for every table that isn't refused
 abbrev pub TableStepsGood : Type 0
 TableStepsGood = (table : List ℕ) → tableOf table .refusal ≡ 0 → ByTheSteps table
+
+-- the jobs of which the claims speak are due when the table's entries are
+abbrev pub TableDue : Type 0
+TableDue = (table : List ℕ) (e minute : ℕ) → e < jobsIn table .count → minute ≤ lastMinute
+    → dueIn (tableOf table) e minute ≡ cond (jobsIn table .matches e minute) Yes No
 
 -- in a list from the fresh line of a table that isn't refused a call is refused only with 28 for too small a room or 14 for a minute off the calendar
 abbrev pub TableRefusedOnly : Type 0

@@ -2,29 +2,23 @@
 -- jobs, and which minutes match each.
 -- Assumes nothing.
 use Prim.Native.Nat.{ℕ}
-use mathlib.Core.Bool.{Bool, true, false}
 use lib.ListN.{getD}
 use Rattle.calendar.specs.Dates.{lastMinute}
-use Rattle.crontab.specs.declared.When.{When}
-use Rattle.crontab.specs.declared.When.the-variants.{Reboot, Timed}
-use Rattle.crontab.specs.declared.Table.{Table}
+use Rattle.crontab.specs.declared.entry.Entry.{Entry}
+use Rattle.crontab.specs.declared.table.Table.{Table}
 use Rattle.crontab.specs.Tables.{blankEntry}
-use Rattle.crontab.specs.Answers.{firesAt}
+use Rattle.crontab.specs.Firings.{isBoot, firesAt}
 use Rattle.fifo.specs.Steps.{Jobs}
 
-unfoldable pub isBoot : When → Bool
-isBoot Reboot = true
-isBoot (Timed s) = false
-
--- when entry e fires; past the last there is none, and what stands there doesn't matter
-unfoldable pub whenOf : Table → ℕ → When
-whenOf t e = getD (t .entries) e blankEntry .when
+-- entry e; past the last there is none, and what stands there doesn't matter
+unfoldable pub jobAt : Table → ℕ → Entry
+jobAt t e = getD (t .entries) e blankEntry
 
 unfoldable pub jobsOf : Table → Jobs
 jobsOf t =
     record {
       count = t .count;
-      boot = λ e. isBoot (whenOf t e);
-      matches = λ e minute. firesAt (whenOf t e) minute;
+      boot = λ e. isBoot (jobAt t e);
+      matches = λ e minute. firesAt (jobAt t e) minute;
       last = lastMinute;
     }

@@ -4,18 +4,18 @@
 use Prim.Native.Nat.{ℕ}
 use mathlib.Core.Bool.{Bool, not, _&&_}
 use mathlib.Core.List.{List}
-use Rattle.crontab.specs.declared.When.{When}
-use Rattle.crontab.specs.declared.Table.{Table}
-use Rattle.crontab.specs.Answers.{firesOn}
+use Rattle.crontab.specs.declared.entry.Entry.{Entry}
+use Rattle.crontab.specs.declared.table.Table.{Table}
+use Rattle.crontab.specs.Firings.{isBoot, firesOn}
 use Rattle.fifo.specs.WaitingLine.{standsIn, pick}
 use Rattle.runqueue.specs.declared.Called.{Called}
 use Rattle.runqueue.specs.declared.Called.the-variants.{AtBoot, On}
-use Rattle.runqueue.specs.Jobs.{isBoot, whenOf}
+use Rattle.runqueue.specs.Jobs.{jobAt}
 
-unfoldable pub isCalled : Called → When → Bool
-isCalled AtBoot when = isBoot when
-isCalled (On date) when = firesOn when date
+unfoldable pub isCalled : Called → Entry → Bool
+isCalled AtBoot e = isBoot e
+isCalled (On date) e = firesOn e date
 
 -- the entries that a call lets join a line, in file order
 unfoldable pub joining : Table → Called → List ℕ → List ℕ
-joining t called l = pick (λ e. not (standsIn e l) && isCalled called (whenOf t e)) (t .count)
+joining t called l = pick (λ e. not (standsIn e l) && isCalled called (jobAt t e)) (t .count)

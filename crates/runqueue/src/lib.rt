@@ -5,15 +5,16 @@ ghost use mathlib.Core.Bool.{true, cond, _&&_};
 ghost use mathlib.Core.List.{_++_};
 ghost use Prim.Native.Nat.{_≤_};
 ghost use lib.ListN.{length};
+ghost use Rattle.crontab.specs.Limits.{maxEntries};
+ghost use Rattle.crontab.specs.Tables.{tableOf};
 ghost use Rattle.fifo.specs.Layout.{lineOf, laid, isLine};
 ghost use Rattle.fifo.specs.SmallSteps.{canJoin, joined};
-ghost use Rattle.runqueue.specs.Jobs.{isBoot};
 ghost use Rattle.runqueue.specs.Joining.{isCalled, joining};
-ghost use Rattle.runqueue.specs.Calls.{initOf, tickOf, popOf};
+ghost use Rattle.runqueue.specs.Calls.{initTable, tickTable, popTable};
 use calendar::Date;
-use crontab::Table;
-use crontab::When;
+use crontab::entry::Entry;
 use crontab::firing;
+use crontab::table::Table;
 use fifo::Popped;
 use fifo::Ticked;
 
@@ -25,31 +26,22 @@ enum Called {
     On(Date),
 }
 
-fn is_boot(when: When) -> bool
-    ensures { λ r. ⌜ r ≡ isBoot when ⌝ }
-{
-    match when {
-        When::Reboot => true,
-        When::Timed(_) => false,
-    }
-}
-
-fn is_called(when: When, called: Called) -> bool
-    ensures { λ r. ⌜ r ≡ isCalled called when ⌝ }
+fn is_called(entry: Entry, called: Called) -> bool
+    ensures { λ r. ⌜ r ≡ isCalled called entry ⌝ }
 {
     match called {
-        Called::AtBoot => is_boot(when),
-        Called::On(date) => firing::fires_on(when, date),
+        Called::AtBoot => firing::is_boot(entry),
+        Called::On(date) => firing::fires_on(entry, date),
     }
 }
 
 // An entry that is called and doesn't wait goes to the back of the line: how many joined, 1 or 0.
-fn offer(room: &mut [u8], e: u16, when: When, called: Called) -> usize
-    ensures answer { λ r. ⌜ r ≡ cond (isCalled called when && canJoin e (now (room .entry))) 1 0 ⌝ }
-    ensures room { λ _. ⌜ now (room .exit) ≡ cond (isCalled called when) (joined e (now (room .entry))) (now (room .entry)) ⌝ }
+fn offer(room: &mut [u8], e: u16, entry: Entry, called: Called) -> usize
+    ensures answer { λ r. ⌜ r ≡ cond (isCalled called entry && canJoin e (now (room .entry))) 1 0 ⌝ }
+    ensures room { λ _. ⌜ now (room .exit) ≡ cond (isCalled called entry) (joined e (now (room .entry))) (now (room .entry)) ⌝ }
     ensures small { λ r. ⌜ r ≤ 1 ⌝ }
 {
-    if is_called(when, called) {
+    if is_called(entry, called) {
         if fifo::join(room, e) {
             return 1;
         }
@@ -60,7 +52,7 @@ fn offer(room: &mut [u8], e: u16, when: When, called: Called) -> usize
 
 // Offers each entry in file order. Answers how many joined.
 fn offer_all(t: Table, room: &mut [u8], called: Called) -> usize
-    requires { ⌜ (t .count ≤ 128) × (isLine (t .count) (now room) ≡ true) ⌝ }
+    requires { ⌜ (t .count ≤ maxEntries) × (isLine (t .count) (now room) ≡ true) ⌝ }
     ensures answer { λ r. ⌜ r ≡ length (joining t called (lineOf (now (room .entry)))) ⌝ }
     ensures room { λ _. ⌜ now (room .exit) ≡ laid (lineOf (now (room .entry)) ++ joining t called (lineOf (now (room .entry)))) (now (room .entry)) ⌝ }
 {
@@ -69,8 +61,7 @@ fn offer_all(t: Table, room: &mut [u8], called: Called) -> usize
     let mut i = 0;
     while i < n {
         let entry = t.entries[i];
-        let when = entry.when;
-        count += offer(room, i as u16, when, called);
+        count += offer(room, i as u16, entry, called);
         i += 1;
     }
     count
@@ -78,10 +69,10 @@ fn offer_all(t: Table, room: &mut [u8], called: Called) -> usize
 
 // A fresh line of a table, whatever the room held: the boot jobs in file order. Answers how many wait.
 pub fn init(table: &[u8], room: &mut [u8]) -> Ticked
-    ensures answer { λ r. ⌜ r ≡ initOf (now (table .entry)) (now (room .entry)) .answer ⌝ }
-    ensures room { λ _. ⌜ now (room .exit) ≡ initOf (now (table .entry)) (now (room .entry)) .room ⌝ }
+    ensures answer { λ r. ⌜ r ≡ initTable (tableOf (now (table .entry))) (now (room .entry)) .answer ⌝ }
+    ensures room { λ _. ⌜ now (room .exit) ≡ initTable (tableOf (now (table .entry))) (now (room .entry)) .room ⌝ }
 {
-    let t = crontab::read(table);
+    let t = crontab::table::read(table);
     let refusal = t.refusal;
     if refusal != 0 {
         return Ticked::Refused(refusal);
@@ -95,10 +86,10 @@ pub fn init(table: &[u8], room: &mut [u8]) -> Ticked
 
 // Announces a minute: each time-based entry that matches it and doesn't wait joins in file order. Answers how many joined.
 pub fn tick(table: &[u8], room: &mut [u8], minute: u64) -> Ticked
-    ensures answer { λ r. ⌜ r ≡ tickOf (now (table .entry)) minute (now (room .entry)) .answer ⌝ }
-    ensures room { λ _. ⌜ now (room .exit) ≡ tickOf (now (table .entry)) minute (now (room .entry)) .room ⌝ }
+    ensures answer { λ r. ⌜ r ≡ tickTable (tableOf (now (table .entry))) minute (now (room .entry)) .answer ⌝ }
+    ensures room { λ _. ⌜ now (room .exit) ≡ tickTable (tableOf (now (table .entry))) minute (now (room .entry)) .room ⌝ }
 {
-    let t = crontab::read(table);
+    let t = crontab::table::read(table);
     let refusal = t.refusal;
     if refusal != 0 {
         return Ticked::Refused(refusal);
@@ -115,13 +106,13 @@ pub fn tick(table: &[u8], room: &mut [u8], minute: u64) -> Ticked
 
 // Requests the next job: removes and names the front entry, or says that nothing waits.
 pub fn pop(table: &[u8], room: &mut [u8]) -> Popped
-    ensures answer { λ r. ⌜ r ≡ popOf (now (table .entry)) (now (room .entry)) .answer ⌝ }
-    ensures room { λ _. ⌜ now (room .exit) ≡ popOf (now (table .entry)) (now (room .entry)) .room ⌝ }
+    ensures answer { λ r. ⌜ r ≡ popTable (tableOf (now (table .entry))) (now (room .entry)) .answer ⌝ }
+    ensures room { λ _. ⌜ now (room .exit) ≡ popTable (tableOf (now (table .entry))) (now (room .entry)) .room ⌝ }
 {
-    let t = crontab::read(table);
-    let refusal = t.refusal;
+    let verdict = crontab::table::check(table);
+    let refusal = verdict.refusal;
     if refusal != 0 {
         return Popped::Refused(refusal);
     }
-    fifo::pop(room, t.count)
+    fifo::pop(room, verdict.count)
 }

@@ -11,13 +11,13 @@ use borrow.Author.Tests.{ltb-true, lt-ltb, leb-true}
 use Rattle.calendar.specs.Dates.{lastMinute, cycleMinutes, dateAt}
 use Rattle.calendar.proofs.Tests.{and-true, same-test}
 use Rattle.schedule.specs.declared.Schedule.{Schedule}
-use Rattle.schedule.specs.declared.Next.the-variants.{At, Never, PastEnd, NotOnCalendar}
+use Rattle.schedule.specs.declared.Next.the-variants.{At, Never, PastEnd}
 use Rattle.schedule.specs.Match.{matchesDate, matches, matchesOn, matchesAt}
 use Rattle.schedule.specs.Search.{from}
 use Rattle.schedule.specs.Days.{someDay}
 use Rattle.schedule.specs.Next.{canFire, firingAfter, nextAfter}
 use Rattle.schedule.specs.Gap.{gapDays, gap}
-use Rattle.schedule.proofs.Search.{from-least, from-some, some-from}
+use Rattle.schedule.proofs.Search.{from-past, from-least, from-some, some-from}
 use Rattle.schedule.proofs.Recurrence.{Within}
 use Rattle.schedule.proofs.Possible.{within-gap, matching-some}
 
@@ -93,10 +93,16 @@ fires-within s fires =
 -- a firing that is found is at most that far ahead
 pub next-within : (s : Schedule) (t n : ℕ) → nextAfter s t ≡ At n → n ≤ t + gap
 unfolding nextAfter firingAfter
-next-within s t n e = go (leb t lastMinute) (canFire s) (leb k lastMinute) refl refl refl e
+next-within s t n e = go (canFire s) (leb k lastMinute) refl refl e
   where
     k : ℕ
     k = from (matches s) (lastMinute + 1) (t + 1)
+
+    on-calendar : k ≤ lastMinute → t ≤ lastMinute
+    on-calendar l = elim (decLe t lastMinute) [ yes h ↦ h | no h ↦ absurd (past (lt-of-not-le h)) ]
+      where
+        past : lastMinute < t → ⊥
+        past h = let p : t + 1 ≡ k = from-past (matches s) (lastMinute + 1) (t + 1) (omega arith) in omega arith
 
     near : t ≤ lastMinute → canFire s ≡ true → k ≤ lastMinute → k ≤ t + gap
     near h f l =
@@ -110,9 +116,10 @@ next-within s t n e = go (leb t lastMinute) (canFire s) (leb k lastMinute) refl 
               ]
         ]
 
-    go : (a b c : Bool) → leb t lastMinute ≡ a → canFire s ≡ b → leb k lastMinute ≡ c
-        → cond a (cond b (cond c (At k) PastEnd) Never) NotOnCalendar ≡ At n → n ≤ t + gap
-    go true true true p q r f = let i : k ≡ n = cc in omega (arith, near (leb-true _ _ p) q (leb-true _ _ r))
-    go true true false p q r f = let z : _≡_ {A = ℕ} 0 1 = cc in omega arith
-    go true false c p q r f = let z : _≡_ {A = ℕ} 0 1 = cc in omega arith
-    go false b c p q r f = let z : _≡_ {A = ℕ} 0 1 = cc in omega arith
+    go : (b c : Bool) → canFire s ≡ b → leb k lastMinute ≡ c → cond b (cond c (At k) PastEnd) Never ≡ At n → n ≤ t + gap
+    go true true q r f =
+        let i : k ≡ n = cc in
+        let l = leb-true _ _ r in
+        omega (arith, near (on-calendar l) q l)
+    go true false q r f = let z : _≡_ {A = ℕ} 0 1 = cc in omega arith
+    go false c q r f = let z : _≡_ {A = ℕ} 0 1 = cc in omega arith

@@ -4,23 +4,18 @@
 use mathlib.Core.Path.{_≡_, refl, sym, ap, _∙_}
 use mathlib.Core.Bool.{Bool, true, false, _&&_}
 use Prim.Native.Nat.{ℕ, _+_, _/_, _≤_, _<_}
-use native.Mathlib.Omega.{arith}
 use lib.Dec.{T, ltb, eqb, eqb→eq, ltb→lt, lit≤}
 use mir.Facts.{and-yes}
-use borrow.Author.Tests.{le-leb}
-use Rattle.calendar.specs.Gregorian.{leap, yearDays, monthTable, monthLength, monthDays}
-use Rattle.calendar.specs.Walk.{walk}
-use Rattle.calendar.specs.Dates.{calendarDays, lastMinute, weekdayOf, yearOf, monthOf, dateAt}
+use Rattle.calendar.specs.Dates.{calendarDays, lastMinute}
 use Rattle.calendar.proofs.Months.{lengthOf}
 use Rattle.schedule.specs.declared.Schedule.{Schedule}
 use Rattle.schedule.specs.declared.Next.the-variants.{At, Never, PastEnd}
-use Rattle.bytes.specs.Sets.{hasBit}
-use Rattle.schedule.specs.Match.{bothMust, byDayRule, matchesDay, matchesTime, matches, matchesOn, matchesAt}
-use Rattle.schedule.specs.Search.{leastOf, from}
-use Rattle.schedule.specs.Days.{matchesIn, hasDate, someDay}
+use Rattle.schedule.specs.Match.{matches, matchesAt}
+use Rattle.schedule.specs.Search.{from}
+use Rattle.schedule.specs.Days.{someDay}
 use Rattle.schedule.specs.Next.{firingAfter, nextAfter}
 use Rattle.schedule.specs.Gap.{gap}
-use Rattle.schedule.specs.Examples.{leapDay, fridays, february30, mondays30, lastDay, leapSundays}
+use Rattle.schedule.specs.Examples.{leapDay, fridays, february30, mondays30, lastDay, leapSundays, schedules}
 use Rattle.schedule.proofs.Search.{from-past}
 use Rattle.schedule.proofs.Gap.{can-fire}
 use Rattle.schedule.proofs.Quick.{monthsFrom, dayFrom, quick, quick-right}
@@ -48,12 +43,12 @@ fires s m n t =
     let c = and-yes (ltb (dayFrom s 500 ((m + 1) / 1440 + 1)) calendarDays) _ (b .1) in
     let time = and-yes (ltb (from (matchesAt s) 1440 0) 1440) (someDay s) (e .0) in
     let h : m < lastMinute = ltb→lt _ _ (a .0) in
-    rw (le-leb m lastMinute (omega arith), can-fire s, T-true (ltb (from (matchesAt s) 1440 0) 1440 && someDay s) (e .0))
+    rw (can-fire s, T-true (ltb (from (matchesAt s) 1440 0) 1440 && someDay s) (e .0))
     (quick-right s 500 m h (ltb→lt _ _ (b .0)) (ltb→lt _ _ (c .0)) (ltb→lt _ _ (time .0)) ∙ ap At (eqb→eq _ _ (c .1)))
 
-pub never : (s : Schedule) (m : ℕ) → m ≤ lastMinute → ever s ≡ false → nextAfter s m ≡ Never
+pub never : (s : Schedule) (m : ℕ) → ever s ≡ false → nextAfter s m ≡ Never
 unfolding ever nextAfter
-never s m h e = rw (le-leb m lastMinute h, can-fire s, e)
+never s m e = rw (can-fire s, e)
 
 -- nothing is left after the last minute
 pub past : (s : Schedule) → ever s ≡ true → nextAfter s lastMinute ≡ PastEnd
@@ -69,14 +64,12 @@ pub known-days :
     × (nextAfter february30 0 ≡ Never)
     × (nextAfter mondays30 0 ≡ At 46080)
     × (nextAfter lastDay 4223371679 ≡ PastEnd)
-unfolding firesAt ever leapDay fridays february30 mondays30 lastDay quick dayFrom monthsFrom from leastOf someDay hasDate
-    matchesOn matchesAt matchesIn matchesDay matchesTime byDayRule bothMust hasBit dateAt yearOf monthOf weekdayOf walk yearDays
-    leap monthDays monthLength monthTable lengthOf
+unfolding firesAt ever schedules quick dayFrom monthsFrom lengthOf
 known-days = (
   fires leapDay 66355200 70561440 tt,
   fires fridays 0 270 tt,
   fires fridays 270 1710 tt,
-  never february30 0 (lit≤ tt) refl,
+  never february30 0 refl,
   fires mondays30 0 46080 tt,
   past lastDay refl,
 )
@@ -86,7 +79,5 @@ pub gap-is : gap ≡ 21036960
 gap-is = refl
 
 pub gap-reached : nextAfter leapSundays 62147520 ≡ At (62147520 + gap)
-unfolding firesAt ever leapSundays quick dayFrom monthsFrom from leastOf someDay hasDate matchesOn matchesAt matchesIn
-    matchesDay matchesTime byDayRule bothMust hasBit dateAt yearOf monthOf weekdayOf walk yearDays leap monthDays monthLength
-    monthTable lengthOf
+unfolding firesAt ever schedules quick dayFrom monthsFrom lengthOf
 gap-reached = fires leapSundays 62147520 83184480 tt

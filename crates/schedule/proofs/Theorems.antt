@@ -1,19 +1,30 @@
--- What the next firing is, with no search in it. The four cases leave nothing out, so each is also the only one.
+-- What holds of a schedule's firings, with no search in it.
+--   next-at, next-never, next-past: the next firing; the three cases leave nothing out, so each is also the only one
+--   can-fire: a schedule fires at some time exactly if the closed test that the code makes says so
+--   matching-fires: so does one that matches any minute of the calendar
+--   fires-within, next-within: it is silent for at most `gap` minutes
+--   gap-is, gap-reached: the number, and that it is exactly reached
+--   known-days: the next firings among paper 01's known days
 -- Assumes nothing.
 use mathlib.Core.Path.{_≡_, sym, _∙_}
 use mathlib.Core.Bool.{true, false}
 use Prim.Native.Nat.{ℕ, _+_, _/_, _%_, _≤_, _<_}
+use native.Mathlib.Nat.{lt-of-not-le}
+use native.Mathlib.Decide.{decLe}
 use native.Mathlib.Omega.{arith}
 use borrow.Author.Tests.{le-leb, lt-leb, lt-ltb}
 use Rattle.calendar.specs.Dates.{lastMinute, cycleMinutes}
 use Rattle.calendar.proofs.Tests.{and-true}
 use Rattle.schedule.specs.declared.Schedule.{Schedule}
-use Rattle.schedule.specs.declared.Next.the-variants.{At, Never, PastEnd, NotOnCalendar}
+use Rattle.schedule.specs.declared.Next.the-variants.{At, Never, PastEnd}
 use Rattle.schedule.specs.Match.{matches, matchesOn, matchesAt}
+use Rattle.schedule.specs.Search.{from}
 use Rattle.schedule.specs.Next.{canFire, firingAfter, nextAfter}
-use Rattle.schedule.proofs.Search.{Least, least-from, from-none, from-some}
+use Rattle.schedule.proofs.Search.{Least, least-from, from-none, from-past, from-some}
 use Rattle.schedule.proofs.Possible.{matching-some}
-use Rattle.schedule.proofs.Gap.{matches-parts, can-fire}
+use Rattle.schedule.proofs.Gap.{matches-parts}
+pub use Rattle.schedule.proofs.Gap.{can-fire, fires-within, next-within}
+pub use Rattle.schedule.proofs.KnownDays.{known-days, gap-is, gap-reached}
 
 -- a schedule that matches any minute of the calendar matches one of the cycle
 pub matching-fires : (s : Schedule) (n : ℕ) → n ≤ lastMinute → matches s n ≡ true → canFire s ≡ true
@@ -33,24 +44,25 @@ next-at s m n h k t none =
     let l : Least (matches s) (lastMinute + 1) (m + 1) n =
     record { low = omega arith; high = omega arith; passes = λ _. t; none = λ i u v. none i (omega arith) v }
     in
-    rw (le-leb m lastMinute (omega arith), matching-fires s n k t, ← least-from (omega arith) l, le-leb n lastMinute k)
+    rw (matching-fires s n k t, ← least-from (omega arith) l, le-leb n lastMinute k)
 
 -- never, where no minute of the cycle matches
-pub next-never : (s : Schedule) (m : ℕ) → m ≤ lastMinute → ((k : ℕ) → k < cycleMinutes → matches s k ≡ false) → nextAfter s m ≡ Never
+pub next-never : (s : Schedule) (m : ℕ) → ((k : ℕ) → k < cycleMinutes → matches s k ≡ false) → nextAfter s m ≡ Never
 unfolding nextAfter canFire
-next-never s m h none =
+next-never s m none =
     let e = from-none (matches s) cycleMinutes 0 (omega arith) (λ k _ v. none k v) in
-    rw (le-leb m lastMinute h, ← e)
+    rw (← e)
 
 -- past the end, where one matches and none is left
-pub next-past : (s : Schedule) (m : ℕ) → m ≤ lastMinute → canFire s ≡ true
-    → ((k : ℕ) → m < k → k ≤ lastMinute → matches s k ≡ false) → nextAfter s m ≡ PastEnd
+pub next-past : (s : Schedule) (m : ℕ) → canFire s ≡ true → ((k : ℕ) → m < k → k ≤ lastMinute → matches s k ≡ false) → nextAfter s m ≡ PastEnd
 unfolding nextAfter firingAfter
-next-past s m h f none =
-    let e = from-none (matches s) (lastMinute + 1) (m + 1) (omega arith) (λ k u v. none k (omega arith) (omega arith)) in
-    rw (le-leb m lastMinute h, f, ← e)
+next-past s m f none = rw f (elim (decLe m lastMinute) [ yes h ↦ rw (← within h) | no h ↦ rw (← from-past (matches s) (lastMinute + 1) (m + 1) (after h), lt-leb (m + 1) lastMinute (after' h)) ])
+  where
+    within : m ≤ lastMinute → lastMinute + 1 ≡ from (matches s) (lastMinute + 1) (m + 1)
+    within h = from-none (matches s) (lastMinute + 1) (m + 1) (omega arith) (λ k u v. none k (omega arith) (omega arith))
 
--- and a minute off the calendar
-pub next-off : (s : Schedule) (m : ℕ) → lastMinute < m → nextAfter s m ≡ NotOnCalendar
-unfolding nextAfter
-next-off s m h = rw (lt-leb m lastMinute h)
+    after' : (m ≤ lastMinute → ⊥) → lastMinute < m + 1
+    after' h = let l = lt-of-not-le h in omega arith
+
+    after : (m ≤ lastMinute → ⊥) → lastMinute + 1 ≤ m + 1
+    after h = let l = lt-of-not-le h in omega arith

@@ -1,134 +1,100 @@
 -- Schedules of paper 01's known days, as the reader gives them, and what they match.
 -- Assumes nothing.
-use mathlib.Core.Path.{_≡_, refl}
-use mathlib.Core.Bool.{true, false}
-use Rattle.calendar.specs.Gregorian.{leap, yearDays, monthTable, monthLength, monthDays}
-use Rattle.calendar.specs.Walk.{walk}
-use Rattle.calendar.specs.Dates.{weekdayOf, yearOf, monthOf, dateAt}
+use mathlib.Core.Path.{refl}
+use mathlib.Core.Bool.{Bool, true, false}
+use mathlib.Core.List.{List, [], _∷_}
+use Prim.Native.Nat.{ℕ}
+use Rattle.bytes.specs.Rows.{Hold}
+use Rattle.bytes.specs.Sets.{setOf, upTo}
+use Rattle.schedule.specs.declared.Stars.{Stars}
 use Rattle.schedule.specs.declared.Schedule.{Schedule}
-use Rattle.bytes.specs.Sets.{hasBit}
-use Rattle.schedule.specs.Match.{bothMust, byDayRule, matchesDay, matchesTime, matchesDate, matches}
+use Rattle.schedule.specs.Match.{matches}
+use Rattle.schedule.specs.Computing.{firing}
+
+-- the values of the five fields in their order, and which day fields begin with `*`
+abbrev fields : List ℕ → List ℕ → List ℕ → List ℕ → List ℕ → Stars → Schedule
+fields minutes hours days months weekdays stars =
+    record {
+      minutes = setOf minutes;
+      hours = setOf hours;
+      days = setOf days;
+      months = setOf months;
+      weekdays = setOf weekdays;
+      stars = stars;
+    }
+
+abbrev noStar : Stars
+noStar = record { days = false; weekdays = false }
+
+abbrev starDays : Stars
+starDays = record { days = true; weekdays = false }
+
+abbrev starWeekdays : Stars
+starWeekdays = record { days = false; weekdays = true }
 
 -- `0 0 29 2 *`
 unfoldable pub leapDay : Schedule
-leapDay =
-    record {
-      minutes = 1;
-      hours = 1;
-      days = 0x20000000;
-      months = 0b100;
-      weekdays = 0b1111111;
-      stars = record { days = false; weekdays = true };
-    }
+leapDay = fields (0 ∷ []) (0 ∷ []) (29 ∷ []) (2 ∷ []) (upTo 0 6) starWeekdays
 
 -- `30 4 1,15 * 5`: the 1st, the 15th and each Friday
 unfoldable pub fridays : Schedule
-fridays =
-    record {
-      minutes = 0x40000000;
-      hours = 0b10000;
-      days = 0x8002;
-      months = 0b1111111111110;
-      weekdays = 0b100000;
-      stars = record { days = false; weekdays = false };
-    }
+fridays = fields (30 ∷ []) (4 ∷ []) (1 ∷ 15 ∷ []) (upTo 1 12) (5 ∷ []) noStar
 
 -- `0 0 30 2 *`
 unfoldable pub february30 : Schedule
-february30 =
-    record {
-      minutes = 1;
-      hours = 1;
-      days = 0x40000000;
-      months = 0b100;
-      weekdays = 0b1111111;
-      stars = record { days = false; weekdays = true };
-    }
+february30 = fields (0 ∷ []) (0 ∷ []) (30 ∷ []) (2 ∷ []) (upTo 0 6) starWeekdays
 
 -- `0 0 30 2 1`: the Mondays of February
 unfoldable pub mondays30 : Schedule
-mondays30 =
-    record {
-      minutes = 1;
-      hours = 1;
-      days = 0x40000000;
-      months = 0b100;
-      weekdays = 0b10;
-      stars = record { days = false; weekdays = false };
-    }
+mondays30 = fields (0 ∷ []) (0 ∷ []) (30 ∷ []) (2 ∷ []) (1 ∷ []) noStar
 
 -- `0 0 31 12 *`
 unfoldable pub lastDay : Schedule
-lastDay =
-    record {
-      minutes = 1;
-      hours = 1;
-      days = 0x80000000;
-      months = 0b1000000000000;
-      weekdays = 0b1111111;
-      stars = record { days = false; weekdays = true };
-    }
+lastDay = fields (0 ∷ []) (0 ∷ []) (31 ∷ []) (12 ∷ []) (upTo 0 6) starWeekdays
 
 -- `0 0 * * 1`: Mondays, and no other day
 unfoldable pub mondays : Schedule
-mondays =
-    record {
-      minutes = 1;
-      hours = 1;
-      days = 0xfffffffe;
-      months = 0b1111111111110;
-      weekdays = 0b10;
-      stars = record { days = true; weekdays = false };
-    }
+mondays = fields (0 ∷ []) (0 ∷ []) (upTo 1 31) (upTo 1 12) (1 ∷ []) starDays
 
 -- `0 0 */2 * 1`: Mondays on odd days
 unfoldable pub oddMondays : Schedule
-oddMondays =
-    record {
-      minutes = 1;
-      hours = 1;
-      days = 0xaaaaaaaa;
-      months = 0b1111111111110;
-      weekdays = 0b10;
-      stars = record { days = true; weekdays = false };
-    }
+oddMondays = fields (0 ∷ []) (0 ∷ []) (1 ∷ 3 ∷ 5 ∷ 7 ∷ 9 ∷ 11 ∷ 13 ∷ 15 ∷ 17 ∷ 19 ∷ 21 ∷ 23 ∷ 25 ∷ 27 ∷ 29 ∷ 31 ∷ []) (upTo 1 12) (1 ∷ []) starDays
 
 -- `0 0 29 2 */7`: 29 February on a Sunday
 unfoldable pub leapSundays : Schedule
-leapSundays =
-    record {
-      minutes = 1;
-      hours = 1;
-      days = 0x20000000;
-      months = 0b100;
-      weekdays = 1;
-      stars = record { days = false; weekdays = true };
-    }
+leapSundays = fields (0 ∷ []) (0 ∷ []) (29 ∷ []) (2 ∷ []) (0 ∷ []) starWeekdays
 
--- Which minutes match.
-matching :
+-- all of them, to be computed
+unfoldable pub schedules : Unit {0}
+unfolding firing leapDay fridays february30 mondays30 lastDay mondays oddMondays leapSundays
+schedules = tt
+
+-- which minutes match
+abbrev matched : Schedule × ℕ → Bool
+matched (s, m) = matches s m
+
+matching : Hold matched
     -- 1970-01-01 04:30 is the 1st and no Friday; 1970-01-02 04:30 a Friday; 1970-01-03 04:30 neither
-    (matches fridays 270 ≡ true)
-    × (matches fridays 1710 ≡ true)
-    × (matches fridays 3150 ≡ false)
+    (((fridays, 270), true)
+    ∷ ((fridays, 1710), true)
+    ∷ ((fridays, 3150), false)
     -- 2096-02-29 00:00, and a day and a minute later
-    × (matches leapDay 66355200 ≡ true)
-    × (matches leapDay 66356640 ≡ false)
-    × (matches leapDay 66355201 ≡ false)
+    ∷ ((leapDay, 66355200), true)
+    ∷ ((leapDay, 66356640), false)
+    ∷ ((leapDay, 66355201), false)
     -- 1970-01-01 is a Thursday, 1970-01-05 a Monday
-    × (matches mondays 0 ≡ false)
-    × (matches mondays 5760 ≡ true)
+    ∷ ((mondays, 0), false)
+    ∷ ((mondays, 5760), true)
     -- 1970-01-05 is a Monday in January, 1970-02-02 one in February
-    × (matches mondays30 5760 ≡ false)
-    × (matches mondays30 46080 ≡ true)
+    ∷ ((mondays30, 5760), false)
+    ∷ ((mondays30, 46080), true)
     -- 1970-01-01 is an odd day and no Monday, 1970-01-05 an odd Monday, 1970-01-12 an even one
-    × (matches oddMondays 0 ≡ false)
-    × (matches oddMondays 5760 ≡ true)
-    × (matches oddMondays 15840 ≡ false)
+    ∷ ((oddMondays, 0), false)
+    ∷ ((oddMondays, 5760), true)
+    ∷ ((oddMondays, 15840), false)
     -- 2088-02-29 is a Sunday, 2092-02-29 a Friday
-    × (matches leapSundays 62147520 ≡ true)
-    × (matches leapSundays 64251360 ≡ false)
-unfolding leapDay fridays mondays30 mondays oddMondays leapSundays matches matchesDate matchesDay matchesTime byDayRule bothMust
-    hasBit
-    dateAt yearOf monthOf weekdayOf walk yearDays leap monthDays monthLength monthTable
-matching = (refl, refl, refl, refl, refl, refl, refl, refl, refl, refl, refl, refl, refl, refl, refl)
+    ∷ ((leapSundays, 62147520), true)
+    ∷ ((leapSundays, 64251360), false)
+    ∷ [])
+unfolding schedules
+matching = refl

@@ -3,11 +3,12 @@
 use Prim.Native.Nat.{ℕ, _+_}
 use mathlib.Core.Bool.{Bool, cond}
 use lib.Dec.{leb, ltb}
-use Rattle.calendar.specs.Dates.{lastMinute, cycleMinutes, notOnCalendar}
+use Rattle.calendar.specs.Dates.{lastMinute, cycleMinutes}
 use Rattle.schedule.specs.declared.Schedule.{Schedule}
 use Rattle.schedule.specs.declared.Next.{Next}
-use Rattle.schedule.specs.declared.Next.the-variants.{At, Never, PastEnd, NotOnCalendar}
+use Rattle.schedule.specs.declared.Next.the-variants.{At, Never, PastEnd}
 use Rattle.schedule.specs.Match.{matches}
+use Rattle.schedule.specs.Refusals.{neverFires, pastTheEnd}
 use Rattle.schedule.specs.Search.{from}
 
 -- some minute of the cycle, 0 to 210,379,679, matches
@@ -18,18 +19,17 @@ canFire s = ltb (from (matches s) cycleMinutes 0) cycleMinutes
 unfoldable pub firingAfter : Schedule → ℕ → Next
 firingAfter s m = let n = from (matches s) (lastMinute + 1) (m + 1) in cond (leb n lastMinute) (At n) PastEnd
 
+-- any number may be asked about: none past the calendar's end has a firing after it
 unfoldable pub nextAfter : Schedule → ℕ → Next
-nextAfter s m = cond (leb m lastMinute) (cond (canFire s) (firingAfter s m) Never) NotOnCalendar
+nextAfter s m = cond (canFire s) (firingAfter s m) Never
 
 -- 01's number of each case, 0 where nothing is refused, and its value
 abbrev pub refusalOf : Next → ℕ
 refusalOf (At n) = 0
-refusalOf Never = 16
-refusalOf PastEnd = 17
-refusalOf NotOnCalendar = notOnCalendar
+refusalOf Never = neverFires
+refusalOf PastEnd = pastTheEnd
 
 abbrev pub minuteIn : Next → ℕ
 minuteIn (At n) = n
 minuteIn Never = 0
 minuteIn PastEnd = 0
-minuteIn NotOnCalendar = 0

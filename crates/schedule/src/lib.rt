@@ -5,8 +5,8 @@ mod set;
 mod time;
 
 ghost use mathlib.Core.Path.{_≡_};
-ghost use Prim.Native.Nat.{_≤_, _<_};
-ghost use Rattle.calendar.specs.Dates.{lastMinute, calendarDays};
+ghost use Prim.Native.Nat.{_<_};
+ghost use Rattle.calendar.specs.Dates.{calendarDays};
 ghost use Rattle.schedule.specs.Match.{matchesDate, isDue, matchesOn};
 ghost use Rattle.schedule.specs.Next.{firingAfter, nextAfter, refusalOf, minuteIn};
 use calendar::CALENDAR_DAYS;
@@ -17,6 +17,11 @@ use day::day_from;
 use day::matches_day;
 use never::can_fire;
 use time::time_from;
+
+// The refusals, by their numbers in paper 01.
+pub const NEVER: u8 = 16;
+
+pub const PAST_END: u8 = 17;
 
 // Which of the two day fields begin with `*`.
 pub struct Stars {
@@ -42,8 +47,6 @@ pub enum Next {
     Never,
     // Not before the calendar ends, though it would.
     PastEnd,
-    // The minute asked about isn't on the calendar.
-    NotOnCalendar,
 }
 
 impl Next {
@@ -53,9 +56,8 @@ impl Next {
     {
         match self {
             Next::At(_) => 0,
-            Next::Never => 16,
-            Next::PastEnd => 17,
-            Next::NotOnCalendar => calendar::NOT_ON_CALENDAR,
+            Next::Never => NEVER,
+            Next::PastEnd => PAST_END,
         }
     }
 
@@ -67,7 +69,6 @@ impl Next {
             Next::At(minute) => minute,
             Next::Never => 0,
             Next::PastEnd => 0,
-            Next::NotOnCalendar => 0,
         }
     }
 }
@@ -100,12 +101,11 @@ fn matches_on(s: Schedule, day: u64) -> bool
     matches_day(s, date.month, date.day, date.weekday)
 }
 
-// The least matching minute after one of the calendar: in the rest of that minute's day, or the first time of a later day.
+// The least matching minute after a minute: in the rest of that minute's day, or the first time of a later day.
 fn firing_after(s: Schedule, minute: u64) -> Next
-    requires { ⌜ minute ≤ lastMinute ⌝ }
     ensures { λ r. ⌜ r ≡ firingAfter s minute ⌝ }
 {
-    if minute == LAST_MINUTE {
+    if LAST_MINUTE <= minute {
         return Next::PastEnd;
     }
     let start = minute + 1;
@@ -126,9 +126,6 @@ fn firing_after(s: Schedule, minute: u64) -> Next
 pub fn next_firing(s: Schedule, minute: u64) -> Next
     ensures { λ r. ⌜ r ≡ nextAfter s minute ⌝ }
 {
-    if LAST_MINUTE < minute {
-        return Next::NotOnCalendar;
-    }
     if can_fire(s) {
         return firing_after(s, minute);
     }

@@ -4,6 +4,7 @@
 ghost use Prim.Native.Nat.{_+_, _<_, _^_};
 use libc::STDIN_FILENO;
 use libc::STDOUT_FILENO;
+use schedule::Next;
 use schedule::Schedule;
 use schedule::Stars;
 
@@ -42,12 +43,20 @@ fn schedule_in(case: &[u8; 32]) -> Schedule {
     }
 }
 
+// The number of the refusal, 0 where there is a firing: that of the minute comes first.
+fn refusal_of(next: Next, minute: u64) -> u8 {
+    if calendar::LAST_MINUTE < minute {
+        return calendar::NOT_ON_CALENDAR;
+    }
+    next.refusal()
+}
+
 fn print(case: &[u8; 32]) {
     let s = schedule_in(case);
     let minute = quad(case, 24) + 4_294_967_296 * quad(case, 28);
     let matched = schedule::matches(s, minute);
     let next = schedule::next_firing(s, minute);
-    let refusal = next.refusal();
+    let refusal = refusal_of(next, minute);
     io::print_decimal(STDOUT_FILENO, matched as u64);
     io::write_all(STDOUT_FILENO, b" ");
     if refusal == 0 {

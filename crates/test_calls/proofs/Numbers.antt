@@ -7,7 +7,7 @@ use native.Mathlib.Decide.{decLe}
 use native.Mathlib.Omega.{arith}
 use Rattle.calendar.specs.declared.Date.{Date}
 use Rattle.calendar.specs.Dates.{lastMinute, weekdayOf, dateAt, noDate, dateOf}
-use Rattle.calendar.proofs.DirectDates.{directAt, direct-is-walk}
+use Rattle.calendar.proofs.Theorems.{directAt, direct-is-walk}
 use Rattle.calendar.proofs.Minutes.{dateAt-on, dateOf-on, dateOf-off}
 use Rattle.test_calls.specs.Dates.{Small}
 

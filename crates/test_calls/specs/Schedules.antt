@@ -2,7 +2,9 @@
 -- Assumes nothing.
 use Prim.Native.Nat.{ℕ, _+_, _/_, _%_}
 use mathlib.Core.Bool.{cond}
-use lib.Dec.{eqb}
+use lib.Dec.{eqb, leb}
+use Rattle.calendar.specs.Refusals.{notOnCalendar}
+use Rattle.calendar.specs.Dates.{lastMinute}
 use Rattle.schedule.specs.declared.Schedule.{Schedule}
 use Rattle.schedule.specs.Match.{isDue}
 use Rattle.schedule.specs.Next.{nextAfter, refusalOf, minuteIn}
@@ -18,10 +20,13 @@ scheduleOf minutes hours days months weekdays stars =
       stars = record { days = eqb (stars % 2) 1; weekdays = eqb (stars / 2 % 2) 1 };
     }
 
+-- a minute off the calendar is refused first, as the table's callers have it
 unfoldable pub nextNumber : Schedule → ℕ → ℕ
 nextNumber s minute =
     let next = nextAfter s minute in
-    cond (eqb (refusalOf next) 0) (minuteIn next) (4294967296 + refusalOf next)
+    cond (leb minute lastMinute)
+    (cond (eqb (refusalOf next) 0) (minuteIn next) (4294967296 + refusalOf next))
+    (4294967296 + notOnCalendar)
 
 unfoldable pub matchNumber : Schedule → ℕ → ℕ
 matchNumber s minute = cond (isDue s minute) 1 0

@@ -42,6 +42,9 @@ pub extern "C" fn schedule_next(
 ) -> u64
     ensures { λ r. ⌜ r ≡ nextNumber (scheduleOf minutes hours days months weekdays stars) minute ⌝ }
 {
+    if calendar::LAST_MINUTE < minute {
+        return 4_294_967_296 + calendar::NOT_ON_CALENDAR as u64;
+    }
     let s = schedule_of(minutes, hours, days, months, weekdays, stars);
     let next = schedule::next_firing(s, minute);
     let refusal = next.refusal();

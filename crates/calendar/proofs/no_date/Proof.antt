@@ -5,9 +5,6 @@ use Rattle.calendar.specs.Dates.{noDate}
 use Rattle.calendar.proofs.no_date.Statement.{statement}
 use Rattle.calendar.proofs.no_date.Tie as tie
 
-returns : tie.Need-returns
-unfolding noDate
-returns c = refl
-
 pub no-date-spec : {M : Type 1} → statement M
-no-date-spec = tie.close (tie.spec returns)
+unfolding noDate
+no-date-spec = tie.close (tie.spec (λ c. refl))

@@ -10,33 +10,12 @@ use Rattle.field.proofs.read.Tie as tie
 returns : tie.Need-returns
 returns c = sym (read-empty _ _ _ (c .if1 .taken))
 
-shared-slice-read-if2 : tie.Need-shared-slice-read-if2
-shared-slice-read-if2 c = search needs
-
-sub-after-star : tie.Need-sub-after-star
-sub-after-star c = search needs
-
-part-after-star-start : tie.Need-part-after-star-start
-part-after-star-start c = search needs
-
-part-after-star-end : tie.Need-part-after-star-end
-part-after-star-end c = search needs
-
-after-star-requires : tie.Need-after-star-requires
-after-star-requires c κs = tt
-
-judge-requires : tie.Need-judge-requires
-judge-requires c κs = tt
-
 returns-2 : tie.Need-returns-2
 returns-2 c =
     let b = c .before .before .before in
     c .judge .ensures
     ∙ rw (c .before .after-star .ensures)
     (sym (read-star _ _ (b .before .before .before .before .args .s .now) (omega arith) (b .if2 .taken)))
-
-read-requires : tie.Need-read-requires
-read-requires c κs = search needs
 
 returns-3 : tie.Need-returns-3
 returns-3 c =
@@ -48,12 +27,12 @@ read-spec =
     tie.close
     (tie.spec
     returns
-    shared-slice-read-if2
-    sub-after-star
-    part-after-star-start
-    part-after-star-end
-    after-star-requires
-    judge-requires
+    (λ c. search needs)
+    (λ c. search needs)
+    (λ c. search needs)
+    (λ c. search needs)
+    (λ c κs. tt)
+    (λ c κs. tt)
     returns-2
-    read-requires
+    (λ c κs. search needs)
     returns-3)

@@ -8,24 +8,13 @@ use Rattle.crontab.proofs.Theorems.{table-sound}
 use Rattle.fifo.specs.Steps.{fresh}
 use Rattle.fifo.proofs.Filling.{init-done, init-refused}
 use Rattle.runqueue.specs.Jobs.{jobsOf}
-use Rattle.runqueue.specs.Calls.{initOf}
-use Rattle.runqueue.proofs.Whens.{joining-boot}
+use Rattle.runqueue.proofs.Joiners.{joining-boot}
 use Rattle.runqueue.proofs.Exits.{init-bad, init-good, emptied-line, emptied, laid-emptied}
 use Rattle.runqueue.proofs.init.Statement.{statement}
 use Rattle.runqueue.proofs.init.Tie as tie
 
-read-requires : tie.Need-read-requires
-read-requires c κs = search needs
-
 returns : tie.Need-returns
-unfolding initOf
 returns c = rw (← (c .before .read .ensures)) (init-bad (c .before .read .result) _ (c .if1 .taken))
-
-has-room-requires : tie.Need-has-room-requires
-has-room-requires c κs = search needs
-
-clear-requires : tie.Need-clear-requires
-clear-requires c κs = search needs
 
 offer-all-requires : tie.Need-offer-all-requires
 offer-all-requires c κs =
@@ -35,11 +24,8 @@ offer-all-requires c κs =
     let few : t .result .count ≤ maxEntries = rw (t .ensures) (table-sound _ .few) in
     (few, emptied-line (t .result) _ (k .clear .last .0) few (sym (b .has-room .ensures) ∙ k .before .before .if2 .taken) (k .clear .ensures .1))
 
-same-length : tie.Need-same-length
-same-length c = search needs
-
 returns-2 : tie.Need-returns-2
-unfolding initOf jobsOf fresh
+unfolding jobsOf fresh
 returns-2 c =
     let d = c .before .before .before .before .before .before in
     let b = d .before .before .before in
@@ -57,11 +43,8 @@ returns-2 c =
     )
     (init-done (jobsOf t) _ r)
 
-same-length-2 : tie.Need-same-length-2
-same-length-2 c = search needs
-
 returns-3 : tie.Need-returns-3
-unfolding initOf jobsOf
+unfolding jobsOf
 returns-3 c =
     let b = c .before .before .before in
     let t = b .before .read .result in
@@ -72,12 +55,12 @@ pub init-spec : {M : Type 1} → statement M
 init-spec =
     tie.close
     (tie.spec
-    read-requires
+    (λ c κs. search needs)
     returns
-    has-room-requires
-    clear-requires
+    (λ c κs. search needs)
+    (λ c κs. search needs)
     offer-all-requires
-    same-length
+    (λ c. search needs)
     returns-2
-    same-length-2
+    (λ c. search needs)
     returns-3)

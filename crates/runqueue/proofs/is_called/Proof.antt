@@ -5,18 +5,6 @@ use Rattle.runqueue.specs.Joining.{isCalled}
 use Rattle.runqueue.proofs.is_called.Statement.{statement}
 use Rattle.runqueue.proofs.is_called.Tie as tie
 
-enum-told : tie.Need-enum-told
-enum-told c = search needs
-
-is-boot-requires : tie.Need-is-boot-requires
-is-boot-requires c κs = search needs
-
-enum-known-called : tie.Need-enum-known-called
-enum-known-called c = search needs
-
-fires-on-requires : tie.Need-fires-on-requires
-fires-on-requires c κs = search needs
-
 returns : tie.Need-returns
 unfolding isCalled
 returns c = rw (c .before .enum-told .given .1) (c .is-boot .ensures)
@@ -26,4 +14,4 @@ unfolding isCalled
 returns-2 c = rw (c .before .before .called .given .1) (c .fires-on .ensures)
 
 pub is-called-spec : {M : Type 1} → statement M
-is-called-spec = tie.close (tie.spec enum-told is-boot-requires enum-known-called fires-on-requires returns returns-2)
+is-called-spec = tie.close (tie.spec (λ c. search needs) (λ c κs. search needs) (λ c. search needs) (λ c κs. search needs) returns returns-2)

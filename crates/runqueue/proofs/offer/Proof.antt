@@ -6,23 +6,11 @@ use borrow.Author.Needs.{needs}
 use Rattle.runqueue.proofs.offer.Statement.{statement}
 use Rattle.runqueue.proofs.offer.Tie as tie
 
-is-called-requires : tie.Need-is-called-requires
-is-called-requires c κs = search needs
-
-join-requires : tie.Need-join-requires
-join-requires c κs = search needs
-
-same-length : tie.Need-same-length
-same-length c = search needs
-
 returns : tie.Need-returns
 returns c =
     let j = c .before .before .before in
     let b = j .before .before in
     rw (j .join .ensures .1, ← (j .join .ensures .0), c .if2 .taken, ← (b .before .is-called .ensures), b .if1 .taken) (refl, (refl, omega arith))
-
-same-length-2 : tie.Need-same-length-2
-same-length-2 c = search needs
 
 returns-2 : tie.Need-returns-2
 returns-2 c =
@@ -34,4 +22,4 @@ returns-3 : tie.Need-returns-3
 returns-3 c = rw (← (c .before .is-called .ensures), c .if1 .left) (refl, (refl, omega arith))
 
 pub offer-spec : {M : Type 1} → statement M
-offer-spec = tie.close (tie.spec is-called-requires join-requires same-length returns same-length-2 returns-2 returns-3)
+offer-spec = tie.close (tie.spec (λ c κs. search needs) (λ c κs. search needs) (λ c. search needs) returns (λ c. search needs) returns-2 returns-3)

@@ -9,14 +9,14 @@ use Rattle.fifo.specs.WaitingLine.{standsIn}
 use Rattle.fifo.specs.Layout.{lineOf}
 use Rattle.fifo.proofs.Rooms.{laid-line}
 use Rattle.fifo.proofs.Filling.{Fills, fills-none, fills-more, offer-next}
-use Rattle.runqueue.specs.Jobs.{whenOf}
+use Rattle.runqueue.specs.Jobs.{jobAt}
 use Rattle.runqueue.specs.Joining.{isCalled, joining}
 use Rattle.runqueue.proofs.offer_all.Statement.{statement}
 use Rattle.runqueue.proofs.offer_all.Tie as tie
 
 abbrev Inv-loop : tie.InvT-loop
 Inv-loop room₀ called t n count₀ i₀ room count i =
-    Fills (lineOf room₀) room₀ (λ e. not (standsIn e (lineOf room₀)) && isCalled called (whenOf t e)) (t .count) i room count
+    Fills (lineOf room₀) room₀ (λ e. not (standsIn e (lineOf room₀)) && isCalled called (jobAt t e)) (t .count) i room count
 
 abbrev μ-loop : tie.MeasureT-loop
 μ-loop room₀ called t n count₀ i₀ room count i = t .count - i
@@ -27,41 +27,20 @@ loop-holds c =
     fills-none _ (a .room .now) _ (a .t1 .count)
     (sym (laid-line (a .t1 .count) (a .room .now) (λ i. omega (arith, c .slice-known .given i)) (c .before .pre .1))) refl
 
-mul-entry : tie.Need-mul-entry Inv-loop μ-loop
-mul-entry c = omega arith
-
-element-copy-out-entry : tie.Need-element-copy-out-entry Inv-loop μ-loop
-element-copy-out-entry c = omega arith
-
-cast-offer : tie.Need-cast-offer Inv-loop μ-loop
-cast-offer c = omega arith
-
-offer-requires : tie.Need-offer-requires Inv-loop μ-loop
-offer-requires c κs = search needs
-
 add-count : tie.Need-add-count Inv-loop μ-loop
 add-count c = omega (arith, c .before .before .offer .ensures .1 .1, c .before .before .before .before .before .before .loop .inv .count-most)
 
-add-i : tie.Need-add-i Inv-loop μ-loop
-add-i c = omega arith
-
-loop-less : tie.Need-loop-less Inv-loop μ-loop
-loop-less c = omega arith
-
 loop-again : tie.Need-loop-again Inv-loop μ-loop
-unfolding whenOf
+unfolding jobAt
 loop-again c =
     let b = c .before .before .before .before .before .before in
     let a = b .before .before .args in
     let f = b .loop .inv in
     let p = b .before .before .pre in
-    let step = offer-next (a .t1 .count) (a .room .now) (λ e. isCalled (a .called) (whenOf (a .t1) e)) (b .loop .i) (omega arith) (p .1) (omega arith) in
+    let step = offer-next (a .t1 .count) (a .room .now) (λ e. isCalled (a .called) (jobAt (a .t1) e)) (b .loop .i) (omega arith) (p .1) (omega arith) in
     let o = c .before .before .offer in
     fills-more _ _ _ _ f (omega arith) (o .ensures .1 .0 ∙ rw (f .room-is) (step .1)) (o .kept .0 ∙ f .length-is)
     (ap (λ (r : ℕ). b .loop .count + r) (o .ensures .0 ∙ rw (f .room-is, step .0)))
-
-same-length : tie.Need-same-length Inv-loop μ-loop
-same-length c = search needs
 
 returns : tie.Need-returns Inv-loop μ-loop
 unfolding joining
@@ -77,13 +56,13 @@ offer-all-spec =
     Inv-loop
     μ-loop
     loop-holds
-    mul-entry
-    element-copy-out-entry
-    cast-offer
-    offer-requires
+    (λ c. omega arith)
+    (λ c. omega arith)
+    (λ c. omega arith)
+    (λ c κs. search needs)
     add-count
-    add-i
-    loop-less
+    (λ c. omega arith)
+    (λ c. omega arith)
     loop-again
-    same-length
+    (λ c. search needs)
     returns)

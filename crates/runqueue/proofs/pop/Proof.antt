@@ -1,29 +1,23 @@
 -- `runqueue::pop` meets its contract: each return is a law of the calls.
 -- Assumes nothing.
 use borrow.Author.Needs.{needs}
-use Rattle.runqueue.specs.Calls.{popOf}
+use Rattle.crontab.specs.Tables.{tableOf, verdictOf}
 use Rattle.runqueue.proofs.Exits.{pop-bad, pop-good}
 use Rattle.runqueue.proofs.pop.Statement.{statement}
 use Rattle.runqueue.proofs.pop.Tie as tie
 
-read-requires : tie.Need-read-requires
-read-requires c κs = search needs
-
 returns : tie.Need-returns
-unfolding popOf
-returns c = rw (← (c .before .read .ensures)) (pop-bad (c .before .read .result) _ (c .if1 .taken))
-
-pop-requires : tie.Need-pop-requires
-pop-requires c κs = search needs
-
-same-length : tie.Need-same-length
-same-length c = search needs
+unfolding verdictOf
+returns c = let e = c .before .check .ensures in
+    rw e (pop-bad _ _ (rw e at (c .if1 .taken)))
 
 returns-2 : tie.Need-returns-2
-unfolding popOf
+unfolding verdictOf
 returns-2 c =
     let b = c .before .before .before .before in
-    rw (← (b .before .read .ensures), pop-good (b .before .read .result) _ (b .if1 .left)) (c .before .before .pop .ensures)
+    let e = b .before .check .ensures in
+    let a = b .before .before .before .before .args in
+    rw (pop-good (tableOf (a .table .now)) (a .room .now) (rw e at (b .if1 .left))) (rw e at (c .before .before .pop .ensures))
 
 pub pop-spec : {M : Type 1} → statement M
-pop-spec = tie.close (tie.spec read-requires returns pop-requires same-length returns-2)
+pop-spec = tie.close (tie.spec (λ c κs. search needs) returns (λ c κs. search needs) (λ c. search needs) returns-2)

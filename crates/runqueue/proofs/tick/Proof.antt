@@ -8,35 +8,21 @@ use Rattle.crontab.proofs.Theorems.{table-sound}
 use Rattle.fifo.specs.Steps.{ticked, joiners}
 use Rattle.fifo.proofs.Filling.{tick-done, tick-late, tick-refused}
 use Rattle.runqueue.specs.Jobs.{jobsOf}
-use Rattle.runqueue.specs.Calls.{tickOf}
-use Rattle.runqueue.proofs.Whens.{joining-due}
+use Rattle.runqueue.proofs.Joiners.{joining-due}
 use Rattle.runqueue.proofs.Exits.{tick-bad, tick-good}
 use Rattle.runqueue.proofs.tick.Statement.{statement}
 use Rattle.runqueue.proofs.tick.Tie as tie
 
-read-requires : tie.Need-read-requires
-read-requires c κs = search needs
-
 returns : tie.Need-returns
-unfolding tickOf
 returns c = rw (← (c .before .read .ensures)) (tick-bad (c .before .read .result) _ (c .if1 .taken) _)
 
-is-line-requires : tie.Need-is-line-requires
-is-line-requires c κs = search needs
-
-same-length : tie.Need-same-length
-same-length c = search needs
-
 returns-2 : tie.Need-returns-2
-unfolding tickOf jobsOf
+unfolding jobsOf
 returns-2 c =
     let b = c .before .before .before .before in
     let t = b .before .read .result in
     rw (← (b .before .read .ensures), tick-good t _ (b .if1 .left))
     (tick-late (jobsOf t) _ _ (sym (c .before .before .is-line .ensures) ∙ c .before .if2 .taken) (c .if3 .taken))
-
-date-of-requires : tie.Need-date-of-requires
-date-of-requires c κs = search needs
 
 offer-all-requires : tie.Need-offer-all-requires
 offer-all-requires c κs =
@@ -45,11 +31,8 @@ offer-all-requires c κs =
       sym (b .is-line .ensures) ∙ c .before .before .before .before .if2 .taken,
     )
 
-same-length-2 : tie.Need-same-length-2
-same-length-2 c = search needs
-
 returns-3 : tie.Need-returns-3
-unfolding tickOf jobsOf ticked joiners
+unfolding jobsOf ticked joiners
 returns-3 c =
     let b = c .before .before .before .before .before .before .before .before in
     let t = b .before .before .before .read .result in
@@ -65,11 +48,8 @@ returns-3 c =
     (tick-done (jobsOf t) _ _ (sym (b .is-line .ensures) ∙ c .before .before .before .before .before .before .before .if2 .taken)
     (c .before .before .before .before .before .before .if3 .left))
 
-same-length-3 : tie.Need-same-length-3
-same-length-3 c = search needs
-
 returns-4 : tie.Need-returns-4
-unfolding tickOf jobsOf
+unfolding jobsOf
 returns-4 c =
     let b = c .before .before .before in
     let t = b .before .read .result in
@@ -80,14 +60,14 @@ pub tick-spec : {M : Type 1} → statement M
 tick-spec =
     tie.close
     (tie.spec
-    read-requires
+    (λ c κs. search needs)
     returns
-    is-line-requires
-    same-length
+    (λ c κs. search needs)
+    (λ c. search needs)
     returns-2
-    date-of-requires
+    (λ c κs. search needs)
     offer-all-requires
-    same-length-2
+    (λ c. search needs)
     returns-3
-    same-length-3
+    (λ c. search needs)
     returns-4)

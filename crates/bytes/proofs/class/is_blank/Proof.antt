@@ -5,9 +5,6 @@ use Rattle.bytes.specs.Classes.{isBlank}
 use Rattle.bytes.proofs.class.is_blank.Statement.{statement}
 use Rattle.bytes.proofs.class.is_blank.Tie as tie
 
-returns : tie.Need-returns
-unfolding isBlank
-returns c = refl
-
 pub is-blank-spec : {M : Type 1} → statement M
-is-blank-spec = tie.close (tie.spec returns)
+unfolding isBlank
+is-blank-spec = tie.close (tie.spec (λ c. refl))

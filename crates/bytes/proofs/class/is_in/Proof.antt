@@ -5,33 +5,6 @@ use borrow.Author.Needs.{needs}
 use Rattle.bytes.proofs.class.is_in.Statement.{statement}
 use Rattle.bytes.proofs.class.is_in.Tie as tie
 
-enum-told : tie.Need-enum-told
-enum-told c = search needs
-
-is-blank-requires : tie.Need-is-blank-requires
-is-blank-requires c κs = search needs
-
-enum-told-2 : tie.Need-enum-told-2
-enum-told-2 c = search needs
-
-is-blank-requires-2 : tie.Need-is-blank-requires-2
-is-blank-requires-2 c κs = search needs
-
-enum-told-3 : tie.Need-enum-told-3
-enum-told-3 c = search needs
-
-is-blank-requires-3 : tie.Need-is-blank-requires-3
-is-blank-requires-3 c κs = search needs
-
-is-quote-requires : tie.Need-is-quote-requires
-is-quote-requires c κs = search needs
-
-enum-known-class : tie.Need-enum-known-class
-enum-known-class c = search needs
-
-enum-told-4 : tie.Need-enum-told-4
-enum-told-4 c = search needs
-
 returns : tie.Need-returns
 unfolding ofClass
 returns c = rw (c .before .enum-told .given .1) (c .is-blank .ensures)
@@ -56,15 +29,15 @@ pub is-in-spec : {M : Type 1} → statement M
 is-in-spec =
     tie.close
     (tie.spec
-    enum-told
-    is-blank-requires
-    enum-told-2
-    is-blank-requires-2
-    enum-told-3
-    is-blank-requires-3
-    is-quote-requires
-    enum-known-class
-    enum-told-4
+    (λ c. search needs)
+    (λ c κs. search needs)
+    (λ c. search needs)
+    (λ c κs. search needs)
+    (λ c. search needs)
+    (λ c κs. search needs)
+    (λ c κs. search needs)
+    (λ c. search needs)
+    (λ c. search needs)
     returns
     returns-2
     returns-3

@@ -21,21 +21,6 @@ returns c = omega (arith, trimmed-none (c .before .before .args .s .now) (c .bef
 loop-holds : tie.Need-loop-holds Inv-loop μ-loop
 loop-holds c = (ap trimmed (trimmed-whole _ _), omega arith, omega arith)
 
-sub-is-blank : tie.Need-sub-is-blank Inv-loop μ-loop
-sub-is-blank c = omega arith
-
-shared-slice-read-is-blank : tie.Need-shared-slice-read-is-blank Inv-loop μ-loop
-shared-slice-read-is-blank c = omega arith
-
-is-blank-requires : tie.Need-is-blank-requires Inv-loop μ-loop
-is-blank-requires c κs = tt
-
-sub-end : tie.Need-sub-end Inv-loop μ-loop
-sub-end c = omega arith
-
-loop-less : tie.Need-loop-less Inv-loop μ-loop
-loop-less c = omega arith
-
 loop-again : tie.Need-loop-again Inv-loop μ-loop
 loop-again c = let l = c .before .before .before .before in (
   sym (trimmed-blank _ _ (l .loop .end) (omega arith) (omega arith) (sym (c .before .is-blank .ensures) ∙ c .if2 .taken)) ∙ l .loop .inv .0,
@@ -59,11 +44,11 @@ trimmed-end-spec =
     μ-loop
     returns
     loop-holds
-    sub-is-blank
-    shared-slice-read-is-blank
-    is-blank-requires
-    sub-end
-    loop-less
+    (λ c. omega arith)
+    (λ c. omega arith)
+    (λ c κs. tt)
+    (λ c. omega arith)
+    (λ c. omega arith)
     loop-again
     returns-2
     returns-3)

@@ -7,12 +7,9 @@ use Rattle.bytes.proofs.Sets.{has-below}
 use Rattle.bytes.proofs.set.has.Statement.{statement}
 use Rattle.bytes.proofs.set.has.Tie as tie
 
-returns : tie.Need-returns
-unfolding hasBit
-returns c = refl
-
 returns-2 : tie.Need-returns-2
 returns-2 c = sym (has-below 64 (c .before .fits .set .fits) (c .if1 .left))
 
 pub has-spec : {M : Type 1} → statement M
-has-spec = tie.close (tie.spec (λ c. search needs) returns returns-2)
+unfolding hasBit
+has-spec = tie.close (tie.spec (λ c. search needs) (λ c. refl) returns-2)

@@ -5,9 +5,6 @@ use Rattle.calendar.specs.Gregorian.{leap}
 use Rattle.calendar.proofs.gregorian.is_leap.Statement.{statement}
 use Rattle.calendar.proofs.gregorian.is_leap.Tie as tie
 
-returns : tie.Need-returns
-unfolding leap
-returns c = refl
-
 pub is-leap-spec : {M : Type 1} → statement M
-is-leap-spec = tie.close (tie.spec returns)
+unfolding leap
+is-leap-spec = tie.close (tie.spec (λ c. refl))

@@ -6,18 +6,9 @@ use borrow.Author.Needs.{needs}
 use Rattle.crontab.proofs.assignment.closed.Statement.{statement}
 use Rattle.crontab.proofs.assignment.closed.Tie as tie
 
-enum-known-text : tie.Need-enum-known-text
-enum-known-text c = search needs
-
-enum-told : tie.Need-enum-told
-enum-told c = search needs
-
 returns : tie.Need-returns
 unfolding closed
 returns c = rw (c .enum-told .given .1)
-
-skip-requires : tie.Need-skip-requires
-skip-requires c κs = search needs
 
 returns-2 : tie.Need-returns-2
 unfolding closed
@@ -29,4 +20,4 @@ returns-3 c = rw (c .before .before .before .text .given .1, ← (c .before .ski
 
 pub closed-spec : {M : Type 1} → statement M
 closed-spec =
-    tie.close (tie.spec enum-known-text enum-told returns skip-requires returns-2 returns-3)
+    tie.close (tie.spec (λ c. search needs) (λ c. search needs) returns (λ c κs. search needs) returns-2 returns-3)

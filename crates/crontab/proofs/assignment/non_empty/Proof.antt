@@ -6,12 +6,6 @@ use borrow.Author.Needs.{needs}
 use Rattle.crontab.proofs.assignment.non_empty.Statement.{statement}
 use Rattle.crontab.proofs.assignment.non_empty.Tie as tie
 
-enum-known-text : tie.Need-enum-known-text
-enum-known-text c = search needs
-
-enum-told : tie.Need-enum-told
-enum-told c = search needs
-
 returns : tie.Need-returns
 unfolding nonEmpty
 returns c = rw (c .enum-told .given .1)
@@ -25,4 +19,4 @@ unfolding nonEmpty
 returns-3 c = rw (c .before .before .before .text .given .1, le-ltb _ _ (c .if1 .left))
 
 pub non-empty-spec : {M : Type 1} → statement M
-non-empty-spec = tie.close (tie.spec enum-known-text enum-told returns returns-2 returns-3)
+non-empty-spec = tie.close (tie.spec (λ c. search needs) (λ c. search needs) returns returns-2 returns-3)

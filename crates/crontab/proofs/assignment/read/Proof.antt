@@ -2,80 +2,53 @@
 -- Assumes nothing.
 use borrow.Author.Tests.{eq-eqb, ne-eqb}
 use Rattle.bytes.specs.declared.class.Class.the-variants.{Blank}
-use Rattle.crontab.specs.Assignments.{settingLine, afterName, afterEquals}
+use Rattle.crontab.specs.Assignments.{settingAt, afterName, afterEquals}
 use Rattle.bytes.proofs.Runs.{byte-within, skipped-within}
 use borrow.Author.Needs.{needs}
 use native.Mathlib.Omega.{arith}
 use Rattle.crontab.proofs.assignment.read.Statement.{statement}
 use Rattle.crontab.proofs.assignment.read.Tie as tie
 
-add-skip : tie.Need-add-skip
-add-skip c = search needs
-
-name-at-requires : tie.Need-name-at-requires
-name-at-requires c κs = search needs
-
-enum-known-name : tie.Need-enum-known-name
-enum-known-name c = search needs
-
-enum-told : tie.Need-enum-told
-enum-told c = search needs
-
 returns : tie.Need-returns
-unfolding settingLine afterName
+unfolding settingAt afterName
 returns c = rw (← (c .before .before .name-at .ensures), c .enum-told .given .1)
 
-skip-requires : tie.Need-skip-requires
-skip-requires c κs = search needs
-
-byte-at-requires : tie.Need-byte-at-requires
-byte-at-requires c κs = search needs
-
 returns-2 : tie.Need-returns-2
-unfolding settingLine afterName
+unfolding settingAt afterName
 returns-2 c = rw (← (c .before .before .before .before .before .before .name-at .ensures), c .before .before .before .before .name .given .1, ← (c .before .before .skip .ensures .0), ← (c .before .byte-at .ensures), ne-eqb _ _ (c .if1 .taken))
 
 add-skip-2 : tie.Need-add-skip-2
 add-skip-2 c = omega (arith, byte-within (c .before .before .before .before .before .before .before .before .args .s .now) (c .before .before .skip .result) (omega arith))
-
-skip-requires-2 : tie.Need-skip-requires-2
-skip-requires-2 c κs = search needs
 
 value-at-requires : tie.Need-value-at-requires
 value-at-requires c κs = let e = c .before .before .before in
     let s = e .before .before .before .before .before .before .args .s .now in
     rw (c .skip2 .ensures .0) (skipped-within Blank s _ (omega (arith, byte-within s (e .skip .result) (omega arith))))
 
-enum-known-value : tie.Need-enum-known-value
-enum-known-value c = search needs
-
-enum-told-2 : tie.Need-enum-told-2
-enum-told-2 c = search needs
-
 returns-3 : tie.Need-returns-3
-unfolding settingLine afterName afterEquals
+unfolding settingAt afterName afterEquals
 returns-3 c = rw (← (c .before .before .before .before .before .before .before .before .before .before .name-at .ensures), c .before .before .before .before .before .before .before .before .name .given .1, ← (c .before .before .before .before .before .before .skip .ensures .0), ← (c .before .before .before .before .before .byte-at .ensures), eq-eqb _ _ (c .before .before .before .before .if1 .left), ← (c .before .before .before .skip2 .ensures .0), ← (c .before .before .value-at .ensures), c .enum-told2 .given .1)
 
 returns-4 : tie.Need-returns-4
-unfolding settingLine afterName afterEquals
+unfolding settingAt afterName afterEquals
 returns-4 c = rw (← (c .before .before .before .before .before .before .before .before .before .before .before .name-at .ensures), c .before .before .before .before .before .before .before .before .before .name .given .1, ← (c .before .before .before .before .before .before .before .skip .ensures .0), ← (c .before .before .before .before .before .before .byte-at .ensures), eq-eqb _ _ (c .before .before .before .before .before .if1 .left), ← (c .before .before .before .before .skip2 .ensures .0), ← (c .before .before .before .value-at .ensures), c .before .value .given .1)
 
 pub read-spec : {M : Type 1} → statement M
 read-spec =
     tie.close
     (tie.spec
-    add-skip
-    name-at-requires
-    enum-known-name
-    enum-told
+    (λ c. search needs)
+    (λ c κs. search needs)
+    (λ c. search needs)
+    (λ c. search needs)
     returns
-    skip-requires
-    byte-at-requires
+    (λ c κs. search needs)
+    (λ c κs. search needs)
     returns-2
     add-skip-2
-    skip-requires-2
+    (λ c κs. search needs)
     value-at-requires
-    enum-known-value
-    enum-told-2
+    (λ c. search needs)
+    (λ c. search needs)
     returns-3
     returns-4)

@@ -1,28 +1,22 @@
 -- `crontab::firing::due_at` meets its contract, by the date that the calendar gives.
 -- Assumes nothing.
 use mathlib.Core.Path.{sym, _∙_}
-use Rattle.crontab.proofs.Minutes.{due-off, due-on}
+use borrow.Author.Tests.{lt-leb}
+use Rattle.crontab.specs.Firings.{dueOf}
+use Rattle.crontab.proofs.Firings.{due-on}
 use borrow.Author.Needs.{needs}
 use Rattle.crontab.proofs.firing.due_at.Statement.{statement}
 use Rattle.crontab.proofs.firing.due_at.Tie as tie
 
-date-of-requires : tie.Need-date-of-requires
-date-of-requires c κs = search needs
-
 returns : tie.Need-returns
-returns c = let e = c .before .before .date-of .ensures in
-    rw e (due-off _ _ (rw e at (c .if1 .taken)))
-
-fires-on-requires : tie.Need-fires-on-requires
-fires-on-requires c κs = search needs
+unfolding dueOf
+returns c = rw (lt-leb _ _ (c .if1 .taken))
 
 returns-2 : tie.Need-returns-2
-returns-2 c = let e = c .before .before .before .before .before .date-of .ensures in
-    sym (due-on _ _ (rw e at (c .before .before .before .if1 .left)) ∙ rw (← e, ← (c .before .fires-on .ensures), c .if2 .taken))
+returns-2 c = sym (due-on _ _ (c .before .before .before .before .if1 .left) ∙ rw (← (c .before .before .before .date-of .ensures), ← (c .before .fires-on .ensures), c .if2 .taken))
 
 returns-3 : tie.Need-returns-3
-returns-3 c = let e = c .before .before .before .before .before .date-of .ensures in
-    sym (due-on _ _ (rw e at (c .before .before .before .if1 .left)) ∙ rw (← e, ← (c .before .fires-on .ensures), c .if2 .left))
+returns-3 c = sym (due-on _ _ (c .before .before .before .before .if1 .left) ∙ rw (← (c .before .before .before .date-of .ensures), ← (c .before .fires-on .ensures), c .if2 .left))
 
 pub due-at-spec : {M : Type 1} → statement M
-due-at-spec = tie.close (tie.spec date-of-requires returns fires-on-requires returns-2 returns-3)
+due-at-spec = tie.close (tie.spec returns (λ c κs. search needs) (λ c κs. search needs) returns-2 returns-3)

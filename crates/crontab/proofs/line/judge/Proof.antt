@@ -7,26 +7,17 @@ use borrow.Author.Needs.{needs}
 use Rattle.crontab.proofs.line.judge.Statement.{statement}
 use Rattle.crontab.proofs.line.judge.Tie as tie
 
-add-t5 : tie.Need-add-t5
-add-t5 c = search needs
-
 returns : tie.Need-returns
 unfolding readLine
 returns c = rw (lt-ltb _ _ (c .if1 .taken))
 
-add-t7 : tie.Need-add-t7
-add-t7 c = search needs
-
 returns-2 : tie.Need-returns-2
 unfolding readLine
 returns-2 c = rw (le-ltb _ _ (c .before .if1 .left), ← (c .before .before .before .pre), lt-ltb _ _ (c .if2 .taken))
-
-content-requires : tie.Need-content-requires
-content-requires c κs = search needs
 
 returns-3 : tie.Need-returns-3
 unfolding readLine
 returns-3 c = c .content .ensures ∙ rw (le-ltb _ _ (c .before .before .if1 .left), ← (c .before .before .before .before .pre), le-ltb _ _ (c .before .if2 .left))
 
 pub judge-spec : {M : Type 1} → statement M
-judge-spec = tie.close (tie.spec add-t5 returns add-t7 returns-2 content-requires returns-3)
+judge-spec = tie.close (tie.spec (λ c. search needs) returns (λ c. search needs) returns-2 (λ c κs. search needs) returns-3)

@@ -10,43 +10,13 @@ use native.Mathlib.Omega.{arith}
 use Rattle.crontab.proofs.time.field_at.Statement.{statement}
 use Rattle.crontab.proofs.time.field_at.Tie as tie
 
-add-t13 : tie.Need-add-t13
-add-t13 c = search needs
-
 returns : tie.Need-returns
 unfolding fieldAt
 returns c = rw (le-leb _ _ (c .if1 .taken))
 
-skip-requires : tie.Need-skip-requires
-skip-requires c κs = search needs
-
-sub-read : tie.Need-sub-read
-sub-read c = search needs
-
-part-read-start : tie.Need-part-read-start
-part-read-start c = search needs
-
 part-read-end : tie.Need-part-read-end
 part-read-end c = let b = c .before .before .before in
     omega (arith, skipped-within Solid (b .args .s .now) (b .args .at) (omega arith), c .skip .ensures .0)
-
-add-read : tie.Need-add-read
-add-read c = search needs
-
-cast-read : tie.Need-cast-read
-cast-read c = search needs
-
-read-requires : tie.Need-read-requires
-read-requires c κs = search needs
-
-enum-known-answer : tie.Need-enum-known-answer
-enum-known-answer c = search needs
-
-skip-requires-2 : tie.Need-skip-requires-2
-skip-requires-2 c κs = search needs
-
-enum-known-answer-2 : tie.Need-enum-known-answer-2
-enum-known-answer-2 c = search needs
 
 returns-2 : tie.Need-returns-2
 unfolding fieldAt answered between
@@ -60,17 +30,17 @@ pub field-at-spec : {M : Type 1} → statement M
 field-at-spec =
     tie.close
     (tie.spec
-    add-t13
+    (λ c. search needs)
     returns
-    skip-requires
-    sub-read
-    part-read-start
+    (λ c κs. search needs)
+    (λ c. search needs)
+    (λ c. search needs)
     part-read-end
-    add-read
-    cast-read
-    read-requires
-    enum-known-answer
-    skip-requires-2
-    enum-known-answer-2
+    (λ c. search needs)
+    (λ c. search needs)
+    (λ c κs. search needs)
+    (λ c. search needs)
+    (λ c κs. search needs)
+    (λ c. search needs)
     returns-2
     returns-3)

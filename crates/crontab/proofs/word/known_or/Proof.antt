@@ -4,9 +4,6 @@ use borrow.Author.Needs.{needs}
 use Rattle.crontab.proofs.word.known_or.Statement.{statement}
 use Rattle.crontab.proofs.word.known_or.Tie as tie
 
-is-word-requires : tie.Need-is-word-requires
-is-word-requires c κs = search needs
-
 returns : tie.Need-returns
 returns c = rw (← (c .before .is-word .ensures), c .if1 .taken)
 
@@ -14,4 +11,4 @@ returns-2 : tie.Need-returns-2
 returns-2 c = rw (← (c .before .is-word .ensures), c .if1 .left)
 
 pub known-or-spec : {M : Type 1} → statement M
-known-or-spec = tie.close (tie.spec is-word-requires returns returns-2)
+known-or-spec = tie.close (tie.spec (λ c κs. search needs) returns returns-2)

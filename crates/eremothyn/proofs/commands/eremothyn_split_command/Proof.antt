@@ -4,53 +4,25 @@ use mathlib.Core.Path.{refl, sym, ap, _∙_}
 use native.Mathlib.Omega.{arith}
 use Rattle.bytes.specs.Runs.{between}
 use Rattle.crontab.proofs.Theorems.{entry-sound}
-use Rattle.eremothyn.specs.Commands.{splitNumber}
-use Rattle.eremothyn.specs.Commands.{splitIn, splitOf}
+use Rattle.eremothyn.specs.Commands.{splitNumber, splitIn, splitOf}
 use borrow.Author.Needs.{needs}
 use Rattle.eremothyn.proofs.commands.eremothyn_split_command.Statement.{statement}
 use Rattle.eremothyn.proofs.commands.eremothyn_split_command.Tie as tie
 
-find-entry-requires : tie.Need-find-entry-requires
-find-entry-requires c κs = search needs
-
-enum-known-found : tie.Need-enum-known-found
-enum-known-found c = search needs
-
 sub-split : tie.Need-sub-split
-sub-split c = let e = entry-sound _ _ (sym (c .before .before .before .find-entry .ensures) ∙ c .before .found .given .1) in omega (arith, e .some)
+sub-split c = let e = entry-sound _ _ (sym (c .before .before .before .before .before .find-entry .ensures) ∙ c .before .before .before .found .given .1) in omega (arith, e .some)
 
 part-split-start : tie.Need-part-split-start
-part-split-start c = let e = entry-sound _ _ (sym (c .before .before .before .find-entry .ensures) ∙ c .before .found .given .1) in omega (arith, e .some)
+part-split-start c = let e = entry-sound _ _ (sym (c .before .before .before .before .before .find-entry .ensures) ∙ c .before .before .before .found .given .1) in omega (arith, e .some)
 
 part-split-end : tie.Need-part-split-end
-part-split-end c = let e = entry-sound _ _ (sym (c .before .before .before .find-entry .ensures) ∙ c .before .found .given .1) in omega (arith, e .within)
-
-split-requires : tie.Need-split-requires
-split-requires c κs = search needs
-
-split-number-requires : tie.Need-split-number-requires
-split-number-requires c κs = search needs
-
-enum-known-number : tie.Need-enum-known-number
-enum-known-number c = search needs
-
-cast-result : tie.Need-cast-result
-cast-result c = search needs
-
-add-result : tie.Need-add-result
-add-result c = search needs
-
-same-length : tie.Need-same-length
-same-length c = search needs
-
-same-length-2 : tie.Need-same-length-2
-same-length-2 c = search needs
+part-split-end c = let e = entry-sound _ _ (sym (c .before .before .before .before .before .find-entry .ensures) ∙ c .before .before .before .found .given .1) in omega (arith, e .within)
 
 returns : tie.Need-returns
 unfolding splitOf splitIn between
 returns c =
     let b = c .before .before .before .before .before in
-    let f = b .before .before .before .before .before in
+    let f = b .before .before .before .before .before .before .before in
     rw (← (f .before .before .find-entry .ensures), f .found .given .1)
     (c .split-number .ensures ∙ ap splitNumber (b .split .ensures .0), b .split .ensures .1)
 
@@ -63,17 +35,19 @@ pub eremothyn-split-command-spec : {M : Type 1} → statement M
 eremothyn-split-command-spec =
     tie.close
     (tie.spec
-    find-entry-requires
-    enum-known-found
+    (λ c κs. search needs)
+    (λ c. search needs)
+    (λ c. search needs)
+    (λ c. search needs)
     sub-split
     part-split-start
     part-split-end
-    split-requires
-    split-number-requires
-    enum-known-number
-    cast-result
-    add-result
-    same-length
-    same-length-2
+    (λ c κs. search needs)
+    (λ c κs. search needs)
+    (λ c. search needs)
+    (λ c. search needs)
+    (λ c. search needs)
+    (λ c. search needs)
+    (λ c. search needs)
     returns
     returns-2)

@@ -5,12 +5,6 @@ use borrow.Author.Needs.{needs}
 use Rattle.eremothyn.proofs.commands.input_number.Statement.{statement}
 use Rattle.eremothyn.proofs.commands.input_number.Tie as tie
 
-enum-told : tie.Need-enum-told
-enum-told c = search needs
-
-enum-known-input : tie.Need-enum-known-input
-enum-known-input c = search needs
-
 returns : tie.Need-returns
 unfolding inputNumber
 returns c = rw (c .enum-told .given .1)
@@ -20,4 +14,4 @@ unfolding inputNumber
 returns-2 c = rw (c .before .input .given .1)
 
 pub input-number-spec : {M : Type 1} → statement M
-input-number-spec = tie.close (tie.spec enum-told enum-known-input returns returns-2)
+input-number-spec = tie.close (tie.spec (λ c. search needs) (λ c. search needs) returns returns-2)

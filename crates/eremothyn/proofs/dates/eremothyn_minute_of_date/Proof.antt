@@ -5,15 +5,9 @@ use Rattle.eremothyn.specs.Dates.{dateMinute}
 use Rattle.eremothyn.proofs.dates.eremothyn_minute_of_date.Statement.{statement}
 use Rattle.eremothyn.proofs.dates.eremothyn_minute_of_date.Tie as tie
 
-minute-of-requires : tie.Need-minute-of-requires
-minute-of-requires c κs = search needs
-
-answer-requires : tie.Need-answer-requires
-answer-requires c κs = search needs
-
 returns : tie.Need-returns
 unfolding dateMinute
 returns c = rw (← (c .before .minute-of .ensures)) (c .answer .ensures)
 
 pub eremothyn-minute-of-date-spec : {M : Type 1} → statement M
-eremothyn-minute-of-date-spec = tie.close (tie.spec minute-of-requires answer-requires returns)
+eremothyn-minute-of-date-spec = tie.close (tie.spec (λ c κs. search needs) (λ c κs. search needs) returns)

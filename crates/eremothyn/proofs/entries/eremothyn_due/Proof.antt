@@ -5,24 +5,6 @@ use borrow.Author.Needs.{needs}
 use Rattle.eremothyn.proofs.entries.eremothyn_due.Statement.{statement}
 use Rattle.eremothyn.proofs.entries.eremothyn_due.Tie as tie
 
-due-requires : tie.Need-due-requires
-due-requires c κs = search needs
-
-enum-told : tie.Need-enum-told
-enum-told c = search needs
-
-enum-told-2 : tie.Need-enum-told-2
-enum-told-2 c = search needs
-
-enum-known-number : tie.Need-enum-known-number
-enum-known-number c = search needs
-
-cast-result : tie.Need-cast-result
-cast-result c = search needs
-
-add-result : tie.Need-add-result
-add-result c = search needs
-
 returns : tie.Need-returns
 unfolding dueNumber
 returns c = rw (← (c .before .before .due .ensures), c .enum-told .given .1)
@@ -39,12 +21,12 @@ pub eremothyn-due-spec : {M : Type 1} → statement M
 eremothyn-due-spec =
     tie.close
     (tie.spec
-    due-requires
-    enum-told
-    enum-told-2
-    enum-known-number
-    cast-result
-    add-result
+    (λ c κs. search needs)
+    (λ c. search needs)
+    (λ c. search needs)
+    (λ c. search needs)
+    (λ c. search needs)
+    (λ c. search needs)
     returns
     returns-2
     returns-3)

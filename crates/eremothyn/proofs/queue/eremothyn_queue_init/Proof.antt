@@ -6,19 +6,10 @@ use Rattle.eremothyn.specs.Queue.{tickNumber}
 use Rattle.eremothyn.proofs.queue.eremothyn_queue_init.Statement.{statement}
 use Rattle.eremothyn.proofs.queue.eremothyn_queue_init.Tie as tie
 
-init-requires : tie.Need-init-requires
-init-requires c κs = search needs
-
-ticked-number-requires : tie.Need-ticked-number-requires
-ticked-number-requires c κs = search needs
-
-same-length : tie.Need-same-length
-same-length c = search needs
-
 returns : tie.Need-returns
 returns c =
     (c .ticked-number .ensures ∙ ap tickNumber (c .before .before .before .init .ensures .0), c .before .before .before .init .ensures .1)
 
 pub eremothyn-queue-init-spec : {M : Type 1} → statement M
 eremothyn-queue-init-spec =
-    tie.close (tie.spec init-requires ticked-number-requires same-length returns)
+    tie.close (tie.spec (λ c κs. search needs) (λ c κs. search needs) (λ c. search needs) returns)

@@ -6,19 +6,10 @@ use Rattle.eremothyn.specs.Queue.{popNumber}
 use Rattle.eremothyn.proofs.queue.eremothyn_queue_pop.Statement.{statement}
 use Rattle.eremothyn.proofs.queue.eremothyn_queue_pop.Tie as tie
 
-pop-requires : tie.Need-pop-requires
-pop-requires c κs = search needs
-
-popped-number-requires : tie.Need-popped-number-requires
-popped-number-requires c κs = search needs
-
-same-length : tie.Need-same-length
-same-length c = search needs
-
 returns : tie.Need-returns
 returns c =
     (c .popped-number .ensures ∙ ap popNumber (c .before .before .before .pop .ensures .0), c .before .before .before .pop .ensures .1)
 
 pub eremothyn-queue-pop-spec : {M : Type 1} → statement M
 eremothyn-queue-pop-spec =
-    tie.close (tie.spec pop-requires popped-number-requires same-length returns)
+    tie.close (tie.spec (λ c κs. search needs) (λ c κs. search needs) (λ c. search needs) returns)

@@ -5,12 +5,6 @@ use Rattle.field.specs.Elements.{isElement}
 use Rattle.field.proofs.element.is_element.Statement.{statement}
 use Rattle.field.proofs.element.is_element.Tie as tie
 
-enum-told : tie.Need-enum-told
-enum-told c = search needs
-
-enum-told-2 : tie.Need-enum-told-2
-enum-told-2 c = search needs
-
 returns : tie.Need-returns
 unfolding isElement
 returns c = rw (c .enum-told .given .1)
@@ -20,4 +14,4 @@ unfolding isElement
 returns-2 c = rw (c .enum-told2 .given .1)
 
 pub is-element-spec : {M : Type 1} → statement M
-is-element-spec = tie.close (tie.spec enum-told enum-told-2 returns returns-2)
+is-element-spec = tie.close (tie.spec (λ c. search needs) (λ c. search needs) returns returns-2)

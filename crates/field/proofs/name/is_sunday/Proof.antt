@@ -5,21 +5,6 @@ use Rattle.field.specs.Names.{isSunday}
 use Rattle.field.proofs.name.is_sunday.Statement.{statement}
 use Rattle.field.proofs.name.is_sunday.Tie as tie
 
-enum-told : tie.Need-enum-told
-enum-told c = search needs
-
-enum-told-2 : tie.Need-enum-told-2
-enum-told-2 c = search needs
-
-enum-told-3 : tie.Need-enum-told-3
-enum-told-3 c = search needs
-
-slice-aggregate-is-name : tie.Need-slice-aggregate-is-name
-slice-aggregate-is-name c = search needs
-
-is-name-requires : tie.Need-is-name-requires
-is-name-requires c κs = search needs
-
 returns : tie.Need-returns
 unfolding isSunday
 returns c = rw (c .enum-told .given .1)
@@ -36,11 +21,11 @@ pub is-sunday-spec : {M : Type 1} → statement M
 is-sunday-spec =
     tie.close
     (tie.spec
-    enum-told
-    enum-told-2
-    enum-told-3
-    slice-aggregate-is-name
-    is-name-requires
+    (λ c. search needs)
+    (λ c. search needs)
+    (λ c. search needs)
+    (λ c. search needs)
+    (λ c κs. search needs)
     returns
     returns-2
     returns-3)

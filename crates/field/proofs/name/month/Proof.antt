@@ -5,42 +5,6 @@ use Rattle.field.proofs.Naming.{named-next, named-none}
 use Rattle.field.proofs.name.month.Statement.{statement}
 use Rattle.field.proofs.name.month.Tie as tie
 
-named-or-requires : tie.Need-named-or-requires
-named-or-requires c κs = tt
-
-named-or-requires-2 : tie.Need-named-or-requires-2
-named-or-requires-2 c κs = tt
-
-named-or-requires-3 : tie.Need-named-or-requires-3
-named-or-requires-3 c κs = tt
-
-named-or-requires-4 : tie.Need-named-or-requires-4
-named-or-requires-4 c κs = tt
-
-named-or-requires-5 : tie.Need-named-or-requires-5
-named-or-requires-5 c κs = tt
-
-named-or-requires-6 : tie.Need-named-or-requires-6
-named-or-requires-6 c κs = tt
-
-named-or-requires-7 : tie.Need-named-or-requires-7
-named-or-requires-7 c κs = tt
-
-named-or-requires-8 : tie.Need-named-or-requires-8
-named-or-requires-8 c κs = tt
-
-named-or-requires-9 : tie.Need-named-or-requires-9
-named-or-requires-9 c κs = tt
-
-named-or-requires-10 : tie.Need-named-or-requires-10
-named-or-requires-10 c κs = tt
-
-named-or-requires-11 : tie.Need-named-or-requires-11
-named-or-requires-11 c κs = tt
-
-named-or-requires-12 : tie.Need-named-or-requires-12
-named-or-requires-12 c κs = tt
-
 returns : tie.Need-returns
 unfolding monthNames
 returns c =
@@ -73,16 +37,16 @@ pub month-spec : {M : Type 1} → statement M
 month-spec =
     tie.close
     (tie.spec
-    named-or-requires
-    named-or-requires-2
-    named-or-requires-3
-    named-or-requires-4
-    named-or-requires-5
-    named-or-requires-6
-    named-or-requires-7
-    named-or-requires-8
-    named-or-requires-9
-    named-or-requires-10
-    named-or-requires-11
-    named-or-requires-12
+    (λ c κs. tt)
+    (λ c κs. tt)
+    (λ c κs. tt)
+    (λ c κs. tt)
+    (λ c κs. tt)
+    (λ c κs. tt)
+    (λ c κs. tt)
+    (λ c κs. tt)
+    (λ c κs. tt)
+    (λ c κs. tt)
+    (λ c κs. tt)
+    (λ c κs. tt)
     returns)

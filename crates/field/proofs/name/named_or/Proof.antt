@@ -3,9 +3,6 @@
 use Rattle.field.proofs.name.named_or.Statement.{statement}
 use Rattle.field.proofs.name.named_or.Tie as tie
 
-is-name-requires : tie.Need-is-name-requires
-is-name-requires c κs = tt
-
 returns : tie.Need-returns
 returns c = rw (← (c .before .is-name .ensures), c .if1 .taken)
 
@@ -13,4 +10,4 @@ returns-2 : tie.Need-returns-2
 returns-2 c = rw (← (c .before .is-name .ensures), c .if1 .left)
 
 pub named-or-spec : {M : Type 1} → statement M
-named-or-spec = tie.close (tie.spec is-name-requires returns returns-2)
+named-or-spec = tie.close (tie.spec (λ c κs. tt) returns returns-2)

@@ -5,21 +5,6 @@ use Rattle.field.specs.Names.{nameOf}
 use Rattle.field.proofs.name.read.Statement.{statement}
 use Rattle.field.proofs.name.read.Tie as tie
 
-enum-told : tie.Need-enum-told
-enum-told c = search needs
-
-enum-told-2 : tie.Need-enum-told-2
-enum-told-2 c = search needs
-
-month-requires : tie.Need-month-requires
-month-requires c κs = tt
-
-enum-told-3 : tie.Need-enum-told-3
-enum-told-3 c = search needs
-
-weekday-requires : tie.Need-weekday-requires
-weekday-requires c κs = tt
-
 returns : tie.Need-returns
 unfolding nameOf
 returns c = rw (c .enum-told .given .1)
@@ -36,11 +21,11 @@ pub read-spec : {M : Type 1} → statement M
 read-spec =
     tie.close
     (tie.spec
-    enum-told
-    enum-told-2
-    month-requires
-    enum-told-3
-    weekday-requires
+    (λ c. search needs)
+    (λ c. search needs)
+    (λ c κs. tt)
+    (λ c. search needs)
+    (λ c κs. tt)
     returns
     returns-2
     returns-3)

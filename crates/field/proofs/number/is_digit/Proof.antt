@@ -5,9 +5,6 @@ use Rattle.field.specs.Numbers.{isDigit}
 use Rattle.field.proofs.number.is_digit.Statement.{statement}
 use Rattle.field.proofs.number.is_digit.Tie as tie
 
-returns : tie.Need-returns
-unfolding isDigit
-returns c = refl
-
 pub is-digit-spec : {M : Type 1} → statement M
-is-digit-spec = tie.close (tie.spec returns)
+unfolding isDigit
+is-digit-spec = tie.close (tie.spec (λ c. refl))

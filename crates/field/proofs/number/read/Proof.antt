@@ -23,12 +23,6 @@ returns-2 c = sym (no-number-long _ (c .if2 .taken))
 loop-holds : tie.Need-loop-holds Inv-loop μ-loop
 loop-holds c = reading-starts _ (omega arith) (c .if2 .left)
 
-shared-slice-read-b : tie.Need-shared-slice-read-b Inv-loop μ-loop
-shared-slice-read-b c = omega arith
-
-is-digit-requires : tie.Need-is-digit-requires Inv-loop μ-loop
-is-digit-requires c κs = tt
-
 digit : (c : tie.Then3 Inv-loop μ-loop)
     → let at = c .before .before .before .before .loop .at in
     let s = c .before .before .before .before .before .before .before .before .args .s .now in
@@ -61,12 +55,6 @@ returns-3 c =
     (c .before .before .before .loop-test .taken)
     (sym (c .before .is-digit .ensures) ∙ c .if3 .left))
 
-add-at : tie.Need-add-at Inv-loop μ-loop
-add-at c = omega arith
-
-loop-less : tie.Need-loop-less Inv-loop μ-loop
-loop-less c = omega arith
-
 loop-again : tie.Need-loop-again Inv-loop μ-loop
 loop-again c =
     reading-digit
@@ -89,14 +77,14 @@ read-spec =
     returns
     returns-2
     loop-holds
-    shared-slice-read-b
-    is-digit-requires
+    (λ c. omega arith)
+    (λ c κs. tt)
     mul-value
     sub-value
     cast-value
     add-value
     returns-3
-    add-at
-    loop-less
+    (λ c. omega arith)
+    (λ c. omega arith)
     loop-again
     returns-4)

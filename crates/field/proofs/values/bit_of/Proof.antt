@@ -1,6 +1,7 @@
 -- `field::values::bit_of` meets its contract: a value below the bits, or past them.
 -- Assumes nothing.
 use mathlib.Core.Path.{sym}
+use native.Mathlib.Omega.{arith}
 use borrow.Author.Needs.{needs}
 use borrow.Author.Tests.{le-ltb}
 use Rattle.field.specs.Values.{bitOf}
@@ -9,11 +10,11 @@ use Rattle.field.proofs.values.bit_of.Statement.{statement}
 use Rattle.field.proofs.values.bit_of.Tie as tie
 
 returns : tie.Need-returns
-returns c = sym (own-bit _ _ (c .if1 .taken))
+returns c = sym (own-bit _ _ (omega arith))
 
 returns-2 : tie.Need-returns-2
 unfolding bitOf
-returns-2 c = rw (le-ltb _ _ (c .if1 .left))
+returns-2 c = rw (le-ltb (c .before .before .args .value) (c .before .before .args .limits .bits) (omega arith))
 
 pub bit-of-spec : {M : Type 1} → statement M
 bit-of-spec = tie.close (tie.spec (λ c. search needs) returns returns-2)

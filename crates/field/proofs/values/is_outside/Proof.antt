@@ -6,15 +6,6 @@ use Rattle.field.specs.Judgement.{outside}
 use Rattle.field.proofs.values.is_outside.Statement.{statement}
 use Rattle.field.proofs.values.is_outside.Tie as tie
 
-cast-result : tie.Need-cast-result
-cast-result c = search needs
-
-cast-result-2 : tie.Need-cast-result-2
-cast-result-2 c = search needs
-
-returns : tie.Need-returns
-unfolding outside
-returns c = refl
-
 pub is-outside-spec : {M : Type 1} → statement M
-is-outside-spec = tie.close (tie.spec cast-result cast-result-2 returns)
+unfolding outside
+is-outside-spec = tie.close (tie.spec (λ c. search needs) (λ c. search needs) (λ c. refl))

@@ -6,31 +6,13 @@ use Rattle.field.specs.Judgement.{judged}
 use Rattle.field.proofs.values.judge.Statement.{statement}
 use Rattle.field.proofs.values.judge.Tie as tie
 
-enum-known-answer : tie.Need-enum-known-answer
-enum-known-answer c = search needs
-
-enum-told : tie.Need-enum-told
-enum-told c = search needs
-
 returns : tie.Need-returns
 unfolding judged
 returns c = rw (c .enum-told .given .1)
 
-enum-known-element : tie.Need-enum-known-element
-enum-known-element c = search needs
-
-enum-told-2 : tie.Need-enum-told-2
-enum-told-2 c = search needs
-
 returns-2 : tie.Need-returns-2
 unfolding judged
 returns-2 c = rw (c .before .before .before .answer .given .1, c .enum-told2 .given .1)
-
-is-outside-requires : tie.Need-is-outside-requires
-is-outside-requires c κs = tt
-
-is-outside-requires-2 : tie.Need-is-outside-requires-2
-is-outside-requires-2 c κs = tt
 
 returns-3 : tie.Need-returns-3
 unfolding judged
@@ -56,9 +38,6 @@ returns-5 c =
     rw (e .before .before .before .answer .given .1, e .element .given .1, ← (t .is-outside .ensures), ← (c .before .before .before .is-outside2 .ensures))
     (rw (c .before .before .if1 .left, le-ltb _ _ (c .before .if2 .left), c .if3 .taken))
 
-with-values-requires : tie.Need-with-values-requires
-with-values-requires c κs = search needs
-
 returns-6 : tie.Need-returns-6
 unfolding judged
 returns-6 c =
@@ -71,16 +50,16 @@ pub judge-spec : {M : Type 1} → statement M
 judge-spec =
     tie.close
     (tie.spec
-    enum-known-answer
-    enum-told
+    (λ c. search needs)
+    (λ c. search needs)
     returns
-    enum-known-element
-    enum-told-2
+    (λ c. search needs)
+    (λ c. search needs)
     returns-2
-    is-outside-requires
-    is-outside-requires-2
+    (λ c κs. tt)
+    (λ c κs. tt)
     returns-3
     returns-4
     returns-5
-    with-values-requires
+    (λ c κs. search needs)
     returns-6)

@@ -7,12 +7,6 @@ use Rattle.field.proofs.Runs.{shifted-low, shifted-high}
 use Rattle.field.proofs.values.run.Statement.{statement}
 use Rattle.field.proofs.values.run.Tie as tie
 
-shl-result : tie.Need-shl-result
-shl-result c = search needs
-
-shl-result-2 : tie.Need-shl-result-2
-shl-result-2 c = search needs
-
 sub-result : tie.Need-sub-result
 sub-result c =
     rw (shifted-low (c .args .low) (omega arith), shifted-high (c .args .high) (omega arith)) (pow-mono (omega arith))
@@ -21,4 +15,4 @@ returns : tie.Need-returns
 returns c = rw (shifted-low (c .args .low) (omega arith), shifted-high (c .args .high) (omega arith))
 
 pub run-spec : {M : Type 1} → statement M
-run-spec = tie.close (tie.spec shl-result shl-result-2 sub-result returns)
+run-spec = tie.close (tie.spec (λ c. search needs) (λ c. search needs) sub-result returns)

@@ -1,6 +1,6 @@
 -- `field::values::with_range` meets its contract: the set with the values that remain is always the whole set.
 -- Assumes nothing.
-use mathlib.Core.Path.{_≡_}
+use mathlib.Core.Path.{_≡_, ap}
 use Prim.Native.Nat.{_+_, _-_}
 use native.Mathlib.Omega.{arith}
 use Rattle.bytes.specs.Sets.{put}
@@ -17,19 +17,7 @@ abbrev μ-loop : tie.MeasureT-loop
 μ-loop set limits low high step last by set₀ value₀ set' value = high + step - value
 
 loop-holds : tie.Need-loop-holds Inv-loop μ-loop
-loop-holds c = rw (remaining-first _ _ _ (c .pre .1) (c .pre .0))
-
-bit-of-requires : tie.Need-bit-of-requires Inv-loop μ-loop
-bit-of-requires c κs = tt
-
-with-requires : tie.Need-with-requires Inv-loop μ-loop
-with-requires c κs = tt
-
-add-value : tie.Need-add-value Inv-loop μ-loop
-add-value c = omega arith
-
-loop-less : tie.Need-loop-less Inv-loop μ-loop
-loop-less c = omega arith
+loop-holds c = ap (including _ _) (remaining-first _ _ _ (c .pre .1) (c .pre .0))
 
 loop-again : tie.Need-loop-again Inv-loop μ-loop
 unfolding including put
@@ -49,9 +37,9 @@ with-range-spec =
     Inv-loop
     μ-loop
     loop-holds
-    bit-of-requires
-    with-requires
-    add-value
-    loop-less
+    (λ c κs. tt)
+    (λ c κs. tt)
+    (λ c. omega arith)
+    (λ c. omega arith)
     loop-again
     returns)

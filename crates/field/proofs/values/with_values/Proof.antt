@@ -1,7 +1,7 @@
 -- `field::values::with_values` meets its contract: a run with no gap, or any range.
 -- Assumes nothing.
 use mathlib.Core.Path.{_≡_, sym, _∙_}
-use mathlib.Core.Bool.{true, and-eq-true-iff}
+use mathlib.Core.Bool.{and-eq-true-iff}
 use Prim.Native.Nat.{_<_}
 use borrow.Author.Tests.{eqb-true, ltb-true}
 use borrow.Author.Needs.{needs}

@@ -16,9 +16,6 @@ Inv-loop s month₀ month = from (hasDate s) 13 month ≡ from (hasDate s) 13 1
 abbrev μ-loop : tie.MeasureT-loop
 μ-loop s month₀ month = 13 - month
 
-loop-holds : tie.Need-loop-holds Inv-loop μ-loop
-loop-holds c = refl
-
 returns : tie.Need-returns Inv-loop μ-loop
 returns c =
     from-stop _ _ _ (c .before .before .loop-test .taken) (sym (c .before .has-date .ensures) ∙ c .if1 .taken)
@@ -38,7 +35,7 @@ month-with-date-spec =
     (tie.spec
     Inv-loop
     μ-loop
-    loop-holds
+    (λ c. refl)
     (λ c κs. search needs)
     returns
     (λ c. omega arith)

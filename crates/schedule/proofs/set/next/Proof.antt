@@ -16,9 +16,6 @@ Inv-loop set at end n₀ n = from (hasBit set) end n ≡ from (hasBit set) end a
 abbrev μ-loop : tie.MeasureT-loop
 μ-loop set at end n₀ n = end - n
 
-loop-holds : tie.Need-loop-holds Inv-loop μ-loop
-loop-holds c = refl
-
 returns : tie.Need-returns Inv-loop μ-loop
 returns c =
     from-stop _ _ _ (c .before .before .loop-test .taken) (sym (c .before .has .ensures) ∙ c .if1 .taken)
@@ -35,4 +32,4 @@ returns-2 c = from-past _ _ _ (c .loop-test .left) ∙ c .before .loop .inv
 pub next-spec : {M : Type 1} → statement M
 next-spec =
     tie.close
-    (tie.spec Inv-loop μ-loop loop-holds (λ c κs. search needs) returns (λ c. omega arith) (λ c. omega arith) loop-again returns-2)
+    (tie.spec Inv-loop μ-loop (λ c. refl) (λ c κs. search needs) returns (λ c. omega arith) (λ c. omega arith) loop-again returns-2)

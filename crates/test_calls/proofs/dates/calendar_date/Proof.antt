@@ -7,9 +7,6 @@ use Rattle.test_calls.proofs.Numbers.{date-small}
 use Rattle.test_calls.proofs.dates.calendar_date.Statement.{statement}
 use Rattle.test_calls.proofs.dates.calendar_date.Tie as tie
 
-date-of-requires : tie.Need-date-of-requires
-date-of-requires c κs = search needs
-
 date-number-requires : tie.Need-date-number-requires
 date-number-requires c κs = rw (c .date-of .ensures) (date-small (c .before .args .minute))
 
@@ -17,4 +14,4 @@ returns : tie.Need-returns
 returns c = c .date-number .ensures ∙ ap dateNumber (c .before .date-of .ensures)
 
 pub calendar-date-spec : {M : Type 1} → statement M
-calendar-date-spec = tie.close (tie.spec date-of-requires date-number-requires returns)
+calendar-date-spec = tie.close (tie.spec (λ c κs. search needs) date-number-requires returns)

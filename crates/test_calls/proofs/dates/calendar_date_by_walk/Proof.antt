@@ -7,9 +7,6 @@ use Rattle.test_calls.proofs.Numbers.{date-small}
 use Rattle.test_calls.proofs.dates.calendar_date_by_walk.Statement.{statement}
 use Rattle.test_calls.proofs.dates.calendar_date_by_walk.Tie as tie
 
-date-by-walk-requires : tie.Need-date-by-walk-requires
-date-by-walk-requires c κs = search needs
-
 date-number-requires : tie.Need-date-number-requires
 date-number-requires c κs = rw (c .date-by-walk .ensures) (date-small (c .before .args .minute))
 
@@ -18,4 +15,4 @@ returns c = c .date-number .ensures ∙ ap dateNumber (c .before .date-by-walk .
 
 pub calendar-date-by-walk-spec : {M : Type 1} → statement M
 calendar-date-by-walk-spec =
-    tie.close (tie.spec date-by-walk-requires date-number-requires returns)
+    tie.close (tie.spec (λ c κs. search needs) date-number-requires returns)

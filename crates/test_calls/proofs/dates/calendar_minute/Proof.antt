@@ -6,14 +6,8 @@ use Rattle.test_calls.specs.Dates.{minuteNumber}
 use Rattle.test_calls.proofs.dates.calendar_minute.Statement.{statement}
 use Rattle.test_calls.proofs.dates.calendar_minute.Tie as tie
 
-minute-of-requires : tie.Need-minute-of-requires
-minute-of-requires c κs = search needs
-
-minute-number-requires : tie.Need-minute-number-requires
-minute-number-requires c κs = search needs
-
 returns : tie.Need-returns
 returns c = c .minute-number .ensures ∙ ap minuteNumber (c .before .minute-of .ensures)
 
 pub calendar-minute-spec : {M : Type 1} → statement M
-calendar-minute-spec = tie.close (tie.spec minute-of-requires minute-number-requires returns)
+calendar-minute-spec = tie.close (tie.spec (λ c κs. search needs) (λ c κs. search needs) returns)

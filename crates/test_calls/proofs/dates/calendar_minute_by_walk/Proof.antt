@@ -6,15 +6,9 @@ use Rattle.test_calls.specs.Dates.{minuteNumber}
 use Rattle.test_calls.proofs.dates.calendar_minute_by_walk.Statement.{statement}
 use Rattle.test_calls.proofs.dates.calendar_minute_by_walk.Tie as tie
 
-minute-by-walk-requires : tie.Need-minute-by-walk-requires
-minute-by-walk-requires c κs = search needs
-
-minute-number-requires : tie.Need-minute-number-requires
-minute-number-requires c κs = search needs
-
 returns : tie.Need-returns
 returns c = c .minute-number .ensures ∙ ap minuteNumber (c .before .minute-by-walk .ensures)
 
 pub calendar-minute-by-walk-spec : {M : Type 1} → statement M
 calendar-minute-by-walk-spec =
-    tie.close (tie.spec minute-by-walk-requires minute-number-requires returns)
+    tie.close (tie.spec (λ c κs. search needs) (λ c κs. search needs) returns)

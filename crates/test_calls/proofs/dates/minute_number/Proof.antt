@@ -10,15 +10,9 @@ returns : tie.Need-returns
 unfolding minuteNumber
 returns c = rw (c .if1 .taken)
 
-cast-result : tie.Need-cast-result
-cast-result c = search needs
-
-add-result : tie.Need-add-result
-add-result c = search needs
-
 returns-2 : tie.Need-returns-2
 unfolding minuteNumber
 returns-2 c = rw (ne-eqb _ 0 (c .before .if1 .left))
 
 pub minute-number-spec : {M : Type 1} → statement M
-minute-number-spec = tie.close (tie.spec returns cast-result add-result returns-2)
+minute-number-spec = tie.close (tie.spec returns (λ c. search needs) (λ c. search needs) returns-2)

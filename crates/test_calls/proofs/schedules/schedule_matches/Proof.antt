@@ -5,12 +5,6 @@ use Rattle.test_calls.specs.Schedules.{matchNumber}
 use Rattle.test_calls.proofs.schedules.schedule_matches.Statement.{statement}
 use Rattle.test_calls.proofs.schedules.schedule_matches.Tie as tie
 
-schedule-of-requires : tie.Need-schedule-of-requires
-schedule-of-requires c κs = search needs
-
-matches-requires : tie.Need-matches-requires
-matches-requires c κs = search needs
-
 returns : tie.Need-returns
 unfolding matchNumber
 returns c = rw (← (c .before .before .schedule-of .ensures), ← (c .before .matches .ensures), c .if1 .taken)
@@ -21,4 +15,4 @@ returns-2 c = rw (← (c .before .before .schedule-of .ensures), ← (c .before 
 
 pub schedule-matches-spec : {M : Type 1} → statement M
 schedule-matches-spec =
-    tie.close (tie.spec schedule-of-requires matches-requires returns returns-2)
+    tie.close (tie.spec (λ c κs. search needs) (λ c κs. search needs) returns returns-2)

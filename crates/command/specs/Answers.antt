@@ -1,7 +1,0 @@
--- Paper 01, "What comes back": the refusal of a split.
--- Assumes nothing.
-use Prim.Native.Nat.{ℕ}
-
--- a lent buffer is too short for the text; where two are lent, either one
-abbrev pub tooShort : ℕ
-tooShort = 18

@@ -1,0 +1,102 @@
+-- Laws of the walk over a table's lines: what a step from a cursor gives, and where the walk starts and ends.
+-- Assumes nothing.
+use mathlib.Core.Path.{_≡_, refl, _∙_}
+use mathlib.Core.List.{List}
+use Prim.Native.Nat.{ℕ, _+_, _-_, _≤_, _<_}
+use native.Mathlib.Omega.{arith}
+use lib.ListN.{length, take, drop, length-drop, drop-of-length-le}
+use lib.Seq.{length-take-le}
+use borrow.Author.Tests.{lt-ltb, le-ltb}
+use Rattle.bytes.specs.declared.class.Class.the-variants.{Not}
+use Rattle.bytes.proofs.Runs.{skipped-from, skipped-within}
+use Rattle.crontab.specs.declared.Part.{Part}
+use Rattle.crontab.specs.declared.time.When.{When}
+use Rattle.crontab.specs.declared.line.Fault.{Fault}
+use Rattle.crontab.specs.declared.line.Line.the-variants as line
+use Rattle.crontab.specs.declared.item.Cursor.{Cursor}
+use Rattle.crontab.specs.declared.item.Item.{Item}
+use Rattle.crontab.specs.declared.item.Item.the-variants as item
+use Rattle.crontab.specs.Limits.{maxTable, maxLine, maxEntries}
+use Rattle.crontab.specs.Lines.{linesOf, readLine}
+use Rattle.crontab.specs.Items.{done, moved, placed, afterLine, itemsFrom, itemsOf}
+use Rattle.crontab.specs.Steps.{itemsAt, Reached, given, counted, StepIs}
+use Rattle.crontab.proofs.Lines.{lineEnd, lines-first, next-start}
+use Rattle.crontab.proofs.Proper.{entry-proper}
+
+abbrev pub start : Cursor
+start = record { at = 0; line = 1; count = 0 }
+
+pub items-start : (s : List ℕ) → length s ≤ maxTable → itemsAt s start ≡ itemsOf s
+unfolding itemsAt itemsOf
+items-start s h = rw (le-ltb maxTable (length s) h)
+
+pub start-reached : (s : List ℕ) → length s ≤ maxTable → Reached s start
+start-reached s h = record { short = h; place = omega arith; lines = omega arith; few = omega arith }
+
+pub items-end : (s : List ℕ) (c : Cursor) → length s ≤ c .at → itemsAt s c ≡ done
+unfolding itemsAt itemsFrom linesOf
+items-end s c h = rw (drop-of-length-le s h)
+
+-- the line at a cursor, by where it ends
+module _ (s : List ℕ) (c : Cursor) (end : ℕ) (reached : Reached s c) (inside : c .at < length s) (found : end ≡ lineEnd s (c .at)) where
+  abbrev bytes : List ℕ
+  bytes = take (end - c .at) (drop (c .at) s)
+
+  abbrev behind : ℕ → Cursor
+  behind k = record { at = end + 1; line = c .line + 1; count = k }
+
+  from : c .at ≤ end
+  from = rw found (skipped-from (Not 10) s (c .at))
+
+  within : end ≤ length s
+  within = rw found (skipped-within (Not 10) s (c .at) (omega arith))
+
+  size : length bytes ≡ end - c .at
+  size = length-take-le (end - c .at) (drop (c .at) s) (omega (arith, within, length-drop (c .at) s))
+
+  here : itemsAt s c ≡ afterLine (c .at) (c .line) (end - c .at) (c .count) (readLine bytes) (λ k. itemsAt s (behind k))
+  unfolding itemsAt itemsFrom
+  here = rw (lines-first s (c .at) end inside found, next-start s (c .at) end inside found, size)
+
+  step-is : (i : Item) (k : ℕ) → itemsAt s c ≡ given (c .line) i (itemsAt s (behind k)) → k ≡ counted i (c .count) → k ≤ maxEntries
+      → StepIs s c (record { item = i; next = behind k })
+  step-is i k g e few =
+      record {
+        gives = g;
+        onward = omega (arith, from);
+        reached = record { short = reached .short; place = omega (arith, within); lines = omega (arith, from, reached .lines); few = few };
+        counts = e;
+      }
+
+  pub step-nothing : readLine bytes ≡ line.Ignored → StepIs s c (record { item = item.Nothing; next = behind (c .count) })
+  unfolding afterLine given counted
+  step-nothing is = step-is item.Nothing (c .count) (here ∙ rw is) refl (reached .few)
+
+  pub step-setting : {name value : Part} → readLine bytes ≡ line.Setting name value
+      → StepIs s c (record { item = item.Setting (moved (c .at) name) (moved (c .at) value); next = behind (c .count) })
+  unfolding afterLine given counted
+  step-setting {name} {value} is = step-is (item.Setting (moved (c .at) name) (moved (c .at) value)) (c .count) (here ∙ rw is) refl (reached .few)
+
+  pub step-refused : {f : Fault} → readLine bytes ≡ line.Refused f → StepIs s c (record { item = item.Refused f; next = behind (c .count) })
+  unfolding afterLine given counted
+  step-refused {f} is = step-is (item.Refused f) (c .count) (here ∙ rw is) refl (reached .few)
+
+  module _ {when : When} {first : ℕ} (is : readLine bytes ≡ line.Entry when first) where
+    -- its places have 16 bits
+    pub entry-placed : (c .at ≤ maxTable) × (c .line ≤ maxTable) × (first ≤ maxLine) × (end - c .at ≤ maxLine)
+    entry-placed =
+        let p = entry-proper bytes is in
+        let n = reached .short in
+        let l = reached .lines in
+        (omega arith, omega arith, omega (arith, p .0, p .1), omega (arith, p .0, size))
+
+    pub step-entry : c .count < maxEntries
+        → StepIs s c (record { item = item.Entry (placed (c .at) (c .line) (end - c .at) when first); next = behind (c .count + 1) })
+    unfolding afterLine given counted
+    step-entry h =
+        step-is (item.Entry (placed (c .at) (c .line) (end - c .at) when first)) (c .count + 1)
+        (here ∙ rw (is, lt-ltb (c .count) maxEntries h)) refl (omega arith)
+
+    pub step-full : maxEntries ≤ c .count → StepIs s c (record { item = item.Refused (record { number = 12; column = 1 }); next = behind (c .count) })
+    unfolding afterLine given counted
+    step-full h = step-is (item.Refused (record { number = 12; column = 1 })) (c .count) (here ∙ rw (is, le-ltb (c .count) maxEntries h)) refl (reached .few)

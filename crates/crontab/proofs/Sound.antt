@@ -1,0 +1,88 @@
+-- What holds of the items of every table: entries and settings stand in it, there are no more entries than there may be, and a fault
+-- has its number in paper 01.
+-- Assumes nothing.
+use mathlib.Core.Path.{_≡_, refl}
+use mathlib.Core.Bool.{Bool, true, false, cond}
+use mathlib.Core.List.{List, [], _∷_}
+use Prim.Native.Nat.{ℕ, suc, _+_, _≤_, _<_}
+use native.Mathlib.Omega.{arith}
+use lib.ListN.{length}
+use lib.Dec.{eqb, ltb}
+use borrow.Author.Tests.{ltb-true}
+use Rattle.crontab.specs.declared.Part.{Part}
+use Rattle.crontab.specs.declared.entry.Entry.{Entry}
+use Rattle.crontab.specs.declared.line.Line.{Line}
+use Rattle.crontab.specs.declared.line.Line.the-variants as line
+use Rattle.crontab.specs.Limits.{maxTable, maxEntries}
+use Rattle.crontab.specs.Lines.{onto, linesOf, readLine}
+use Rattle.crontab.specs.Items.{Items, done, fault, setting, entry, moved, placed, afterLine, itemsFrom, itemsOf}
+use Rattle.crontab.proofs.Proper.{Inside, Proper, line-proper}
+
+-- ---- where lines stand
+
+-- lines that start at a place of n bytes, each a newline after the one before it
+abbrev Placed : ℕ → ℕ → List (List ℕ) → Type 0
+Placed n at [] = Unit {0}
+Placed n at (l ∷ ls) = (at + length l ≤ n) × Placed n (at + length l + 1) ls
+
+onto-placed : (n at b : ℕ) (ls : List (List ℕ)) → at < n → Placed n (at + 1) ls → Placed n at (onto b ls)
+unfolding onto
+onto-placed n at b [] h p = (omega arith, tt)
+onto-placed n at b (l ∷ ls) h p =
+    let e : at + suc (length l) + 1 ≡ at + 1 + length l + 1 = omega arith in
+    let k : at + 1 + length l ≤ n = p .0 in
+    (omega arith, rw e (p .1))
+
+lines-placed : (s : List ℕ) (n at : ℕ) → at + length s ≤ n → Placed n at (linesOf s)
+unfolding linesOf
+lines-placed [] n at h = tt
+lines-placed (b ∷ s) n at h = go (eqb b 10) (lines-placed s n (at + 1) (omega arith))
+  where
+    go : (t : Bool) → Placed n (at + 1) (linesOf s) → Placed n at (cond t ([] ∷ linesOf s) (onto b (linesOf s)))
+    go true p = let e : at + 0 + 1 ≡ at + 1 = omega arith in (omega arith, rw e p)
+    go false p = onto-placed n at b (linesOf s) (omega arith) p
+
+-- ---- items of n bytes, behind k entries
+
+-- an entry's command is some bytes of n
+pub record Sound (n : ℕ) (e : Entry) : Type 0 where
+  pub some : e .start < e .end
+  pub within : e .end ≤ n
+
+abbrev pub SoundItems : ℕ → ℕ → Items → Type 0
+SoundItems n k done = Unit {0}
+SoundItems n k (fault number line column) = (1 ≤ number) × (number ≤ 12)
+SoundItems n k (setting line name value later) = (Inside n name) × (Inside n value) × SoundItems n k later
+SoundItems n k (entry e later) = (Sound n e) × (k < maxEntries) × SoundItems n (k + 1) later
+
+module _ (n at size : ℕ) (h : at + size ≤ n) where
+  moved-inside : (p : Part) → Inside size p → Inside n (moved at p)
+  moved-inside p i =
+      let a = i .order in
+      let b = i .within in
+      record { order = omega arith; within = omega arith }
+
+  line-sound : (m k : ℕ) (x : Line) (later : ℕ → Items) → Proper size x → ((j : ℕ) → SoundItems n j (later j)) → SoundItems n k (afterLine at m size k x later)
+  unfolding afterLine
+  line-sound m k line.Ignored later p q = q k
+  line-sound m k (line.Setting name value) later p q = (moved-inside name (p .1), moved-inside value (p .2), q k)
+  line-sound m k (line.Refused f) later p q = (p .from, let t = p .to in omega arith)
+  line-sound m k (line.Entry when start) later p q = go (ltb k maxEntries) refl
+    where
+      go : (t : Bool) → ltb k maxEntries ≡ t → SoundItems n k (cond t (entry (placed at m size when start) (later (k + 1))) (fault 12 m 1))
+      go true e = (record { some = omega (arith, p .1); within = h }, ltb-true _ _ e, q (k + 1))
+      go false e = (omega arith, omega arith)
+
+from-sound : (n at m k : ℕ) (ls : List (List ℕ)) → Placed n at ls → SoundItems n k (itemsFrom at m k ls)
+unfolding itemsFrom
+from-sound n at m k [] w = tt
+from-sound n at m k (l ∷ ls) w =
+    line-sound n at (length l) (w .0) m k (readLine l) _ (line-proper l) (λ j. from-sound n (at + length l + 1) (m + 1) j ls (w .1))
+
+pub items-sound : (s : List ℕ) → SoundItems (length s) 0 (itemsOf s)
+unfolding itemsOf
+items-sound s = go (ltb maxTable (length s))
+  where
+    go : (t : Bool) → SoundItems (length s) 0 (cond t (fault 1 0 0) (itemsFrom 0 1 0 (linesOf s)))
+    go true = (omega arith, omega arith)
+    go false = from-sound (length s) 0 1 0 (linesOf s) (lines-placed s (length s) 0 (omega arith))

@@ -1,0 +1,73 @@
+-- Paper 01, "Match" and "What comes back", for one entry of a table: whether it is a boot job, whether it is due, its next firing. The
+-- order is table, 13 (`entryIn` of Tables), 14, 15, 16, 17.
+-- Assumes nothing.
+use Prim.Native.Nat.{ℕ}
+use mathlib.Core.Bool.{Bool, true, false, cond}
+use lib.Dec.{leb}
+use Rattle.calendar.specs.declared.Date.{Date}
+use Rattle.calendar.specs.Refusals.{notOnCalendar}
+use Rattle.calendar.specs.Dates.{lastMinute}
+use Rattle.schedule.specs.declared.Schedule.{Schedule}
+use Rattle.schedule.specs.declared.Next.{Next}
+use Rattle.schedule.specs.declared.Next.the-variants as next
+use Rattle.schedule.specs.Match.{matchesDate, matches}
+use Rattle.schedule.specs.Next.{nextAfter, refusalOf}
+use Rattle.crontab.specs.declared.time.When.{When}
+use Rattle.crontab.specs.declared.time.When.the-variants.{Reboot, Timed}
+use Rattle.crontab.specs.declared.entry.Entry.{Entry}
+use Rattle.crontab.specs.declared.table.Table.{Table}
+use Rattle.crontab.specs.declared.table.EntryAnswer.{EntryAnswer}
+use Rattle.crontab.specs.declared.table.EntryAnswer.the-variants as answer
+use Rattle.crontab.specs.declared.firing.DueAnswer.{DueAnswer}
+use Rattle.crontab.specs.declared.firing.DueAnswer.the-variants as due
+use Rattle.crontab.specs.declared.firing.NextAnswer.{NextAnswer}
+use Rattle.crontab.specs.declared.firing.NextAnswer.the-variants.{At, Refused}
+use Rattle.crontab.specs.Refusals.{atBootOnly}
+use Rattle.crontab.specs.Tables.{entryIn}
+
+-- ---- an entry
+
+-- what is said of boot jobs, and what of a schedule
+abbrev pub byWhen : {A : Type 0} → When → A → (Schedule → A) → A
+byWhen Reboot boot timed = boot
+byWhen (Timed s) boot timed = timed s
+
+unfoldable pub isBoot : Entry → Bool
+isBoot e = byWhen (e .when) true (λ s. false)
+
+-- an `@reboot` entry matches no date, and no minute
+unfoldable pub firesOn : Entry → Date → Bool
+firesOn e d = byWhen (e .when) false (λ s. matchesDate s d)
+
+unfoldable pub firesAt : Entry → ℕ → Bool
+firesAt e m = byWhen (e .when) false (λ s. matches s m)
+
+-- 14
+unfoldable pub dueOf : Entry → ℕ → DueAnswer
+dueOf e m = cond (leb m lastMinute) (cond (firesAt e m) due.Yes due.No) (due.Refused notOnCalendar)
+
+-- 16, 17
+unfoldable pub told : Next → NextAnswer
+told (next.At m) = At m
+told next.Never = Refused (refusalOf next.Never)
+told next.PastEnd = Refused (refusalOf next.PastEnd)
+
+-- 14, 15
+unfoldable pub nextOf : Entry → ℕ → NextAnswer
+nextOf e m = cond (leb m lastMinute) (byWhen (e .when) (Refused atBootOnly) (λ s. told (nextAfter s m))) (Refused notOnCalendar)
+
+-- ---- an entry of a table, by its number
+
+unfoldable pub dueAnswer : EntryAnswer → ℕ → DueAnswer
+dueAnswer (answer.Found e) m = dueOf e m
+dueAnswer (answer.Refused number) m = due.Refused number
+
+unfoldable pub dueIn : Table → ℕ → ℕ → DueAnswer
+dueIn t i m = dueAnswer (entryIn t i) m
+
+unfoldable pub nextAnswer : EntryAnswer → ℕ → NextAnswer
+nextAnswer (answer.Found e) m = nextOf e m
+nextAnswer (answer.Refused number) m = Refused number
+
+unfoldable pub nextIn : Table → ℕ → ℕ → NextAnswer
+nextIn t i m = nextAnswer (entryIn t i) m

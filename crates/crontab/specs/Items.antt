@@ -1,0 +1,52 @@
+-- Paper 01, "A table, line by line" and "What comes back": a table as the sequence of its settings and entries, each with the number of
+-- its line and its place in the table, up to its end or to the fault that refuses it whole. Lines count from 1, entries and places from 0.
+-- Assumes nothing.
+use Prim.Native.Nat.{ℕ, _+_}
+use mathlib.Core.Bool.{cond}
+use mathlib.Core.List.{List, [], _∷_}
+use lib.ListN.{length}
+use lib.Dec.{ltb}
+use Rattle.crontab.specs.declared.entry.Entry.{Entry}
+use Rattle.crontab.specs.declared.Part.{Part}
+use Rattle.crontab.specs.declared.time.When.{When}
+use Rattle.crontab.specs.declared.line.Line.{Line}
+use Rattle.crontab.specs.declared.line.Line.the-variants as line
+use Rattle.crontab.specs.Limits.{maxTable, maxEntries}
+use Rattle.crontab.specs.Refusals.{tableTooLong, tooManyEntries}
+use Rattle.crontab.specs.Lines.{linesOf, readLine}
+
+pub data Items : Type 0 where
+  done : Items
+  -- number, line and column
+  fault : ℕ → ℕ → ℕ → Items
+  -- the line's number, name and value
+  setting : ℕ → Part → Part → Items → Items
+  entry : Entry → Items → Items
+
+-- ---- from a line to the table: the line starts at a place of it
+
+abbrev pub moved : ℕ → Part → Part
+moved at p = record { start = at + p .start; end = at + p .end }
+
+-- the entry of line n, which has so many bytes
+abbrev pub placed : ℕ → ℕ → ℕ → When → ℕ → Entry
+placed at n size when start = record { when = when; line = n; at = at; start = at + start; end = at + size }
+
+-- ---- line by line
+
+-- Line n, which starts at a place and has so many bytes, behind k entries; and what the lines after it give behind so many entries.
+-- 12 comes after all else on its line.
+unfoldable pub afterLine : ℕ → ℕ → ℕ → ℕ → Line → (ℕ → Items) → Items
+afterLine at n size k line.Ignored later = later k
+afterLine at n size k (line.Setting name value) later = setting n (moved at name) (moved at value) (later k)
+afterLine at n size k (line.Entry when start) later =
+    cond (ltb k maxEntries) (entry (placed at n size when start) (later (k + 1))) (fault tooManyEntries n 1)
+afterLine at n size k (line.Refused f) later = fault (f .number) n (f .column)
+
+-- the next line starts a newline after this one
+unfoldable pub itemsFrom : ℕ → ℕ → ℕ → List (List ℕ) → Items
+itemsFrom at n k [] = done
+itemsFrom at n k (l ∷ ls) = afterLine at n (length l) k (readLine l) (λ j. itemsFrom (at + length l + 1) (n + 1) j ls)
+
+unfoldable pub itemsOf : List ℕ → Items
+itemsOf s = cond (ltb maxTable (length s)) (fault tableTooLong 0 0) (itemsFrom 0 1 0 (linesOf s))

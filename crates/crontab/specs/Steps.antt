@@ -1,0 +1,44 @@
+-- What the functions inside promise each other: one step of the walk over a table's lines. What a reader must believe is in Items.
+-- Assumes nothing.
+use mathlib.Core.Path.{_≡_}
+use Prim.Native.Nat.{ℕ, _+_, _≤_, _<_}
+use mathlib.Core.List.{List}
+use lib.ListN.{length, drop}
+use Rattle.crontab.specs.declared.item.Cursor.{Cursor}
+use Rattle.crontab.specs.declared.item.Item.{Item}
+use Rattle.crontab.specs.declared.item.Item.the-variants as item
+use Rattle.crontab.specs.declared.item.Step.{Step}
+use Rattle.crontab.specs.Limits.{maxTable, maxEntries}
+use Rattle.crontab.specs.Lines.{linesOf}
+use Rattle.crontab.specs.Items.{Items, fault, setting, entry, itemsFrom}
+
+-- the items from a cursor on
+unfoldable pub itemsAt : List ℕ → Cursor → Items
+itemsAt s c = itemsFrom (c .at) (c .line) (c .count) (linesOf (drop (c .at) s))
+
+-- a cursor of a table: as many lines and entries as there can be before it
+pub record Reached (s : List ℕ) (c : Cursor) : Type 0 where
+  pub short : length s ≤ maxTable
+  pub place : c .at ≤ length s + 1
+  pub lines : c .line ≤ c .at + 1
+  pub few : c .count ≤ maxEntries
+
+-- what line n is, and what the lines after it give
+unfoldable pub given : ℕ → Item → Items → Items
+given n item.Nothing later = later
+given n (item.Setting name value) later = setting n name value later
+given n (item.Entry e) later = entry e later
+given n (item.Refused f) later = fault (f .number) n (f .column)
+
+unfoldable pub counted : Item → ℕ → ℕ
+counted item.Nothing k = k
+counted (item.Setting name value) k = k
+counted (item.Entry e) k = k + 1
+counted (item.Refused f) k = k
+
+-- a step from a cursor: the line there, and the cursor behind it
+pub record StepIs (s : List ℕ) (c : Cursor) (r : Step) : Type 0 where
+  pub gives : itemsAt s c ≡ given (c .line) (r .item) (itemsAt s (r .next))
+  pub onward : c .at < r .next .at
+  pub reached : Reached s (r .next)
+  pub counts : r .next .count ≡ counted (r .item) (c .count)

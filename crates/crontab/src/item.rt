@@ -1,0 +1,121 @@
+// A walk over the lines of a table, one step for each.
+ghost use mathlib.Core.Path.{_≡_};
+ghost use Prim.Native.Nat.{_≤_, _<_};
+ghost use lib.ListN.{length};
+ghost use Rattle.crontab.specs.Limits.{maxTable, maxLine};
+ghost use Rattle.crontab.specs.Items.{moved, placed};
+ghost use Rattle.crontab.specs.Steps.{Reached, StepIs};
+use crate::MAX_ENTRIES;
+use crate::Part;
+use crate::TOO_MANY_ENTRIES;
+use crate::entry::Entry;
+use crate::line;
+use crate::line::Fault;
+use crate::line::Line;
+use crate::time::When;
+use bytes::class::Class;
+use bytes::run::skip;
+
+// Where a line starts, its number from 1, and how many entries stand before it.
+pub(crate) struct Cursor {
+    pub at: usize,
+    pub line: usize,
+    pub count: usize,
+}
+
+pub(crate) const START: Cursor = Cursor {
+    at: 0,
+    line: 1,
+    count: 0,
+};
+
+// What a line gives to its table. Places are the table's.
+pub(crate) enum Item {
+    Nothing,
+    Setting { name: Part, value: Part },
+    Entry(Entry),
+    Refused(Fault),
+}
+
+// What stands at a cursor, and the cursor behind it.
+pub(crate) struct Step {
+    pub item: Item,
+    pub next: Cursor,
+}
+
+// A part of a line that starts at a place of the table.
+fn moved(part: Part, at: usize) -> Part
+    requires { ⌜ (at ≤ maxTable) × (part .start ≤ maxLine) × (part .end ≤ maxLine) ⌝ }
+    ensures { λ r. ⌜ r ≡ moved at part ⌝ }
+{
+    Part {
+        start: at + part.start,
+        end: at + part.end,
+    }
+}
+
+// The entry of a line that starts at a place of the table and has so many bytes.
+fn placed(c: Cursor, size: usize, when: When, start: usize) -> Entry
+    requires { ⌜ (c .at ≤ maxTable) × (c .line ≤ maxTable) × (start ≤ maxLine) × (size ≤ maxLine) ⌝ }
+    ensures { λ r. ⌜ r ≡ placed (c .at) (c .line) size when start ⌝ }
+{
+    Entry {
+        when,
+        line: c.line as u16,
+        at: c.at as u16,
+        start: (c.at + start) as u16,
+        end: (c.at + size) as u16,
+    }
+}
+
+// The line at a cursor, and the cursor behind it. One search finds the line's end and its first byte 0.
+pub(crate) fn advance(s: &[u8], c: Cursor) -> Step
+    requires { ⌜ Reached (now s) c × (c .at < length (now s)) ⌝ }
+    ensures { λ r. ⌜ StepIs (now (s .entry)) c r ⌝ }
+{
+    let at = c.at;
+    let stop = skip(s, at, Class::InLine);
+    let end = skip(s, stop, Class::Not(b'\n'));
+    let next = Cursor {
+        at: end + 1,
+        line: c.line + 1,
+        count: c.count,
+    };
+    match line::judge(&s[at..end], stop - at) {
+        Line::Ignored => Step {
+            item: Item::Nothing,
+            next,
+        },
+        Line::Setting { name, value } => Step {
+            item: Item::Setting {
+                name: moved(name, at),
+                value: moved(value, at),
+            },
+            next,
+        },
+        Line::Entry { when, start } => {
+            if c.count == MAX_ENTRIES {
+                let fault = Fault {
+                    number: TOO_MANY_ENTRIES,
+                    column: 1,
+                };
+                return Step {
+                    item: Item::Refused(fault),
+                    next,
+                };
+            }
+            Step {
+                item: Item::Entry(placed(c, end - at, when, start)),
+                next: Cursor {
+                    at: end + 1,
+                    line: c.line + 1,
+                    count: c.count + 1,
+                },
+            }
+        }
+        Line::Refused(fault) => Step {
+            item: Item::Refused(fault),
+            next,
+        },
+    }
+}

@@ -1,0 +1,77 @@
+-- The headline theorems of C's numbers: paper 01's known days, the gap exactly reached, and a day that never comes.
+-- Assumes nothing.
+use mathlib.Core.Path.{_≡_, refl, ap, _∙_}
+use mathlib.Core.List.{List}
+use Prim.Native.Nat.{ℕ, _≤_}
+use borrow.Author.Tests.{le-leb}
+use lib.Dec.{lit≤}
+use Rattle.bytes.specs.Texts.{text}
+use Rattle.calendar.specs.Dates.{lastMinute}
+use Rattle.calendar.specs.Computing.{dating}
+use Rattle.schedule.specs.declared.Schedule.{Schedule}
+use Rattle.schedule.specs.Next.{nextAfter}
+use Rattle.schedule.specs.Examples.{leapDay, fridays, february30, mondays30, lastDay, leapSundays, schedules}
+use Rattle.schedule.proofs.KnownDays as firings
+use Rattle.field.specs.Computing as field
+use Rattle.crontab.specs.declared.time.When.the-variants.{Timed}
+use Rattle.crontab.specs.declared.table.EntryAnswer.the-variants.{Found}
+use Rattle.crontab.specs.Tables.{tableOf, entryIn}
+use Rattle.crontab.specs.Firings.{told, nextOf, nextAnswer, nextIn}
+use Rattle.crontab.specs.Computing.{reading}
+use Rattle.command.specs.Computing.{splitting}
+use Rattle.eremothyn.specs.Entries.{nextNumber}
+use Rattle.eremothyn.specs.KnownDays.{KnownDays}
+
+-- the table's first entry is timed, and its command ends a byte behind its start
+abbrev reads : List ℕ → Schedule → ℕ → ℕ → Type 0
+reads s times start end = entryIn (tableOf s) 0 ≡ Found (record { when = Timed times; line = 1; at = 0; start = start; end = end })
+
+-- the next firing of a table's first entry, by its schedule's
+firing : (s : List ℕ) (times : Schedule) (start end m : ℕ) → reads s times start end → m ≤ lastMinute
+    → nextIn (tableOf s) 0 m ≡ told (nextAfter times m)
+unfolding nextIn nextAnswer nextOf
+firing s times start end m e h = rw (e, le-leb m lastMinute h)
+
+-- the tables of KnownDays, in its order, and the ticket's
+entries :
+    reads (text "0 0 29 2 * a") leapDay 11 12
+    × reads (text "30 4 1,15 * 5 a") fridays 14 15
+    × reads (text "0 0 30 2 * a") february30 11 12
+    × reads (text "0 0 30 2 1 a") mondays30 11 12
+    × reads (text "0 0 31 12 * a") lastDay 12 13
+    × reads (text "0 0 29 2 */7 a") leapSundays 13 14
+unfolding schedules reading
+entries = (refl, refl, refl, refl, refl, refl)
+
+pub known-days : KnownDays
+unfolding nextNumber told dating field.reading splitting
+known-days = (
+  refl,
+  refl,
+  refl,
+  refl,
+  ap nextNumber (firing _ leapDay 11 12 _ (entries .0) (lit≤ tt) ∙ ap told (firings.known-days .0)),
+  ap nextNumber (firing _ fridays 14 15 _ (entries .1) (lit≤ tt) ∙ ap told (firings.known-days .1)),
+  ap nextNumber (firing _ fridays 14 15 _ (entries .1) (lit≤ tt) ∙ ap told (firings.known-days .2)),
+  ap nextNumber (firing _ february30 11 12 _ (entries .2) (lit≤ tt) ∙ ap told (firings.known-days .3)),
+  ap nextNumber (firing _ mondays30 11 12 _ (entries .3) (lit≤ tt) ∙ ap told (firings.known-days .4)),
+  ap nextNumber (firing _ lastDay 12 13 _ (entries .4) (lit≤ tt) ∙ ap told (firings.known-days .5)),
+  refl,
+  refl,
+  refl,
+  refl,
+  refl,
+  refl,
+  refl,
+  refl,
+)
+
+-- `0 0 29 2 */7` after 62,147,520 (2088-02-29): 83,184,480 (2128-02-29)
+pub gap-reached : nextNumber (nextIn (tableOf (text "0 0 29 2 */7 a")) 0 62147520) ≡ 83184480
+unfolding nextNumber told
+gap-reached = ap nextNumber (firing _ leapSundays 13 14 _ (entries .5) (lit≤ tt) ∙ ap told firings.gap-reached)
+
+-- `0 0 30 2 *` is never due: 16 after every minute of the calendar
+pub february-30 : (m : ℕ) → m ≤ lastMinute → nextNumber (nextIn (tableOf (text "0 0 30 2 * a")) 0 m) ≡ 4294967312
+unfolding nextNumber told schedules firings.ever
+february-30 m h = ap nextNumber (firing _ february30 11 12 m (entries .2) h ∙ ap told (firings.never february30 m refl))

@@ -1,0 +1,24 @@
+-- All that C's numbers are worked out by, under one name: an example that is computed says `unfolding answering`. `nextAfter` isn't among
+-- it, since it searches the calendar.
+-- Assumes nothing.
+use Rattle.calendar.specs.Computing.{dating}
+use Rattle.schedule.specs.Computing.{firing}
+use Rattle.crontab.specs.Computing.{reading}
+use Rattle.crontab.specs.Firings.{isBoot, firesOn, firesAt, dueOf, told, nextOf, dueAnswer, dueIn, nextAnswer, nextIn}
+use Rattle.command.specs.Computing.{splitting}
+use Rattle.fifo.specs.Examples.{running}
+use Rattle.runqueue.specs.Jobs.{jobAt, jobsOf}
+use Rattle.runqueue.specs.Calls.{initTable, tickTable, popTable}
+use Rattle.eremothyn.specs.Answer.{answerOf}
+use Rattle.eremothyn.specs.Dates.{datePart, dateMinute}
+use Rattle.eremothyn.specs.Tables.{checkNumber}
+use Rattle.eremothyn.specs.Entries.{dueNumber, nextNumber}
+use Rattle.eremothyn.specs.Settings.{settingNumber}
+use Rattle.eremothyn.specs.Commands.{splitNumber, inputNumber, splitIn, splitOf, stdinIn, stdinLength}
+use Rattle.eremothyn.specs.Queue.{tickNumber, popNumber}
+
+unfoldable pub answering : Unit {0}
+unfolding dating firing reading isBoot firesOn firesAt dueOf told nextOf dueAnswer dueIn nextAnswer nextIn splitting running jobAt jobsOf
+    initTable tickTable popTable answerOf datePart dateMinute checkNumber dueNumber nextNumber settingNumber splitNumber inputNumber
+    splitIn splitOf stdinIn stdinLength tickNumber popNumber
+answering = tt
