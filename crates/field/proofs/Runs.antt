@@ -1,16 +1,19 @@
 -- A run of values with no gap, put into an empty set: its bits are a difference of two powers of two.
 -- Assumes nothing.
-use mathlib.Core.Path.{_≡_, sym, ap, _∙_}
+use mathlib.Core.Path.{_≡_, refl, sym, ap, _∙_}
 use Prim.Native.Nat.{ℕ, zero, suc, _+_, _-_, _*_, _%_, _^_, _≤_, _<_}
-use native.Mathlib.Nat.{add-zero, one-mul, div-one, sub-self, pow-succ', mod-eq-of-lt}
+use native.Mathlib.Nat.{add-zero, zero-add, one-mul, div-one, sub-self, pow-succ', mod-eq-of-lt}
 use native.Mathlib.Numerals.{add-one}
 use native.Mathlib.Omega.{arith}
-use lib.Bits.{bitOr, or-shifted-r}
+use lib.Bits.{bitOr, bitAnd, or-shifted-r, or-add-and, and-comm, and-mask}
 use lib.Pow.{pow-pos, pow-mono, pow-lt}
-use borrow.Author.Tests.{lt-ltb}
+use lib.Dec.{eqb, ltb}
+use borrow.Author.Tests.{lt-ltb, le-ltb, ltb-true, eqb-true}
+use mathlib.Core.Bool.{Bool, true, false, cond, _&&_, and-eq-true-iff}
 use Rattle.bytes.specs.Sets.{withBit, put}
 use Rattle.field.specs.declared.Limits.{Limits}
 use Rattle.field.specs.Values.{everyStep, valuesOf, bitOf, including}
+use Rattle.field.specs.Steps.{lastNew}
 use Rattle.field.proofs.Steps.{own-bit}
 
 or-top : (v b : ℕ) → b < 2 ^ v → bitOr b (2 ^ v) ≡ 2 ^ v + b
@@ -43,8 +46,59 @@ module _ (l : Limits) where
       ∙ run-bits low (v + 1) n (omega arith) (omega arith) (omega arith)
       ∙ ap (λ (x : ℕ). 2 ^ x - 2 ^ low) e
 
-  pub run-values : (low high : ℕ) → low ≤ high → high < 63 → high < l .bits → including l 0 (valuesOf low high 1) ≡ 2 ^ (high + 1) - 2 ^ low
+  run-values : (low high : ℕ) → low ≤ high → high < 63 → high < l .bits → including l 0 (valuesOf low high 1) ≡ 2 ^ (high + 1) - 2 ^ low
   unfolding valuesOf
   run-values low high h k b =
       let e : low + suc (high - low) ≡ high + 1 = omega arith in
       rw (div-one (high - low), ← sub-self (2 ^ low)) (run-bits low low (suc (high - low)) (omega arith) (omega arith) (omega arith) ∙ rw e)
+
+  -- one value more at the end
+  run-snoc : (set v n : ℕ) → including l set (everyStep v 1 (suc n)) ≡ put (including l set (everyStep v 1 n)) (bitOf l (v + n))
+  unfolding including everyStep
+  run-snoc set v zero = rw (add-zero v)
+  run-snoc set v (suc n) = let e : v + 1 + n ≡ v + suc n = omega arith in run-snoc (put set (bitOf l v)) (v + 1) n ∙ rw e
+
+  -- 0 is there already
+  full-again : (n : ℕ) → 0 < n → put (2 ^ n - 2 ^ 0) 0 ≡ 2 ^ n - 2 ^ 0
+  unfolding put withBit
+  full-again n h =
+      let one : bitAnd 1 (2 ^ n - 1) ≡ 1 = and-mask 1 n ∙ mod-eq-of-lt (pow-lt h) in
+      let both = or-add-and (2 ^ n - 1) 1 in
+      omega (arith, both, and-comm (2 ^ n - 1) 1 ∙ one)
+
+  around : (high : ℕ) → 0 < high → high ≡ l .bits → high < 64 → including l 0 (valuesOf 0 high 1) ≡ 2 ^ high - 2 ^ 0
+  unfolding valuesOf bitOf
+  around high h e k =
+      let z : high - 0 ≡ high = omega arith in
+      rw (z, div-one high)
+      (run-snoc 0 0 high
+      ∙ rw (run-bits 0 0 high (omega arith) (omega arith) (omega arith), le-ltb (0 + high) (l .bits) (omega arith))
+      (let r : 0 + high - l .bits ≡ 0 = omega arith in rw (r, zero-add high) (full-again high h)))
+
+  -- it isn't before the first
+  pub low-new : (low high : ℕ) → low ≤ high → low ≤ lastNew l low high
+  unfolding lastNew
+  low-new low high h = go ((eqb low 0 && ltb 0 high) && eqb high (l .bits)) refl
+    where
+      go : (t : Bool) → ((eqb low 0 && ltb 0 high) && eqb high (l .bits)) ≡ t → low ≤ cond t (high - 1) high
+      go false p = h
+      go true p =
+          let q = and-eq-true-iff (eqb low 0 && ltb 0 high) (eqb high (l .bits)) .0 p in
+          let z = eqb-true low 0 (and-eq-true-iff (eqb low 0) (ltb 0 high) .0 (q .0) .0) in
+          omega arith
+
+  -- a run up to the last value that says something new
+  pub run-new : (low high : ℕ) → low ≤ high → lastNew l low high < 63 → lastNew l low high < l .bits
+      → including l 0 (valuesOf low high 1) ≡ 2 ^ (lastNew l low high + 1) - 2 ^ low
+  unfolding lastNew
+  run-new low high h = go ((eqb low 0 && ltb 0 high) && eqb high (l .bits)) refl
+    where
+      go : (t : Bool) → ((eqb low 0 && ltb 0 high) && eqb high (l .bits)) ≡ t → cond t (high - 1) high < 63 → cond t (high - 1) high < l .bits
+          → including l 0 (valuesOf low high 1) ≡ 2 ^ (cond t (high - 1) high + 1) - 2 ^ low
+      go false p k b = run-values low high h k b
+      go true p k b =
+          let q = and-eq-true-iff (eqb low 0 && ltb 0 high) (eqb high (l .bits)) .0 p in
+          let r = and-eq-true-iff (eqb low 0) (ltb 0 high) .0 (q .0) in
+          let pos = ltb-true 0 high (r .1) in
+          let e : high - 1 + 1 ≡ high = omega arith in
+          rw (eqb-true low 0 (r .0), e) (around high pos (eqb-true high (l .bits) (q .1)) (omega arith))

@@ -3,6 +3,7 @@ pub mod Numbers
 pub mod Elements
 pub mod Names
 pub mod Values
+pub mod Steps
 pub mod Limits
 pub mod Refusals
 pub mod Judgement

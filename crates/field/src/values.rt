@@ -2,6 +2,7 @@
 ghost use mathlib.Core.Path.{_≡_};
 ghost use Prim.Native.Nat.{_+_, _-_, _^_, _≤_, _<_};
 ghost use Rattle.field.specs.Values.{bitOf, valuesOf, including};
+ghost use Rattle.field.specs.Steps.{lastNew};
 ghost use Rattle.field.specs.Judgement.{outside, judged};
 use crate::Answer;
 use crate::Limits;
@@ -46,13 +47,24 @@ fn run(low: u16, high: u16) -> u64
     (2 << high as u64) - (1 << low as u64)
 }
 
+// The last value of a range that says something new: where 0 is in it, the value after the last bit, which is 0 again, doesn't.
+fn last_new(limits: Limits, low: u16, high: u16) -> u16
+    ensures { λ r. ⌜ r ≡ lastNew limits low high ⌝ }
+{
+    if (low == 0) & (0 < high) & (high == limits.bits as u16) {
+        return high - 1;
+    }
+    high
+}
+
 // As with_range does, but a single run of values that have their own bits at once.
 fn with_values(set: u64, limits: Limits, low: u16, high: u16, step: u16) -> u64
     requires { ⌜ (low ≤ high) × (0 < step) ⌝ }
     ensures { λ r. ⌜ r ≡ including limits set (valuesOf low high step) ⌝ }
 {
-    if (set == 0) & (step == 1) & (high < 63) & (high < limits.bits as u16) {
-        return run(low, high);
+    let last = last_new(limits, low, high);
+    if (set == 0) & (step == 1) & (last < 63) & (last < limits.bits as u16) {
+        return run(low, last);
     }
     with_range(set, limits, low, high, step)
 }

@@ -5,16 +5,16 @@ use mathlib.Core.Bool.{and-eq-true-iff}
 use Prim.Native.Nat.{_<_}
 use borrow.Author.Tests.{eqb-true, ltb-true}
 use borrow.Author.Needs.{needs}
-use Rattle.field.proofs.Runs.{run-values}
+use Rattle.field.proofs.Runs.{low-new, run-new}
 use Rattle.field.proofs.values.with_values.Statement.{statement}
 use Rattle.field.proofs.values.with_values.Tie as tie
 
 -- what the test says
 record Chosen (c : tie.Then1) : Type 0 where
-  empty : c .before .before .args .set ≡ 0
-  single : c .before .before .args .step ≡ 1
-  small : c .before .before .args .high < 63
-  own : c .before .before .args .high < c .before .before .args .limits .bits
+  empty : c .before .before .before .args .set ≡ 0
+  single : c .before .before .before .args .step ≡ 1
+  small : c .before .before .last-new .result < 63
+  own : c .before .before .last-new .result < c .before .before .before .args .limits .bits
 
 chosen : (c : tie.Then1) → Chosen c
 chosen c =
@@ -24,14 +24,16 @@ chosen c =
     record { empty = eqb-true _ _ (v .0); single = eqb-true _ _ (v .1); small = ltb-true _ _ (u .1); own = ltb-true _ _ (t .1) }
 
 run-requires : tie.Need-run-requires
-run-requires c κs = (c .before .before .pre .0, chosen c .small)
+run-requires c κs = (rw (c .before .before .last-new .ensures) (low-new _ _ _ (c .before .before .before .pre .0)), chosen c .small)
 
 returns : tie.Need-returns
 returns c =
     let b = c .before in
+    let l = b .before .before .last-new .ensures in
     c .run .ensures
-    ∙ rw (chosen b .empty, chosen b .single)
-    (sym (run-values _ _ _ (b .before .before .pre .0) (chosen b .small) (chosen b .own)))
+    ∙ rw (l, chosen b .empty, chosen b .single)
+    (sym (run-new _ _ _ (b .before .before .before .pre .0) (rw l at (chosen b .small)) (rw l at (chosen b .own))))
 
 pub with-values-spec : {M : Type 1} → statement M
-with-values-spec = tie.close (tie.spec (λ c. search needs) run-requires returns (λ c κs. search needs) (λ c. c .with-range .ensures))
+with-values-spec =
+    tie.close (tie.spec (λ c κs. tt) (λ c. search needs) run-requires returns (λ c κs. search needs) (λ c. c .with-range .ensures))
