@@ -10,6 +10,7 @@ use native.Mathlib.Omega.{arith}
 use lib.ListN.{length, take, drop, length-take, take-append-drop}
 use lib.Seq.{take-append-add}
 use borrow.Author.Tests.{leb-true}
+use Rattle.bytes.specs.Laid as front
 use Rattle.fifo.specs.WaitingLine.{entriesOf}
 use Rattle.fifo.specs.Layout.{lineOf, image, laid, lineSize, roomy, limit}
 use Rattle.fifo.specs.Steps.{Jobs, fresh, initStep}
@@ -23,7 +24,7 @@ use Rattle.fifo.proofs.Calls.{holds-front, holds-laid, Undone, Done, ef
 
 -- bytes behind it don't matter
 holds-more : (l room s : List ℕ) → Holds l room → Holds l (room ++ s)
-unfolding laid
+unfolding laid front.laid
 holds-more l room s h =
     let rest = drop (length (image l)) room in
     let apart : image l ++ (rest ++ s) ≡ room ++ s = sym (append-assoc (image l) rest s) ∙ ap (λ (r : List ℕ). r ++ s) h in
@@ -31,7 +32,7 @@ holds-more l room s h =
 
 -- a part that is long enough has it too
 holds-part : (l buffer : List ℕ) (size : ℕ) → Holds l buffer → length (image l) ≤ size → Holds l (take size buffer)
-unfolding laid
+unfolding laid front.laid
 holds-part l buffer size h k =
     let rest = drop (length (image l)) buffer in
     let more : length (image l) + (size - length (image l)) ≡ size = omega arith in

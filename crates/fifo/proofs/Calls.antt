@@ -10,6 +10,7 @@ use native.Mathlib.Nat.{le-refl}
 use lib.Dec.{leb}
 use lib.ListN.{length}
 use lib.Seq.{drop-append-seam}
+use Rattle.bytes.specs.Laid as front
 use Rattle.fifo.specs.WaitingLine.{standsIn, entriesOf}
 use Rattle.fifo.specs.Layout.{lineOf, image, laid, roomy, isLine, limit}
 use Rattle.fifo.specs.Refusals.{tickRefusal, popRefusal}
@@ -23,7 +24,7 @@ use Rattle.fifo.proofs.Laid.{lineOf-laid, isLine-laid, laid-laid}
 -- ---- rooms that hold a line
 
 pub holds-front : (l s : List ℕ) → Holds l (image l ++ s)
-unfolding laid
+unfolding laid front.laid
 holds-front l s = rw (drop-append-seam (image l) s)
 
 pub holds-laid : (l s : List ℕ) → Holds l (laid l s)

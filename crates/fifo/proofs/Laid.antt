@@ -11,6 +11,7 @@ use lib.Dec.{leb, ltb}
 use borrow.Author.Tests.{leb-true, lt-ltb, le-ltb, le-leb, lt-leb}
 use lib.ListN.{length, getD, take, drop, length-append, length-drop, take-append-drop}
 use lib.Seq.{take-append-seam, drop-append-add, drop-drop}
+use Rattle.bytes.specs.Laid as front
 use Rattle.fifo.specs.WaitingLine.{entriesOf}
 use Rattle.fifo.proofs.WaitingLines.{entries-cons, entries-length}
 use Rattle.fifo.specs.Layout.{isLine, numbers, bytes, counted, lineOf, image, laid, lineSize, roomy, limit}
@@ -35,17 +36,17 @@ length-image l = omega (arith, length-bytes l)
 
 pub laid-cons : (l : List ℕ) (a b : ℕ) (s : List ℕ)
     → laid l (a ∷ b ∷ s) ≡ length l % 256 ∷ length l / 256 % 256 ∷ (bytes l ++ drop (2 * length l) s)
-unfolding laid image bytes
+unfolding laid front.laid image bytes
 laid-cons l a b s = rw (length-bytes l)
 
 pub length-laid : (l s : List ℕ) → lineSize (length l) ≤ length s → length (laid l s) ≡ length s
-unfolding laid
+unfolding laid front.laid
 length-laid l s h =
     length-append (image l) (drop (length (image l)) s) ∙ omega (arith, length-drop (length (image l)) s, length-image l)
 
 -- of two lines laid one after the other the second is seen, where it is as long as the first
 pub laid-laid : (l k s : List ℕ) → length k ≤ length l → laid l (laid k s) ≡ laid l s
-unfolding laid
+unfolding laid front.laid
 laid-laid l k s h =
     let more : length (image l) ≡ length (image k) + (length (image l) - length (image k)) = omega (arith, length-image l, length-image k) in
     ap (λ (r : List ℕ). image l ++ r)
@@ -75,7 +76,7 @@ numbers-bytes n (x ∷ l) s h e =
 
 module _ (n : ℕ) (l s : List ℕ) (h : n < limit) (e : entriesOf n l ≡ true) where
   pub numbers-laid : numbers (laid l s) ≡ length l ∷ (l ++ numbers (drop (length (image l)) s))
-  unfolding laid image bytes numbers
+  unfolding laid front.laid image bytes numbers
   numbers-laid =
       let small : length l < limit = omega (arith, entries-length n l e) in
       rw (pair (length l) small, numbers-bytes n l (drop (length (image l)) s) h e)

@@ -7,6 +7,7 @@ use native.Mathlib.Omega.{arith}
 use native.Mathlib.Numerals.{add-one}
 use lib.ListN.{length, getD, take, drop, set, length-append, length-drop}
 use lib.Seq.{paste, paste-suc, length-paste-head, getD-append-add, getD-drop}
+use Rattle.bytes.specs.Laid as front
 use Rattle.fifo.specs.Layout.{bytes, lineOf, image, laid}
 use Rattle.fifo.specs.SmallSteps.{stored}
 use Rattle.fifo.proofs.Numbers.{Bytes, double, bytes-append, bytes-line}
@@ -70,7 +71,7 @@ laid-pop (a ∷ b ∷ x ∷ y ∷ s) l e f q h =
     rw (m, stored-first, laid-cons l a b (x ∷ y ∷ s), rest)
 
 pub laid-clear : (s : List ℕ) → 2 ≤ length s → stored 0 0 s ≡ laid [] s
-unfolding stored laid image bytes
+unfolding stored laid front.laid image bytes
 laid-clear [] h = absurd (omega arith)
 laid-clear (a ∷ []) h = absurd (omega arith)
 laid-clear (a ∷ b ∷ s) h = refl

@@ -7,6 +7,7 @@ use mathlib.Core.List.{[], _∷_, map}
 use mathlib.Core.Logic.{_⊎_, inl, inr}
 use lib.Dec.{eqb}
 use lib.ListN.{take, replicate}
+use Rattle.bytes.specs.Laid as front
 use Rattle.fifo.specs.declared.Ticked.{Ticked}
 use Rattle.fifo.specs.declared.Popped.{Popped}
 use Rattle.fifo.specs.declared.Ticked.the-variants.{Joined, Refused as NotTicked}
@@ -33,7 +34,7 @@ answer jobs (pop room) = inr (popStep (jobs .count) room .answer)
 -- all that a run of calls is made of, to be computed
 unfoldable pub running : Unit {0}
 unfolding callsOn callOn bufferAfter lent roomAfter started initStep fresh tickStep ticked joiners joins popStep front popped isLine roomy
-    laid image lineOf counted numbers bytes entriesOf standsIn pick
+    laid front.laid image lineOf counted numbers bytes entriesOf standsIn pick
 running = tt
 
 -- a request: entry 1. Announce 59: 1 joined. Announce 60: 1 joined. Requests: entry 0, entry 2, nothing.

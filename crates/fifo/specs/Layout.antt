@@ -6,6 +6,7 @@ use mathlib.Core.Bool.{Bool, _&&_}
 use mathlib.Core.List.{List, [], _∷_, _++_}
 use lib.Dec.{leb}
 use lib.ListN.{length, getD, take, drop}
+use Rattle.bytes.specs.Laid as front
 use Rattle.fifo.specs.WaitingLine.{entriesOf}
 
 -- the numbers that bytes hold, two bytes each; an odd byte at the end is part of none
@@ -33,7 +34,7 @@ image l = bytes (length l ∷ l)
 
 -- the room with a line laid at its front
 unfoldable pub laid : List ℕ → List ℕ → List ℕ
-laid l room = image l ++ drop (length (image l)) room
+laid l room = front.laid (image l) room
 
 -- the bytes that a line of n entries takes
 abbrev pub lineSize : ℕ → ℕ
