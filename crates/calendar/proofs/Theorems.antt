@@ -3,6 +3,7 @@
 --   has-minute, accepted: which dates have a minute, and are accepted
 --   later-dates: later minutes have later dates
 --   weekday-next, weekday-week: weekdays follow one another
+--   parts-within: how large the parts of a date are
 --   cycle: after 400 years all is the same but the year
 --   direct-is-walk: the date worked out directly is the one that the walk comes to
 -- Assumes nothing.
@@ -14,13 +15,15 @@ use Prim.Native.Nat.{ℕ, _+_, _*_, _/_, _%_, _≤_, _<_}
 use native.Mathlib.Nat.{lt-of-not-le}
 use native.Mathlib.Decide.{decLe}
 use native.Mathlib.Omega.{arith}
-use lib.Dec.{leb}
+use lib.Dec.{T, leb, leb→le}
 use lib.ListN.{getD}
 use borrow.Author.Tests.{le-leb}
 use Rattle.calendar.specs.declared.MinuteAnswer.{MinuteAnswer}
 use Rattle.calendar.specs.Refusals.{notOnCalendar}
+use Rattle.calendar.specs.Gregorian.{leap, monthTable, monthLength, monthDays}
 use Rattle.calendar.specs.Dates.{firstYear, lastYear, lastMinute, cycleMinutes, weekdayOf, yearOf, monthOf, dateAt, exists, minuteAt, minuteOf}
 use Rattle.calendar.specs.Order.{parts, Earlier}
+use Rattle.calendar.proofs.Tests.{at-each}
 use Rattle.calendar.proofs.Years.{years-shift, months-shift}
 use Rattle.calendar.proofs.Minutes.{dateAt-on, minuteAt-dateAt, minuteAt-on, parts-minuteAt, later-day, weekday-cycle}
 use Rattle.calendar.proofs.Dates.{OnCalendar, on-calendar, exists-on, calendar-on, year-falls}
@@ -128,6 +131,26 @@ weekday-next m = omega arith
 pub weekday-week : (m : ℕ) → dateAt (m + 7 * 1440) .weekday ≡ dateAt m .weekday
 unfolding dateAt weekdayOf
 weekday-week m = omega arith
+
+-- ---- the parts of a date
+
+short : (b : Bool) (m : ℕ) → m < 13 → T (leb (monthLength b m) 31)
+unfolding monthLength monthTable
+short true = at-each (λ m. leb (monthLength true m) 31) 13 tt
+short false = at-each (λ m. leb (monthLength false m) 31) 13 tt
+
+weekday : (m : ℕ) → dateAt m .weekday < 7
+unfolding dateAt weekdayOf
+weekday m = omega arith
+
+pub parts-within : (m : ℕ) → m ≤ lastMinute
+    → let d = dateAt m in (d .year ≤ lastYear) × (d .month ≤ 12) × (d .day ≤ 31) × (d .hour < 24) × (d .minute < 60) × (d .weekday < 7)
+unfolding monthDays
+parts-within m h =
+    let d = dateAt m in
+    let o = dateAt-on m h in
+    let days = leb→le (monthDays (d .year) (d .month)) 31 (short (leap (d .year)) (d .month) (omega (arith, o .monthTo))) in
+    (o .yearTo, o .monthTo, omega (arith, o .dayTo, days), o .hourTo, o .minuteTo, weekday m)
 
 -- ---- the cycle of 400 years
 

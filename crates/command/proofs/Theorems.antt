@@ -1,5 +1,5 @@
 -- Paper 01, "Command", sentence by sentence, as equations that `pieces` meets. There is one for each way a command can go on, so
--- they leave it no choice.
+-- they leave it no choice; and `split-length`: shell line and input together are no longer than the command.
 -- Assumes nothing.
 use mathlib.Core.Path.{_≡_, refl}
 use mathlib.Core.Bool.{false}
@@ -8,6 +8,7 @@ use Prim.Native.Nat.{ℕ}
 use borrow.Author.Tests.{ne-eqb}
 use Rattle.command.specs.declared.Piece.the-variants.{Byte, Percent}
 use Rattle.command.specs.Pieces.{percent, backslash, alone, paired, pieces}
+pub use Rattle.command.proofs.Sizes.{split-length}
 
 -- backslash and `%` together give `%`
 pub escaped : (s : List ℕ) → pieces false (backslash ∷ percent ∷ s) ≡ Byte percent ∷ pieces false s

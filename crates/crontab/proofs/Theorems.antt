@@ -1,4 +1,9 @@
 -- What a caller may rely on: of a table that is read, of the entries it has, of where settings stand, and of how far ahead a firing is.
+--   table-sound, table-short: a table that is read; a good one is as long as it may be
+--   entry-sound, entry-told: an entry that is found, and the answer to a number
+--   setting-inside, setting-short: where name and value stand
+--   due-told, next-told: what is said of an entry, refused or not
+--   next-in-gap: a next firing that is told is at most 21,036,960 minutes ahead
 -- Assumes nothing.
 use mathlib.Core.Path.{_≡_, refl, sym, _∙_}
 use mathlib.Core.Bool.{Bool, true, false, cond}
@@ -9,13 +14,15 @@ use native.Mathlib.Decide.{decLe}
 use native.Mathlib.Omega.{arith}
 use lib.ListN.{length, getD, set, length-set}
 use lib.Seq.{getD-set-same, getD-set-other}
-use lib.Dec.{eqb, leb}
+use lib.Dec.{eqb, leb, ltb}
+use borrow.Author.Tests.{ltb-true, ltb-false, eqb-true, eqb-false}
 use Rattle.calendar.specs.Dates.{lastMinute}
+use Rattle.schedule.specs.declared.Schedule.{Schedule}
 use Rattle.schedule.specs.declared.Next.{Next}
 use Rattle.schedule.specs.declared.Next.the-variants as next
 use Rattle.schedule.specs.Next.{nextAfter}
 use Rattle.schedule.specs.Gap.{gap}
-use Rattle.schedule.proofs.Gap.{next-within}
+use Rattle.schedule.proofs.Theorems.{next-on-calendar, next-within}
 use Rattle.crontab.specs.declared.time.When.{When}
 use Rattle.crontab.specs.declared.time.When.the-variants.{Reboot, Timed}
 use Rattle.crontab.specs.declared.entry.Entry.{Entry}
@@ -23,12 +30,16 @@ use Rattle.crontab.specs.declared.table.Table.{Table}
 use Rattle.crontab.specs.declared.table.EntryAnswer.{EntryAnswer}
 use Rattle.crontab.specs.declared.table.EntryAnswer.the-variants as answer
 use Rattle.crontab.specs.declared.setting.SettingAnswer.{SettingAnswer}
+use Rattle.crontab.specs.declared.firing.DueAnswer.{DueAnswer}
+use Rattle.crontab.specs.declared.firing.DueAnswer.the-variants as due
+use Rattle.crontab.specs.declared.firing.NextAnswer.{NextAnswer}
 use Rattle.crontab.specs.declared.firing.NextAnswer.the-variants.{At, Refused}
-use Rattle.crontab.specs.Limits.{maxEntries}
-use Rattle.crontab.specs.Items.{Items, done, fault, setting, entry, itemsOf}
+use Rattle.crontab.specs.Limits.{maxTable, maxEntries}
+use Rattle.crontab.specs.Lines.{linesOf}
+use Rattle.crontab.specs.Items.{Items, done, fault, setting, entry, itemsFrom, itemsOf}
 use Rattle.crontab.specs.Tables.{blankEntry, noEntries, refusedTable, emptyTable, withEntry, withItems, tableOf, entryIn}
 use Rattle.crontab.specs.Settings.{refusedSetting, shown, settingFrom, settingIn}
-use Rattle.crontab.specs.Firings.{byWhen, told, nextOf, nextAnswer, nextIn}
+use Rattle.crontab.specs.Firings.{byWhen, firesAt, dueOf, told, nextOf, dueAnswer, dueIn, nextAnswer, nextIn}
 use Rattle.crontab.proofs.Proper.{Inside}
 use Rattle.crontab.proofs.Sound.{Sound, SoundItems, items-sound}
 use Rattle.crontab.proofs.Tables.{entryFrom, table-entry}
@@ -104,6 +115,16 @@ pub table-sound : (s : List ℕ) → SoundTable (length s) (tableOf s)
 unfolding tableOf emptyTable refusedTable
 table-sound s = with-sound (length s) emptyTable (itemsOf s) refl (empty-sound (length s)) (items-sound s)
 
+-- a table that isn't refused has at most so many bytes
+pub table-short : (s : List ℕ) → tableOf s .refusal ≡ 0 → length s ≤ maxTable
+unfolding tableOf itemsOf withItems refusedTable
+table-short s = go (ltb maxTable (length s)) refl
+  where
+    go : (b : Bool) → ltb maxTable (length s) ≡ b
+        → withItems emptyTable (cond b (fault 1 0 0) (itemsFrom 0 1 0 (linesOf s))) .refusal ≡ 0 → length s ≤ maxTable
+    go true e z = absurd (omega arith)
+    go false e z = ltb-false maxTable (length s) e
+
 -- ---- an entry that is found
 
 abbrev Answered : ℕ → EntryAnswer → Type 0
@@ -123,6 +144,24 @@ from-answered n k i f (entry e later) p q = from-answered n (k + 1) i (cond (eqb
 
 pub entry-sound : (s : List ℕ) (i : ℕ) {e : Entry} → entryIn (tableOf s) i ≡ answer.Found e → Sound (length s) e
 entry-sound s i e = rw (sym (table-entry s i) ∙ e) at (from-answered (length s) 0 i (answer.Refused 13) (itemsOf s) tt (items-sound s))
+
+-- an answer of a table of n bytes: an entry, and then the table isn't refused; or a refusal
+abbrev pub EntryTold : ℕ → EntryAnswer → Type 0
+EntryTold n (answer.Found e) = (Sound n e) × (n ≤ maxTable)
+EntryTold n (answer.Refused number) = 1 ≤ number
+
+pub entry-told : (s : List ℕ) (i : ℕ) → EntryTold (length s) (entryIn (tableOf s) i)
+unfolding entryIn
+entry-told s i = go (eqb (t .refusal) 0) (ltb i (t .count)) refl refl
+  where
+    t : Table
+    t = tableOf s
+
+    go : (a b : Bool) → eqb (t .refusal) 0 ≡ a → ltb i (t .count) ≡ b
+        → EntryTold (length s) (cond a (cond b (answer.Found (getD (t .entries) i blankEntry)) (answer.Refused 13)) (answer.Refused (t .refusal)))
+    go true true p q = (table-sound s .each i (ltb-true i (t .count) q), table-short s (eqb-true (t .refusal) 0 p))
+    go true false p q = omega arith
+    go false b p q = omega (arith, eqb-false (t .refusal) 0 p)
 
 -- ---- a setting
 
@@ -153,6 +192,66 @@ module _ (n : ℕ) where
 pub setting-inside : (s : List ℕ) (k : ℕ) → SettingInside (length s) (settingIn (itemsOf s) k)
 unfolding settingIn
 setting-inside s k = from-inside (length s) 0 k (refusedSetting 19) (itemsOf s) (none-inside (length s) 19) (items-sound s)
+
+-- a setting that is found stands in a table that isn't too long
+pub setting-short : (s : List ℕ) (k : ℕ) → settingIn (itemsOf s) k .refusal ≡ 0 → length s ≤ maxTable
+unfolding settingIn itemsOf settingFrom refusedSetting
+setting-short s k = go (ltb maxTable (length s)) refl
+  where
+    go : (b : Bool) → ltb maxTable (length s) ≡ b
+        → settingFrom (refusedSetting 19) k (cond b (fault 1 0 0) (itemsFrom 0 1 0 (linesOf s))) .refusal ≡ 0 → length s ≤ maxTable
+    go true e z = absurd (omega arith)
+    go false e z = ltb-false maxTable (length s) e
+
+-- ---- what is said of an entry: yes, no, a minute of the calendar, or a refusal
+
+abbrev pub DueTold : DueAnswer → Type 0
+DueTold due.Yes = Unit {0}
+DueTold due.No = Unit {0}
+DueTold (due.Refused number) = 1 ≤ number
+
+abbrev pub NextTold : NextAnswer → Type 0
+NextTold (At n) = n ≤ lastMinute
+NextTold (Refused number) = 1 ≤ number
+
+due-of : (e : Entry) (m : ℕ) → DueTold (dueOf e m)
+unfolding dueOf
+due-of e m = go (leb m lastMinute) (firesAt e m)
+  where
+    go : (a b : Bool) → DueTold (cond a (cond b due.Yes due.No) (due.Refused 14))
+    go true true = tt
+    go true false = tt
+    go false b = omega arith
+
+pub due-told : (s : List ℕ) (i m : ℕ) → DueTold (dueIn (tableOf s) i m)
+unfolding dueIn dueAnswer
+due-told s i m = go (entryIn (tableOf s) i) (entry-told s i)
+  where
+    go : (a : EntryAnswer) → EntryTold (length s) a → DueTold (dueAnswer a m)
+    go (answer.Found e) h = due-of e m
+    go (answer.Refused number) h = h
+
+next-of : (e : Entry) (m : ℕ) → NextTold (nextOf e m)
+unfolding nextOf told
+next-of e m = go (leb m lastMinute) (e .when)
+  where
+    firing : (times : Schedule) (x : Next) → nextAfter times m ≡ x → NextTold (told x)
+    firing times (next.At n) p = next-on-calendar times m n p
+    firing times next.Never p = omega arith
+    firing times next.PastEnd p = omega arith
+
+    go : (b : Bool) (when : When) → NextTold (cond b (byWhen when (Refused 15) (λ s. told (nextAfter s m))) (Refused 14))
+    go false when = omega arith
+    go true Reboot = omega arith
+    go true (Timed times) = firing times (nextAfter times m) refl
+
+pub next-told : (s : List ℕ) (i m : ℕ) → NextTold (nextIn (tableOf s) i m)
+unfolding nextIn nextAnswer
+next-told s i m = go (entryIn (tableOf s) i) (entry-told s i)
+  where
+    go : (a : EntryAnswer) → EntryTold (length s) a → NextTold (nextAnswer a m)
+    go (answer.Found e) h = next-of e m
+    go (answer.Refused number) h = h
 
 -- ---- a next firing that is told is at most 21,036,960 minutes ahead
 

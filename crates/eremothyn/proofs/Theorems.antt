@@ -1,4 +1,7 @@
--- The headline theorems of C's numbers: paper 01's known days, the gap exactly reached, and a day that never comes.
+-- The headline theorems of C's numbers.
+--   known-days: paper 01's known days
+--   gap-reached, february-30: the gap exactly reached, and a day that never comes
+--   told-apart: every number tells whether the call was refused
 -- Assumes nothing.
 use mathlib.Core.Path.{_≡_, refl, ap, _∙_}
 use mathlib.Core.List.{List}
@@ -16,11 +19,16 @@ use Rattle.field.specs.Computing as field
 use Rattle.crontab.specs.declared.time.When.the-variants.{Timed}
 use Rattle.crontab.specs.declared.table.EntryAnswer.the-variants.{Found}
 use Rattle.crontab.specs.Tables.{tableOf, entryIn}
-use Rattle.crontab.specs.Firings.{told, nextOf, nextAnswer, nextIn}
+use Rattle.crontab.specs.Firings.{told, nextOf, nextAnswer, nextIn, dueIn}
+use Rattle.crontab.proofs.Theorems.{table-sound, due-told, next-told}
+use Rattle.runqueue.specs.Calls.{initTable, tickTable, popTable}
+use Rattle.runqueue.proofs.Theorems.{init-told, tick-told, pop-told}
 use Rattle.crontab.specs.Computing.{reading}
 use Rattle.command.specs.Computing.{splitting}
 use Rattle.eremothyn.specs.Entries.{nextNumber}
 use Rattle.eremothyn.specs.KnownDays.{KnownDays}
+use Rattle.eremothyn.specs.Apart.{ToldApart}
+use Rattle.eremothyn.proofs.Apart.{part-tells, minute-tells, check-tells, setting-tells, due-tells, next-tells, split-tells, stdin-tells, tick-tells, pop-tells}
 
 -- the table's first entry is timed, and its command ends a byte behind its start
 abbrev reads : List ℕ → Schedule → ℕ → ℕ → Type 0
@@ -75,3 +83,22 @@ gap-reached = ap nextNumber (firing _ leapSundays 13 14 _ (entries .5) (lit≤ t
 pub february-30 : (m : ℕ) → m ≤ lastMinute → nextNumber (nextIn (tableOf (text "0 0 30 2 * a")) 0 m) ≡ 4294967312
 unfolding nextNumber told schedules firings.ever
 february-30 m h = ap nextNumber (firing _ february30 11 12 m (entries .2) h ∙ ap told (firings.never february30 m refl))
+
+-- a refusal is 4,294,967,296 plus its number, and no other answer is above 4,294,967,296
+pub told-apart : ToldApart
+told-apart =
+    record {
+      year-to-weekday = part-tells;
+      minute-of-date = minute-tells;
+      check = check-tells;
+      due = λ table i minute. due-tells (dueIn (tableOf table) i minute) (due-told table i minute);
+      next = λ table i minute. next-tells (nextIn (tableOf table) i minute) (next-told table i minute);
+      setting = setting-tells;
+      split-command = split-tells;
+      stdin-length = stdin-tells;
+      queue-init = λ table room. tick-tells (tableOf table .count) (initTable (tableOf table) room .answer) (table-sound table .few) (init-told (tableOf table) room);
+      queue-tick =
+          λ table room minute.
+          tick-tells (tableOf table .count) (tickTable (tableOf table) minute room .answer) (table-sound table .few) (tick-told (tableOf table) room minute);
+      queue-pop = λ table room. pop-tells (tableOf table .count) (popTable (tableOf table) room .answer) (table-sound table .few) (pop-told (tableOf table) room);
+    }

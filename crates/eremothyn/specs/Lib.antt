@@ -8,3 +8,4 @@ pub mod Queue
 pub mod Computing
 pub mod Examples
 pub mod KnownDays
+pub mod Apart

@@ -1,19 +1,27 @@
 -- What is proved of the line in bytes and of lists of calls, for any jobs. The claims are in specs/Fairness, RefusedCalls, Buffer and
 -- Steady; the lemmas in the files beside this one.
 -- Assumes nothing.
-use mathlib.Core.Path.{_≡_}
-use mathlib.Core.Bool.{true}
-use mathlib.Core.List.{List, _++_}
-use Prim.Native.Nat.{ℕ, _+_, _*_, _≤_}
+use mathlib.Core.Path.{_≡_, refl}
+use mathlib.Core.Bool.{Bool, true, false, cond}
+use mathlib.Core.List.{List, [], _∷_, _++_}
+use Prim.Native.Nat.{ℕ, zero, suc, _+_, _*_, _≤_, _<_}
 use native.Mathlib.Omega.{arith}
+use lib.Dec.{leb}
 use lib.ListN.{length}
 use borrow.Author.Tests.{le-leb}
-use Rattle.fifo.specs.Layout.{lineSize, roomy}
-use Rattle.fifo.specs.Steps.{fresh}
+use Rattle.fifo.specs.declared.Ticked.{Ticked}
+use Rattle.fifo.specs.declared.Popped.{Popped}
+use Rattle.fifo.specs.declared.Ticked.the-variants.{Joined, Refused as NotTicked}
+use Rattle.fifo.specs.declared.Popped.the-variants.{Entry, Nothing, Refused as NotPopped}
+use Rattle.fifo.specs.WaitingLine.{pick, entriesOf}
+use Rattle.fifo.specs.Layout.{lineOf, laid, lineSize, roomy, isLine}
+use Rattle.fifo.specs.Steps.{Jobs, Step, fresh, initStep, joins, joiners, ticked, tickStep, front, popped, popStep}
 use Rattle.fifo.specs.Fairness.{unrefused, bound, FairFrom, Fair}
 use Rattle.fifo.specs.RefusedCalls.{RefusedOnly}
 use Rattle.fifo.specs.Buffer.{callsOn, bufferAfterAll, started, FairInBuffer}
 use Rattle.fifo.specs.Steady.{steady, SteadyPaced, FairSteady}
+use Rattle.fifo.proofs.WaitingLines.{entries-cons, pick-length}
+use Rattle.fifo.proofs.Rooms.{is-line}
 use Rattle.fifo.proofs.Calls.{fresh-entries, goes-on, expected-all}
 use Rattle.fifo.proofs.Fair.{runs, matched-named, soon-at}
 use Rattle.fifo.proofs.Buffer.{on-follows, started-holds, calls-append}
@@ -23,6 +31,60 @@ use Rattle.fifo.proofs.Steady.{steady-from}
 pub room-enough : (n : ℕ) (s : List ℕ) → 8 * n + 64 ≤ length s → roomy n s ≡ true
 unfolding roomy
 room-enough n s h = le-leb (lineSize n) (length s) (omega arith)
+
+-- ---- what a call of a table of n entries comes back with: no more than n join, and an entry that is named is one of them
+
+abbrev pub TickedWithin : ℕ → Ticked → Type 0
+TickedWithin n (Joined k) = k ≤ n
+TickedWithin n (NotTicked number) = 1 ≤ number
+
+abbrev pub PoppedWithin : ℕ → Popped → Type 0
+PoppedWithin n (Entry e) = e < n
+PoppedWithin n Nothing = Unit {0}
+PoppedWithin n (NotPopped number) = 1 ≤ number
+
+pub init-within : (jobs : Jobs) (room : List ℕ) → TickedWithin (jobs .count) (initStep jobs room .answer)
+unfolding initStep fresh
+init-within jobs room = go (roomy (jobs .count) room)
+  where
+    go : (b : Bool)
+        → TickedWithin (jobs .count)
+        (cond {A = Step Ticked} b (record { answer = Joined (length (fresh jobs)); room = laid (fresh jobs) room }) (record { answer = NotTicked 28; room = room }) .answer)
+    go true = pick-length (jobs .boot) (jobs .count)
+    go false = omega arith
+
+pub tick-within : (jobs : Jobs) (minute : ℕ) (room : List ℕ) → TickedWithin (jobs .count) (tickStep jobs minute room .answer)
+unfolding tickStep joiners
+tick-within jobs minute room = go (isLine (jobs .count) room) (leb minute (jobs .last))
+  where
+    go : (b c : Bool)
+        → TickedWithin (jobs .count)
+        (cond {A = Step Ticked} b
+        (cond c
+        (record { answer = Joined (length (joiners jobs minute (lineOf room))); room = laid (ticked jobs minute (lineOf room)) room })
+        (record { answer = NotTicked 14; room = room }))
+        (record { answer = NotTicked 28; room = room })
+        .answer)
+    go true true = pick-length (joins jobs minute (lineOf room)) (jobs .count)
+    go true false = omega arith
+    go false c = omega arith
+
+front-within : (n : ℕ) (l : List ℕ) → entriesOf n l ≡ true → PoppedWithin n (front l)
+unfolding front
+front-within n [] h = tt
+front-within n (e ∷ l) h = entries-cons n e l h .0
+
+pub pop-within : (n : ℕ) (room : List ℕ) → PoppedWithin n (popStep n room .answer)
+unfolding popStep
+pop-within n room = go (isLine n room) refl
+  where
+    go : (b : Bool) → isLine n room ≡ b
+        → PoppedWithin n
+        (cond {A = Step Popped} b (record { answer = front (lineOf room); room = laid (popped (lineOf room)) room }) (record { answer = NotPopped 28; room = room }) .answer)
+    go true e = front-within n (lineOf room) (is-line n room e .entries-is)
+    go false e = omega arith
+
+-- ---- fairness
 
 -- an entry that a minute matches soon is named in time, from any line
 pub fair-from : FairFrom

@@ -10,7 +10,7 @@ use native.Mathlib.Nat.{lt-of-not-le}
 use native.Mathlib.Decide.{decLe, ℕ-discrete}
 use lib.Dec.{ltb, eqb}
 use native.Mathlib.Numerals.{add-one}
-use lib.ListN.{drop-of-length-le, length, getD, take, drop}
+use lib.ListN.{drop-of-length-le, length, length-append, getD, take, drop}
 use lib.Seq.{drop-cons, split-at, take-suc}
 use borrow.Author.Tests.{ltb-true, eqb-true, eqb-false, lt-ltb, le-ltb, eq-eqb, ne-eqb, not-true}
 use Rattle.fifo.specs.WaitingLine.{standsIn, entriesOf, pick}
@@ -138,6 +138,16 @@ pub pick-same : (p q : ℕ → Bool) → ((e : ℕ) → p e ≡ q e) → (n : �
 unfolding pick
 pick-same p q h zero = refl
 pick-same p q h (suc n) = rw (pick-same p q h n, h n)
+
+-- no more than there are
+pub pick-length : (p : ℕ → Bool) (n : ℕ) → length (pick p n) ≤ n
+unfolding pick
+pick-length p zero = omega arith
+pick-length p (suc n) = omega (arith, length-append (pick p n) (cond (p n) (n ∷ []) []), one (p n), pick-length p n)
+  where
+    one : (b : Bool) → length (cond b (n ∷ []) []) ≤ 1
+    one true = omega arith
+    one false = omega arith
 
 pub stands-pick : (p : ℕ → Bool) (n e : ℕ) → standsIn e (pick p n) ≡ (ltb e n && p e)
 unfolding standsIn pick

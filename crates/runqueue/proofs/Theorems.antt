@@ -1,18 +1,27 @@
--- The third demand holds: fifo's theorems, by table bytes. The claims are in specs/Demand.
+-- The third demand holds: fifo's theorems, by table bytes. The claims are in specs/Demand. And what the three calls can answer.
 -- Assumes nothing.
-use mathlib.Core.Path.{_≡_}
+use mathlib.Core.Path.{_≡_, refl}
+use mathlib.Core.Bool.{Bool, true, false, cond}
 use mathlib.Core.List.{List}
 use Prim.Native.Nat.{ℕ, _<_}
 use native.Mathlib.Decide.{decLe}
 use native.Mathlib.Omega.{arith}
-use borrow.Author.Tests.{eq-eqb, lt-ltb, le-leb}
+use lib.Dec.{eqb}
+use borrow.Author.Tests.{eq-eqb, eqb-false, lt-ltb, le-leb}
 use Rattle.calendar.specs.Dates.{lastMinute}
 use Rattle.schedule.specs.Gap.{gap}
+use Rattle.crontab.specs.declared.table.Table.{Table}
 use Rattle.crontab.specs.Tables.{tableOf, entryIn}
 use Rattle.crontab.specs.Firings.{dueOf, dueAnswer, dueIn}
 use Rattle.crontab.proofs.Theorems.{table-sound}
-use Rattle.fifo.proofs.Theorems.{fair-from, fair, refused-only, fair-in-buffer, fair-steady}
+use Rattle.fifo.specs.declared.Ticked.{Ticked}
+use Rattle.fifo.specs.declared.Ticked.the-variants.{Refused as NotTicked}
+use Rattle.fifo.specs.declared.Popped.{Popped}
+use Rattle.fifo.specs.declared.Popped.the-variants.{Refused as NotPopped}
+use Rattle.fifo.specs.Steps.{Step, initStep, tickStep, popStep}
+use Rattle.fifo.proofs.Theorems.{TickedWithin, PoppedWithin, init-within, tick-within, pop-within, fair-from, fair, refused-only, fair-in-buffer, fair-steady}
 use Rattle.runqueue.specs.Jobs.{jobAt, jobsOf}
+use Rattle.runqueue.specs.Calls.{initTable, tickTable, popTable}
 use Rattle.runqueue.specs.Demand.{jobsIn, TableDue, TableFair, TableFairFrom, TableSteps, TableStepsGood, TableRefusedOnly, TableFairInBuffer, TableFairSteady}
 use Rattle.runqueue.proofs.Exits.{init-good, tick-good, pop-good}
 use Rattle.runqueue.proofs.TableJobs.{soon, few}
@@ -37,6 +46,35 @@ pub table-due : TableDue
 unfolding dueIn dueAnswer entryIn dueOf jobsOf jobAt
 table-due table e minute h on =
     rw (eq-eqb (tableOf table .refusal) 0 (entry-good table e h), lt-ltb e (tableOf table .count) h, le-leb minute lastMinute on)
+
+-- no more than the table's entries join, and an entry that is named is one of them
+module _ (t : Table) (room : List ℕ) where
+  pub init-told : TickedWithin (t .count) (initTable t room .answer)
+  unfolding initTable jobsOf
+  init-told = go (eqb (t .refusal) 0) refl
+    where
+      go : (b : Bool) → eqb (t .refusal) 0 ≡ b
+          → TickedWithin (t .count) (cond {A = Step Ticked} b (initStep (jobsOf t) room) (record { answer = NotTicked (t .refusal); room = room }) .answer)
+      go true e = init-within (jobsOf t) room
+      go false e = omega (arith, eqb-false (t .refusal) 0 e)
+
+  pub tick-told : (minute : ℕ) → TickedWithin (t .count) (tickTable t minute room .answer)
+  unfolding tickTable jobsOf
+  tick-told minute = go (eqb (t .refusal) 0) refl
+    where
+      go : (b : Bool) → eqb (t .refusal) 0 ≡ b
+          → TickedWithin (t .count) (cond {A = Step Ticked} b (tickStep (jobsOf t) minute room) (record { answer = NotTicked (t .refusal); room = room }) .answer)
+      go true e = tick-within (jobsOf t) minute room
+      go false e = omega (arith, eqb-false (t .refusal) 0 e)
+
+  pub pop-told : PoppedWithin (t .count) (popTable t room .answer)
+  unfolding popTable
+  pop-told = go (eqb (t .refusal) 0) refl
+    where
+      go : (b : Bool) → eqb (t .refusal) 0 ≡ b
+          → PoppedWithin (t .count) (cond {A = Step Popped} b (popStep (t .count) room) (record { answer = NotPopped (t .refusal); room = room }) .answer)
+      go true e = pop-within (t .count) room
+      go false e = omega (arith, eqb-false (t .refusal) 0 e)
 
 -- the third demand, from any line of the table
 pub table-fair-from : TableFairFrom

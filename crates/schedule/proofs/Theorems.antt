@@ -2,17 +2,19 @@
 --   next-at, next-never, next-past: the next firing; the three cases leave nothing out, so each is also the only one
 --   can-fire: a schedule fires at some time exactly if the closed test that the code makes says so
 --   matching-fires: so does one that matches any minute of the calendar
+--   next-on-calendar: a firing that is told is on the calendar
 --   fires-within, next-within: it is silent for at most `gap` minutes
 --   gap-is, gap-reached: the number, and that it is exactly reached
 --   known-days: the next firings among paper 01's known days
 -- Assumes nothing.
-use mathlib.Core.Path.{_≡_, sym, _∙_}
-use mathlib.Core.Bool.{true, false}
+use mathlib.Core.Path.{_≡_, refl, sym, _∙_}
+use mathlib.Core.Bool.{Bool, true, false, cond}
 use Prim.Native.Nat.{ℕ, _+_, _/_, _%_, _≤_, _<_}
 use native.Mathlib.Nat.{lt-of-not-le}
 use native.Mathlib.Decide.{decLe}
 use native.Mathlib.Omega.{arith}
-use borrow.Author.Tests.{le-leb, lt-leb, lt-ltb}
+use lib.Dec.{leb}
+use borrow.Author.Tests.{le-leb, lt-leb, lt-ltb, leb-true}
 use Rattle.calendar.specs.Dates.{lastMinute, cycleMinutes}
 use Rattle.calendar.proofs.Tests.{and-true}
 use Rattle.schedule.specs.declared.Schedule.{Schedule}
@@ -66,3 +68,16 @@ next-past s m f none = rw f (elim (decLe m lastMinute) [ yes h ↦ rw (← withi
 
     after : (m ≤ lastMinute → ⊥) → lastMinute + 1 ≤ m + 1
     after h = let l = lt-of-not-le h in omega arith
+
+-- a firing that is told is on the calendar
+pub next-on-calendar : (s : Schedule) (m n : ℕ) → nextAfter s m ≡ At n → n ≤ lastMinute
+unfolding nextAfter firingAfter
+next-on-calendar s m n e = go (canFire s) (leb k lastMinute) refl e
+  where
+    k : ℕ
+    k = from (matches s) (lastMinute + 1) (m + 1)
+
+    go : (b c : Bool) → leb k lastMinute ≡ c → cond b (cond c (At k) PastEnd) Never ≡ At n → n ≤ lastMinute
+    go true true r f = let i : k ≡ n = cc in omega (arith, leb-true k lastMinute r)
+    go true false r f = let z : _≡_ {A = ℕ} 0 1 = cc in omega arith
+    go false c r f = let z : _≡_ {A = ℕ} 0 1 = cc in omega arith

@@ -7,12 +7,11 @@ use lib.ListN.{length}
 use native.Mathlib.Omega.{arith}
 use borrow.Author.Needs.{needs}
 use borrow.Author.Tests.{lt-ltb}
+use Rattle.crontab.specs.Limits.{maxTable}
 use Rattle.crontab.specs.Items.{itemsOf}
 use Rattle.crontab.specs.Steps.{itemsAt, Reached}
 use Rattle.crontab.specs.Tables.{tableOf, entryIn}
 use Rattle.crontab.proofs.Tables.{entryFrom, table-entry}
-use Rattle.crontab.proofs.Items.{items-start, start-reached, items-end}
-use Rattle.crontab.specs.Steps.{itemsAt, Reached}
 use Rattle.crontab.proofs.Items.{items-start, start-reached, items-end}
 use Rattle.crontab.proofs.table.find_entry.Statement.{statement}
 use Rattle.crontab.proofs.table.find_entry.Tie as tie
@@ -25,7 +24,7 @@ abbrev μ-loop : tie.MeasureT-loop
 
 returns : tie.Need-returns Inv-loop μ-loop
 unfolding itemsOf entryFrom
-returns c = sym (table-entry _ _ ∙ rw (lt-ltb _ _ (c .if1 .taken)))
+returns c = sym (table-entry _ _ ∙ rw (lt-ltb maxTable _ (c .if1 .taken)))
 
 loop-holds : tie.Need-loop-holds Inv-loop μ-loop
 loop-holds c = (rw (items-start _ (c .if1 .left)) (sym (table-entry _ _)), start-reached _ (c .if1 .left))

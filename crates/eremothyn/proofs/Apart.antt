@@ -1,0 +1,181 @@
+-- Each of C's numbers tells a refusal from an answer: how large the answers are is what the lower crates' theorems say.
+-- Assumes nothing.
+use mathlib.Core.Path.{_≡_, refl}
+use mathlib.Core.Bool.{Bool, true, false, cond}
+use Prim.Native.Nat.{ℕ, zero, suc, _-_, _≤_}
+use mathlib.Core.List.{List}
+use native.Mathlib.Omega.{arith}
+use lib.Dec.{leb}
+use lib.ListN.{length, drop, length-drop}
+use lib.Seq.{length-take-le}
+use borrow.Author.Tests.{leb-true}
+use Rattle.bytes.specs.Runs.{between}
+use Rattle.bytes.specs.Laid.{laid}
+use Rattle.calendar.specs.declared.DateAnswer.{DateAnswer}
+use Rattle.calendar.specs.Dates.{lastMinute, dateAt, noDate, dateOf, minuteOf}
+use Rattle.calendar.proofs.Theorems.{parts-within, date-minute-date}
+use Rattle.crontab.specs.declared.entry.Entry.{Entry}
+use Rattle.crontab.specs.declared.table.EntryAnswer.{EntryAnswer}
+use Rattle.crontab.specs.declared.table.EntryAnswer.the-variants as entry
+use Rattle.crontab.specs.declared.firing.DueAnswer.{DueAnswer}
+use Rattle.crontab.specs.declared.firing.DueAnswer.the-variants as due
+use Rattle.crontab.specs.declared.firing.NextAnswer.{NextAnswer}
+use Rattle.crontab.specs.declared.firing.NextAnswer.the-variants as next
+use Rattle.crontab.specs.Limits.{maxTable, maxEntries}
+use Rattle.crontab.specs.Items.{itemsOf}
+use Rattle.crontab.specs.Tables.{tableOf, entryIn}
+use Rattle.crontab.specs.Settings.{settingIn}
+use Rattle.crontab.proofs.Sound.{Sound}
+use Rattle.crontab.proofs.Theorems.{EntryTold, DueTold, NextTold, table-sound, entry-told, setting-inside, setting-short}
+use Rattle.command.specs.declared.Input.{Input}
+use Rattle.command.specs.declared.SplitAnswer.{SplitAnswer}
+use Rattle.command.specs.declared.SplitAnswer.the-variants as split
+use Rattle.command.specs.Parts.{Stdin, absent, given, shellLine, inputOf, textOf, inputLength}
+use Rattle.command.specs.Buffers.{Split, haveRoom, splitStep}
+use Rattle.command.proofs.Theorems.{split-length}
+use Rattle.fifo.specs.declared.Ticked.{Ticked}
+use Rattle.fifo.specs.declared.Ticked.the-variants as tick
+use Rattle.fifo.specs.declared.Popped.{Popped}
+use Rattle.fifo.specs.declared.Popped.the-variants as pop
+use Rattle.fifo.proofs.Theorems.{TickedWithin, PoppedWithin}
+use Rattle.eremothyn.specs.declared.dates.DatePart.{DatePart}
+use Rattle.eremothyn.specs.declared.dates.DatePart.the-variants.{Year, Month, Day, Hour, Minute, Weekday}
+use Rattle.eremothyn.specs.declared.settings.Shown.{Shown}
+use Rattle.eremothyn.specs.declared.settings.Shown.the-variants.{NameOffset, NameLength, ValueOffset, ValueLength}
+use Rattle.eremothyn.specs.Answer.{refusedFrom, answerOf}
+use Rattle.eremothyn.specs.Dates.{partIn, datePart, dateMinute}
+use Rattle.eremothyn.specs.Tables.{checkNumber}
+use Rattle.eremothyn.specs.Entries.{dueNumber, nextNumber}
+use Rattle.eremothyn.specs.Settings.{shownIn, settingNumber}
+use Rattle.eremothyn.specs.Commands.{splitNumber, inputNumber, splitIn, splitOf, stdinIn, stdinLength}
+use Rattle.eremothyn.specs.Queue.{tickNumber, popNumber}
+use Rattle.eremothyn.specs.Apart.{Tells, byRefusal, byEntry, byDue, byNext, bySplit, byTick, byPop}
+
+-- a record's answer, where its value is small unless it is refused
+answer-tells : (refusal value : ℕ) → (refusal ≡ 0 → value ≤ refusedFrom) → Tells (byRefusal refusal) (answerOf refusal value)
+unfolding answerOf
+answer-tells zero value h = h refl
+answer-tells (suc n) value h = (omega arith, refl)
+
+-- ---- dates
+
+part-small : (m : ℕ) (part : DatePart) → m ≤ lastMinute → partIn (dateAt m) part ≤ refusedFrom
+part-small m Year h = omega (arith, parts-within m h .0)
+part-small m Month h = omega (arith, parts-within m h .1)
+part-small m Day h = omega (arith, parts-within m h .2)
+part-small m Hour h = omega (arith, parts-within m h .3)
+part-small m Minute h = omega (arith, parts-within m h .4)
+part-small m Weekday h = omega (arith, parts-within m h .5)
+
+pub part-tells : (minute : ℕ) (part : DatePart) → Tells (byRefusal (dateOf minute .refusal)) (datePart minute part)
+unfolding datePart dateOf
+part-tells minute part = answer-tells (dateOf minute .refusal) (partIn (dateOf minute .date) part) (go (leb minute lastMinute) refl)
+  where
+    go : (b : Bool) → leb minute lastMinute ≡ b
+        → let a = cond {A = DateAnswer} b (record { refusal = 0; date = dateAt minute }) (record { refusal = 14; date = noDate }) in
+        a .refusal ≡ 0 → partIn (a .date) part ≤ refusedFrom
+    go true e z = part-small minute part (leb-true minute lastMinute e)
+    go false e z = absurd (omega arith)
+
+pub minute-tells : (year month day hour minute : ℕ)
+    → Tells (byRefusal (minuteOf year month day hour minute .refusal)) (dateMinute year month day hour minute)
+unfolding dateMinute
+minute-tells year month day hour minute =
+    answer-tells (minuteOf year month day hour minute .refusal) (minuteOf year month day hour minute .minute)
+    (λ z. omega (arith, date-minute-date year month day hour minute z .0))
+
+-- ---- tables and settings
+
+pub check-tells : (table : List ℕ) → Tells (byRefusal (tableOf table .refusal)) (checkNumber (tableOf table))
+unfolding checkNumber
+check-tells table = answer-tells (tableOf table .refusal) (tableOf table .count) (λ z. omega (arith, table-sound table .few))
+
+pub setting-tells : (table : List ℕ) (line : ℕ) (what : Shown)
+    → let a = settingIn (itemsOf table) line in Tells (byRefusal (a .refusal)) (settingNumber a what)
+unfolding settingNumber
+setting-tells table line what =
+    answer-tells (settingIn (itemsOf table) line .refusal) (shownIn (settingIn (itemsOf table) line) what)
+    (λ z. small what (setting-short table line z))
+  where
+    small : (what : Shown) → length table ≤ maxTable → shownIn (settingIn (itemsOf table) line) what ≤ refusedFrom
+    small NameOffset h = let i = setting-inside table line .name in omega (arith, i .order, i .within)
+    small NameLength h = let i = setting-inside table line .name in omega (arith, i .order, i .within)
+    small ValueOffset h = let i = setting-inside table line .value in omega (arith, i .order, i .within)
+    small ValueLength h = let i = setting-inside table line .value in omega (arith, i .order, i .within)
+
+-- ---- entries
+
+pub due-tells : (a : DueAnswer) → DueTold a → Tells (byDue a) (dueNumber a)
+unfolding dueNumber
+due-tells due.Yes h = omega arith
+due-tells due.No h = omega arith
+due-tells (due.Refused number) h = (h, refl)
+
+pub next-tells : (a : NextAnswer) → NextTold a → Tells (byNext a) (nextNumber a)
+unfolding nextNumber
+next-tells (next.At m) h = omega arith
+next-tells (next.Refused number) h = (h, refl)
+
+-- ---- commands
+
+command-length : (table : List ℕ) (e : Entry) → Sound (length table) e → length (between table (e .start) (e .end)) ≤ length table
+unfolding between
+command-length table e s =
+    let a = s .some in
+    let b = s .within in
+    omega (arith, length-take-le (e .end - e .start) (drop (e .start) table) (omega (arith, length-drop (e .start) table)))
+
+step-tells : (c shell input : List ℕ) → length c ≤ maxTable → let a = splitStep c shell input .answer in Tells (bySplit a) (splitNumber a)
+unfolding splitStep splitNumber
+step-tells c shell input h = go (haveRoom c shell input)
+  where
+    go : (b : Bool)
+        → let r : Split =
+        cond b
+        (record {
+          answer = split.Written (length (shellLine c)) (inputLength (inputOf c));
+          shell = laid (shellLine c) shell;
+          input = laid (textOf (inputOf c)) input;
+        })
+        (record { answer = split.Refused 18; shell = shell; input = input })
+        in
+        Tells (bySplit (r .answer)) (splitNumber (r .answer))
+    go true = omega (arith, split-length c)
+    go false = (omega arith, refl)
+
+pub split-tells : (table : List ℕ) (i : ℕ) (shell input : List ℕ)
+    → let a = splitOf table i shell input .answer in Tells (bySplit a) (splitNumber a)
+unfolding splitOf splitIn splitNumber
+split-tells table i shell input = go (entryIn (tableOf table) i) (entry-told table i)
+  where
+    go : (x : EntryAnswer) → EntryTold (length table) x → let a = splitIn table x shell input .answer in Tells (bySplit a) (splitNumber a)
+    go (entry.Found e) (s, h) = step-tells (between table (e .start) (e .end)) shell input (omega (arith, command-length table e s))
+    go (entry.Refused number) h = (h, refl)
+
+input-small : (n : ℕ) (x : Stdin) → length (textOf x) ≤ n → n ≤ maxTable → inputNumber (inputLength x) ≤ refusedFrom
+unfolding inputNumber inputLength textOf
+input-small n absent h k = omega arith
+input-small n (given t) h k = omega arith
+
+pub stdin-tells : (table : List ℕ) (i : ℕ) → Tells (byEntry (entryIn (tableOf table) i)) (stdinLength table i)
+unfolding stdinLength stdinIn
+stdin-tells table i = go (entryIn (tableOf table) i) (entry-told table i)
+  where
+    go : (x : EntryAnswer) → EntryTold (length table) x → Tells (byEntry x) (stdinIn table x)
+    go (entry.Found e) (s, h) =
+        let c = between table (e .start) (e .end) in
+        input-small (length table) (inputOf c) (omega (arith, split-length c, command-length table e s)) h
+    go (entry.Refused number) h = (h, refl)
+
+-- ---- the line of waiting jobs
+
+pub tick-tells : (n : ℕ) (a : Ticked) → n ≤ maxEntries → TickedWithin n a → Tells (byTick a) (tickNumber a)
+unfolding tickNumber
+tick-tells n (tick.Joined k) few h = omega arith
+tick-tells n (tick.Refused number) few h = (h, refl)
+
+pub pop-tells : (n : ℕ) (a : Popped) → n ≤ maxEntries → PoppedWithin n a → Tells (byPop a) (popNumber a)
+unfolding popNumber
+pop-tells n (pop.Entry e) few h = omega arith
+pop-tells n pop.Nothing few h = omega arith
+pop-tells n (pop.Refused number) few h = (h, refl)

@@ -1,0 +1,94 @@
+-- The header's sentence: "a refusal is EREMOTHYN_REFUSED plus its number; no other answer is above EREMOTHYN_REFUSED". So one comparison
+-- tells a C caller whether a call was refused, whatever it was lent. It is proved in proofs/Theorems.
+-- Assumes nothing.
+use mathlib.Core.Path.{_≡_}
+use Prim.Native.Nat.{ℕ, zero, suc, _+_, _≤_}
+use mathlib.Core.List.{List}
+use Rattle.calendar.specs.Dates.{dateOf, minuteOf}
+use Rattle.crontab.specs.declared.table.EntryAnswer.{EntryAnswer}
+use Rattle.crontab.specs.declared.table.EntryAnswer.the-variants as entry
+use Rattle.crontab.specs.declared.firing.DueAnswer.{DueAnswer}
+use Rattle.crontab.specs.declared.firing.DueAnswer.the-variants as due
+use Rattle.crontab.specs.declared.firing.NextAnswer.{NextAnswer}
+use Rattle.crontab.specs.declared.firing.NextAnswer.the-variants as next
+use Rattle.crontab.specs.Items.{itemsOf}
+use Rattle.crontab.specs.Tables.{tableOf, entryIn}
+use Rattle.crontab.specs.Settings.{settingIn}
+use Rattle.crontab.specs.Firings.{dueIn, nextIn}
+use Rattle.command.specs.declared.SplitAnswer.{SplitAnswer}
+use Rattle.command.specs.declared.SplitAnswer.the-variants as split
+use Rattle.fifo.specs.declared.Ticked.{Ticked}
+use Rattle.fifo.specs.declared.Ticked.the-variants as tick
+use Rattle.fifo.specs.declared.Popped.{Popped}
+use Rattle.fifo.specs.declared.Popped.the-variants as pop
+use Rattle.runqueue.specs.Calls.{initTable, tickTable, popTable}
+use Rattle.eremothyn.specs.declared.dates.DatePart.{DatePart}
+use Rattle.eremothyn.specs.declared.settings.Shown.{Shown}
+use Rattle.eremothyn.specs.Answer.{refusedFrom}
+use Rattle.eremothyn.specs.Dates.{datePart, dateMinute}
+use Rattle.eremothyn.specs.Tables.{checkNumber}
+use Rattle.eremothyn.specs.Entries.{dueNumber, nextNumber}
+use Rattle.eremothyn.specs.Settings.{settingNumber}
+use Rattle.eremothyn.specs.Commands.{splitNumber, splitOf, stdinLength}
+use Rattle.eremothyn.specs.Queue.{tickNumber, popNumber}
+
+-- ---- whether an answer is a refusal, and which
+
+pub data Outcome : Type 0 where
+  answered : Outcome
+  refused : ℕ → Outcome
+
+-- by a record's refusal, 0 where there is none
+abbrev pub byRefusal : ℕ → Outcome
+byRefusal zero = answered
+byRefusal (suc n) = refused (suc n)
+
+abbrev pub byEntry : EntryAnswer → Outcome
+byEntry (entry.Found e) = answered
+byEntry (entry.Refused number) = refused number
+
+abbrev pub byDue : DueAnswer → Outcome
+byDue due.Yes = answered
+byDue due.No = answered
+byDue (due.Refused number) = refused number
+
+abbrev pub byNext : NextAnswer → Outcome
+byNext (next.At m) = answered
+byNext (next.Refused number) = refused number
+
+abbrev pub bySplit : SplitAnswer → Outcome
+bySplit (split.Written n input) = answered
+bySplit (split.Refused number) = refused number
+
+abbrev pub byTick : Ticked → Outcome
+byTick (tick.Joined n) = answered
+byTick (tick.Refused number) = refused number
+
+-- "nothing waits" is an answer
+abbrev pub byPop : Popped → Outcome
+byPop (pop.Entry e) = answered
+byPop pop.Nothing = answered
+byPop (pop.Refused number) = refused number
+
+-- ---- the number that a C caller gets tells it
+
+abbrev pub Tells : Outcome → ℕ → Type 0
+Tells answered number = number ≤ refusedFrom
+Tells (refused n) number = (1 ≤ n) × (number ≡ refusedFrom + n)
+
+-- for every call, whatever is asked and lent
+pub record ToldApart : Type 0 where
+  pub year-to-weekday : (minute : ℕ) (part : DatePart) → Tells (byRefusal (dateOf minute .refusal)) (datePart minute part)
+  pub minute-of-date : (year month day hour minute : ℕ)
+      → Tells (byRefusal (minuteOf year month day hour minute .refusal)) (dateMinute year month day hour minute)
+  pub check : (table : List ℕ) → Tells (byRefusal (tableOf table .refusal)) (checkNumber (tableOf table))
+  pub due : (table : List ℕ) (i minute : ℕ) → let a = dueIn (tableOf table) i minute in Tells (byDue a) (dueNumber a)
+  pub next : (table : List ℕ) (i minute : ℕ) → let a = nextIn (tableOf table) i minute in Tells (byNext a) (nextNumber a)
+  pub setting : (table : List ℕ) (line : ℕ) (what : Shown)
+      → let a = settingIn (itemsOf table) line in Tells (byRefusal (a .refusal)) (settingNumber a what)
+  pub split-command : (table : List ℕ) (i : ℕ) (shell input : List ℕ)
+      → let a = splitOf table i shell input .answer in Tells (bySplit a) (splitNumber a)
+  pub stdin-length : (table : List ℕ) (i : ℕ) → Tells (byEntry (entryIn (tableOf table) i)) (stdinLength table i)
+  pub queue-init : (table room : List ℕ) → let a = initTable (tableOf table) room .answer in Tells (byTick a) (tickNumber a)
+  pub queue-tick : (table room : List ℕ) (minute : ℕ) → let a = tickTable (tableOf table) minute room .answer in Tells (byTick a) (tickNumber a)
+  pub queue-pop : (table room : List ℕ) → let a = popTable (tableOf table) room .answer in Tells (byPop a) (popNumber a)
