@@ -12,9 +12,13 @@ use Rattle.crontab.specs.declared.time.When.{When}
 use Rattle.crontab.specs.declared.time.When.the-variants.{Reboot, Timed}
 use Rattle.crontab.specs.declared.line.Line.{Line}
 use Rattle.crontab.specs.declared.line.Line.the-variants.{Ignored, Setting, Entry, Refused}
+use Rattle.crontab.specs.declared.table.EntryAnswer.{EntryAnswer}
+use Rattle.crontab.specs.declared.table.EntryAnswer.the-variants as answer
 use Rattle.crontab.specs.Limits.{maxTable, maxLine, maxEntries}
 use Rattle.crontab.specs.Lines.{readLine}
-use Rattle.crontab.specs.Tables.{tableOf}
+use Rattle.crontab.specs.Items.{itemsOf}
+use Rattle.crontab.specs.Tables.{tableOf, entryIn, commandIn}
+use Rattle.crontab.specs.Settings.{settingIn, partBytes}
 use Rattle.crontab.specs.Computing.{reading}
 
 -- ---- lines
@@ -74,6 +78,7 @@ lines-read : Hold readLine
     -- an `@` word is the whole run of non-blank bytes, in this case only
     ∷ (text "@reboot x", Entry Reboot 8)
     ∷ (text "@Reboot x", refused 10 1)
+    ∷ (text "@reboots x", refused 10 1)
     ∷ (text " @", refused 10 2)
     ∷ (text "@reboot ", refused 9 9)
     -- the words that stand for fields
@@ -96,9 +101,13 @@ lines-read : Hold readLine
     ∷ (text "\"A'=c", refused 11 1)
     ∷ (text "A=\"b\"c", refused 11 1)
     ∷ (text "\"\"=c", refused 11 1)
-    -- as long as a line may be, and a byte more
+    ∷ (text " A b=c", refused 11 2)
+    ∷ (text " A=\"b", refused 11 2)
+    ∷ (text " 'A", refused 11 2)
+    -- as long as a line may be, and a byte more, which comes before byte 0
     ∷ (replicate maxLine 32, Ignored)
     ∷ (replicate (maxLine + 1) 32, refused 2 1001)
+    ∷ (0 ∷ replicate maxLine 32, refused 2 1001)
     ∷ [])
 unfolding reading
 lines-read = refl
@@ -119,12 +128,40 @@ tables-read : Hold fault
     ∷ (text "* * * * * a\n@reboot b\n0 * * * * c", 0 ∷ 0 ∷ 0 ∷ 3 ∷ [])
     -- the first bad line, and no entry
     ∷ (text "@reboot b\n\n60 * * * * a\nA\n", 6 ∷ 3 ∷ 1 ∷ 0 ∷ [])
-    -- as many entries as there may be, and one more, which a bad line follows
-    ∷ (times maxEntries (text "@reboot x\n"), 0 ∷ 0 ∷ 0 ∷ 128 ∷ [])
+    -- as many entries as there may be, and one more, which a bad line follows; a bad line has its own refusal there too
+    ∷ (text "A=b\n#\n" ++ times maxEntries (text "@reboot x\n"), 0 ∷ 0 ∷ 0 ∷ 128 ∷ [])
     ∷ (times (maxEntries + 1) (text "@reboot x\n") ++ text "A\n", 12 ∷ 129 ∷ 1 ∷ 0 ∷ [])
+    ∷ (times maxEntries (text "@reboot x\n") ++ text "60\n", 6 ∷ 129 ∷ 1 ∷ 0 ∷ [])
     -- as many bytes as there may be, and one more
     ∷ (replicate maxTable 10, 0 ∷ 0 ∷ 0 ∷ 0 ∷ [])
     ∷ (replicate (maxTable + 1) 10, 1 ∷ 0 ∷ 0 ∷ 0 ∷ [])
     ∷ [])
 unfolding times reading
 tables-read = refl
+
+-- ---- entries by their number, and their commands; settings by their line
+
+abbrev three : List ℕ
+three = text "A=b\n @reboot x y \n0 * * * * z\n'B C' = d e \n"
+
+abbrev found : ℕ → EntryAnswer × List ℕ
+found i = let e = entryIn (tableOf three) i in (e, commandIn three e)
+
+entries-found : Hold found
+    ((0, (answer.Found (record { when = Reboot; line = 2; at = 4; start = 13; end = 17 }), text "x y "))
+    ∷ (1, (answer.Found (record { when = hourly; line = 3; at = 18; start = 28; end = 29 }), text "z"))
+    ∷ (2, (answer.Refused 13, []))
+    ∷ [])
+unfolding reading
+entries-found = refl
+
+abbrev named : ℕ → ℕ × List ℕ × List ℕ
+named n = let a = settingIn (itemsOf three) n in (a .refusal, partBytes three (a .name), partBytes three (a .value))
+
+settings-found : Hold named
+    ((1, (0, text "A", text "b"))
+    ∷ (2, (19, [], []))
+    ∷ (4, (0, text "B C", text "d e"))
+    ∷ [])
+unfolding reading
+settings-found = refl

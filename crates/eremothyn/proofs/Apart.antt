@@ -1,4 +1,5 @@
--- Each of C's numbers tells a refusal from an answer: how large the answers are is what the lower crates' theorems say.
+-- Each of C's numbers tells a refusal from an answer: how large the answers are is what the lower crates' theorems say. And what is
+-- refused changes nothing.
 -- Assumes nothing.
 use mathlib.Core.Path.{_≡_, refl}
 use mathlib.Core.Bool.{Bool, true, false, cond}
@@ -49,7 +50,7 @@ use Rattle.eremothyn.specs.Entries.{dueNumber, nextNumber}
 use Rattle.eremothyn.specs.Settings.{shownIn, settingNumber}
 use Rattle.eremothyn.specs.Commands.{splitNumber, inputNumber, splitIn, splitOf, stdinIn, stdinLength}
 use Rattle.eremothyn.specs.Queue.{tickNumber, popNumber}
-use Rattle.eremothyn.specs.Apart.{Tells, byRefusal, byEntry, byDue, byNext, bySplit, byTick, byPop}
+use Rattle.eremothyn.specs.Apart.{Tells, byRefusal, byEntry, byDue, byNext, bySplit, byTick, byPop, Stays}
 
 -- a record's answer, where its value is small unless it is refused
 answer-tells : (refusal value : ℕ) → (refusal ≡ 0 → value ≤ refusedFrom) → Tells (byRefusal refusal) (answerOf refusal value)
@@ -179,3 +180,43 @@ unfolding popNumber
 pop-tells n (pop.Entry e) few h = omega arith
 pop-tells n pop.Nothing few h = omega arith
 pop-tells n (pop.Refused number) few h = (h, refl)
+
+-- ---- what is refused changes nothing
+
+step-stays : (c shell input : List ℕ)
+    → let s = splitStep c shell input in Stays (bySplit (s .answer)) shell (s .shell) × Stays (bySplit (s .answer)) input (s .input)
+unfolding splitStep
+step-stays c shell input = go (haveRoom c shell input)
+  where
+    go : (b : Bool)
+        → let s : Split =
+        cond b
+        (record {
+          answer = split.Written (length (shellLine c)) (inputLength (inputOf c));
+          shell = laid (shellLine c) shell;
+          input = laid (textOf (inputOf c)) input;
+        })
+        (record { answer = split.Refused 18; shell = shell; input = input })
+        in
+        Stays (bySplit (s .answer)) shell (s .shell) × Stays (bySplit (s .answer)) input (s .input)
+    go true = (tt, tt)
+    go false = (refl, refl)
+
+pub split-stays : (table : List ℕ) (i : ℕ) (shell input : List ℕ)
+    → let s = splitOf table i shell input in Stays (bySplit (s .answer)) shell (s .shell) × Stays (bySplit (s .answer)) input (s .input)
+unfolding splitOf splitIn
+split-stays table i shell input = go (entryIn (tableOf table) i)
+  where
+    go : (x : EntryAnswer)
+        → let s = splitIn table x shell input in Stays (bySplit (s .answer)) shell (s .shell) × Stays (bySplit (s .answer)) input (s .input)
+    go (entry.Found e) = step-stays (between table (e .start) (e .end)) shell input
+    go (entry.Refused number) = (refl, refl)
+
+pub tick-keeps : (a : Ticked) (before after : List ℕ) → ((n : ℕ) → a ≡ tick.Refused n → after ≡ before) → Stays (byTick a) before after
+tick-keeps (tick.Joined k) before after h = tt
+tick-keeps (tick.Refused n) before after h = h n refl
+
+pub pop-keeps : (a : Popped) (before after : List ℕ) → ((n : ℕ) → a ≡ pop.Refused n → after ≡ before) → Stays (byPop a) before after
+pop-keeps (pop.Entry e) before after h = tt
+pop-keeps pop.Nothing before after h = tt
+pop-keeps (pop.Refused n) before after h = h n refl

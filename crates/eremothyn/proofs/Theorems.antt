@@ -2,6 +2,7 @@
 --   known-days: paper 01's known days
 --   gap-reached, february-30: the gap exactly reached, and a day that never comes
 --   told-apart: every number tells whether the call was refused
+--   refused-stays: and then no byte was changed
 -- Assumes nothing.
 use mathlib.Core.Path.{_≡_, refl, ap, _∙_}
 use mathlib.Core.List.{List}
@@ -22,13 +23,13 @@ use Rattle.crontab.specs.Tables.{tableOf, entryIn}
 use Rattle.crontab.specs.Firings.{told, nextOf, nextAnswer, nextIn, dueIn}
 use Rattle.crontab.proofs.Theorems.{table-sound, due-told, next-told}
 use Rattle.runqueue.specs.Calls.{initTable, tickTable, popTable}
-use Rattle.runqueue.proofs.Theorems.{init-told, tick-told, pop-told}
+use Rattle.runqueue.proofs.Theorems.{init-told, tick-told, pop-told, init-stays, tick-stays, pop-stays}
 use Rattle.crontab.specs.Computing.{reading}
 use Rattle.command.specs.Computing.{splitting}
 use Rattle.eremothyn.specs.Entries.{nextNumber}
 use Rattle.eremothyn.specs.KnownDays.{KnownDays}
-use Rattle.eremothyn.specs.Apart.{ToldApart}
-use Rattle.eremothyn.proofs.Apart.{part-tells, minute-tells, check-tells, setting-tells, due-tells, next-tells, split-tells, stdin-tells, tick-tells, pop-tells}
+use Rattle.eremothyn.specs.Apart.{ToldApart, RefusedStays}
+use Rattle.eremothyn.proofs.Apart.{part-tells, minute-tells, check-tells, setting-tells, due-tells, next-tells, split-tells, stdin-tells, tick-tells, pop-tells, split-stays, tick-keeps, pop-keeps}
 
 -- the table's first entry is timed, and its command ends a byte behind its start
 abbrev reads : List ℕ → Schedule → ℕ → ℕ → Type 0
@@ -101,4 +102,17 @@ told-apart =
           λ table room minute.
           tick-tells (tableOf table .count) (tickTable (tableOf table) minute room .answer) (table-sound table .few) (tick-told (tableOf table) room minute);
       queue-pop = λ table room. pop-tells (tableOf table .count) (popTable (tableOf table) room .answer) (table-sound table .few) (pop-told (tableOf table) room);
+    }
+
+-- a refused call changes no byte
+pub refused-stays : RefusedStays
+refused-stays =
+    record {
+      split-command = split-stays;
+      queue-init = λ table room. let s = initTable (tableOf table) room in tick-keeps (s .answer) room (s .room) (init-stays (tableOf table) room);
+      queue-tick =
+          λ table room minute.
+          let s = tickTable (tableOf table) minute room in
+          tick-keeps (s .answer) room (s .room) (λ n. tick-stays (tableOf table) room n minute);
+      queue-pop = λ table room. let s = popTable (tableOf table) room in pop-keeps (s .answer) room (s .room) (pop-stays (tableOf table) room);
     }

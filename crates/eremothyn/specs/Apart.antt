@@ -1,4 +1,4 @@
--- The header's sentence: "a refusal is EREMOTHYN_REFUSED plus its number; no other answer is above EREMOTHYN_REFUSED". So one comparison
+-- The header's sentences. "A refusal is EREMOTHYN_REFUSED plus its number; no other answer is above EREMOTHYN_REFUSED". So one comparison
 -- tells a C caller whether a call was refused, whatever it was lent. It is proved in proofs/Theorems.
 -- Assumes nothing.
 use mathlib.Core.Path.{_≡_}
@@ -92,3 +92,17 @@ pub record ToldApart : Type 0 where
   pub queue-init : (table room : List ℕ) → let a = initTable (tableOf table) room .answer in Tells (byTick a) (tickNumber a)
   pub queue-tick : (table room : List ℕ) (minute : ℕ) → let a = tickTable (tableOf table) minute room .answer in Tells (byTick a) (tickNumber a)
   pub queue-pop : (table room : List ℕ) → let a = popTable (tableOf table) room .answer in Tells (byPop a) (popNumber a)
+
+-- ---- and the header's next sentence: "a refused call changes no byte"
+
+abbrev pub Stays : Outcome → List ℕ → List ℕ → Type 0
+Stays answered before after = Unit {0}
+Stays (refused n) before after = after ≡ before
+
+-- for every call that is lent bytes to write on
+pub record RefusedStays : Type 0 where
+  pub split-command : (table : List ℕ) (i : ℕ) (shell input : List ℕ)
+      → let s = splitOf table i shell input in Stays (bySplit (s .answer)) shell (s .shell) × Stays (bySplit (s .answer)) input (s .input)
+  pub queue-init : (table room : List ℕ) → let s = initTable (tableOf table) room in Stays (byTick (s .answer)) room (s .room)
+  pub queue-tick : (table room : List ℕ) (minute : ℕ) → let s = tickTable (tableOf table) minute room in Stays (byTick (s .answer)) room (s .room)
+  pub queue-pop : (table room : List ℕ) → let s = popTable (tableOf table) room in Stays (byPop (s .answer)) room (s .room)

@@ -35,13 +35,16 @@ dates : Hold allParts
 unfolding answering
 dates = refl
 
-abbrev midnight : ℕ × ℕ × ℕ → ℕ
-midnight (year, month, day) = dateMinute year month day 0 0
+abbrev minuteOn : ℕ × ℕ × ℕ × ℕ × ℕ → ℕ
+minuteOn (year, month, day, hour, minute) = dateMinute year month day hour minute
 
-minutes : Hold midnight
+minutes : Hold minuteOn
     -- 29 February of 2096 and of 2100
-    (((2096, 2, 29), 66355200)
-    ∷ ((2100, 2, 29), 4294967310)
+    (((2096, 2, 29, 0, 0), 66355200)
+    ∷ ((2100, 2, 29, 0, 0), 4294967310)
+    -- half past four on the first day, and the calendar's last minute
+    ∷ ((1970, 1, 1, 4, 30), 270)
+    ∷ ((9999, 12, 31, 23, 59), 4223371679)
     ∷ [])
 unfolding answering
 minutes = refl
@@ -72,6 +75,8 @@ due : Hold dueOn
     (((pair, 1, 60), 1)
     ∷ ((pair, 1, 61), 0)
     ∷ ((pair, 0, 60), 0)
+    -- at the calendar's last minute
+    ∷ ((text "* * * * * x", 0, 4223371679), 1)
     -- 14, 13, and a table that is refused
     ∷ ((pair, 1, 4223371680), 4294967310)
     ∷ ((pair, 0, 4223371680), 4294967310)
@@ -121,23 +126,26 @@ settings = refl
 abbrev commands : List ℕ
 commands = text "A=b\n@reboot a%b\\%c\n@reboot d\n@reboot e%\n@reboot fghij"
 
-abbrev buffer : List ℕ
-buffer = text "----"
+abbrev shell : List ℕ
+shell = text "----"
+
+abbrev input : List ℕ
+input = text "===="
 
 abbrev splitAt : ℕ → ℕ × List ℕ × List ℕ × ℕ
 splitAt i =
-    let r = splitOf commands i buffer buffer in
+    let r = splitOf commands i shell input in
     (splitNumber (r .answer), r .shell, r .input, stdinLength commands i)
 
 splits : Hold splitAt
     -- on line 2, with an input
-    ((0, (1, text "a---", text "b%c-", 3))
+    ((0, (1, text "a---", text "b%c=", 3))
     -- no input, and an empty one
-    ∷ (1, (1, text "d---", buffer, 4294967296))
-    ∷ (2, (1, text "e---", buffer, 0))
+    ∷ (1, (1, text "d---", input, 4294967296))
+    ∷ (2, (1, text "e---", input, 0))
     -- too long for its buffer: 18; no such entry: 13
-    ∷ (3, (4294967314, buffer, buffer, 4294967296))
-    ∷ (4, (4294967309, buffer, buffer, 4294967309))
+    ∷ (3, (4294967314, shell, input, 4294967296))
+    ∷ (4, (4294967309, shell, input, 4294967309))
     ∷ [])
 unfolding answering
 splits = refl
@@ -165,10 +173,16 @@ whole-run :
 unfolding run answering
 whole-run = refl
 
+-- the calendar's last minute is announced as any other
+last-minute : run (text "* * * * * a") (replicate 4 0) (tick 4223371679 ∷ pop ∷ []) ≡ 1 ∷ 0 ∷ []
+unfolding run answering
+last-minute = refl
+
 -- a refused table comes before 28, and 28 before 14
 refused-run :
     (run (text "60") (replicate 7 7) (init ∷ tick 4223371680 ∷ pop ∷ []) ≡ 4294967302 ∷ 4294967302 ∷ 4294967302 ∷ [])
+    × (run (text "60") [] (init ∷ tick 4223371680 ∷ pop ∷ []) ≡ 4294967302 ∷ 4294967302 ∷ 4294967302 ∷ [])
     × (run (text "@reboot x") (replicate 3 0) (init ∷ tick 4223371680 ∷ pop ∷ []) ≡ 4294967324 ∷ 4294967324 ∷ 4294967324 ∷ [])
     × (run (text "@reboot x") (replicate 4 0) (tick 4223371680 ∷ pop ∷ []) ≡ 4294967310 ∷ 4294967296 ∷ [])
 unfolding run answering
-refused-run = (refl, refl, refl)
+refused-run = (refl, refl, refl, refl)

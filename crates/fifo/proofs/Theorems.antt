@@ -84,6 +84,55 @@ pop-within n room = go (isLine n room) refl
     go true e = front-within n (lineOf room) (is-line n room e .entries-is)
     go false e = omega arith
 
+-- ---- a refused call leaves the room as it was
+
+pub init-stays : (jobs : Jobs) (room : List ℕ) (n : ℕ) → initStep jobs room .answer ≡ NotTicked n → initStep jobs room .room ≡ room
+unfolding initStep
+init-stays jobs room n = go (roomy (jobs .count) room)
+  where
+    go : (b : Bool)
+        → let s : Step Ticked =
+        cond b (record { answer = Joined (length (fresh jobs)); room = laid (fresh jobs) room }) (record { answer = NotTicked 28; room = room })
+        in
+        s .answer ≡ NotTicked n → s .room ≡ room
+    go true e = absurd (let z : _≡_ {A = ℕ} 0 1 = cc in omega arith)
+    go false e = refl
+
+pub tick-stays : (jobs : Jobs) (minute : ℕ) (room : List ℕ) (n : ℕ)
+    → tickStep jobs minute room .answer ≡ NotTicked n → tickStep jobs minute room .room ≡ room
+unfolding tickStep
+tick-stays jobs minute room n = go (isLine (jobs .count) room) (leb minute (jobs .last))
+  where
+    go : (b c : Bool)
+        → let s : Step Ticked =
+        cond b
+        (cond c
+        (record { answer = Joined (length (joiners jobs minute (lineOf room))); room = laid (ticked jobs minute (lineOf room)) room })
+        (record { answer = NotTicked 14; room = room }))
+        (record { answer = NotTicked 28; room = room })
+        in
+        s .answer ≡ NotTicked n → s .room ≡ room
+    go true true e = absurd (let z : _≡_ {A = ℕ} 0 1 = cc in omega arith)
+    go true false e = refl
+    go false c e = refl
+
+front-named : (l : List ℕ) (n : ℕ) → front l ≡ NotPopped n → ⊥
+unfolding front
+front-named [] n e = let z : _≡_ {A = ℕ} 0 1 = cc in omega arith
+front-named (x ∷ l) n e = let z : _≡_ {A = ℕ} 0 1 = cc in omega arith
+
+pub pop-stays : (count : ℕ) (room : List ℕ) (n : ℕ) → popStep count room .answer ≡ NotPopped n → popStep count room .room ≡ room
+unfolding popStep
+pop-stays count room n = go (isLine count room)
+  where
+    go : (b : Bool)
+        → let s : Step Popped =
+        cond b (record { answer = front (lineOf room); room = laid (popped (lineOf room)) room }) (record { answer = NotPopped 28; room = room })
+        in
+        s .answer ≡ NotPopped n → s .room ≡ room
+    go true e = absurd (front-named (lineOf room) n e)
+    go false e = refl
+
 -- ---- fairness
 
 -- an entry that a minute matches soon is named in time, from any line

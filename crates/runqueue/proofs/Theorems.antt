@@ -1,4 +1,5 @@
--- The third demand holds: fifo's theorems, by table bytes. The claims are in specs/Demand. And what the three calls can answer.
+-- The third demand holds: fifo's theorems, by table bytes. The claims are in specs/Demand. And what the three calls can
+-- answer, and that a refused one leaves the room as it was.
 -- Assumes nothing.
 use mathlib.Core.Path.{_≡_, refl}
 use mathlib.Core.Bool.{Bool, true, false, cond}
@@ -19,6 +20,7 @@ use Rattle.fifo.specs.declared.Ticked.the-variants.{Refused as NotTicked}
 use Rattle.fifo.specs.declared.Popped.{Popped}
 use Rattle.fifo.specs.declared.Popped.the-variants.{Refused as NotPopped}
 use Rattle.fifo.specs.Steps.{Step, initStep, tickStep, popStep}
+use Rattle.fifo.proofs.Theorems as fifo
 use Rattle.fifo.proofs.Theorems.{TickedWithin, PoppedWithin, init-within, tick-within, pop-within, fair-from, fair, refused-only, fair-in-buffer, fair-steady}
 use Rattle.runqueue.specs.Jobs.{jobAt, jobsOf}
 use Rattle.runqueue.specs.Calls.{initTable, tickTable, popTable}
@@ -75,6 +77,38 @@ module _ (t : Table) (room : List ℕ) where
           → PoppedWithin (t .count) (cond {A = Step Popped} b (popStep (t .count) room) (record { answer = NotPopped (t .refusal); room = room }) .answer)
       go true e = pop-within (t .count) room
       go false e = omega (arith, eqb-false (t .refusal) 0 e)
+
+-- a refused call leaves the room as it was
+module _ (t : Table) (room : List ℕ) (n : ℕ) where
+  pub init-stays : initTable t room .answer ≡ NotTicked n → initTable t room .room ≡ room
+  unfolding initTable
+  init-stays = go (eqb (t .refusal) 0)
+    where
+      go : (b : Bool)
+          → let s : Step Ticked = cond b (initStep (jobsOf t) room) (record { answer = NotTicked (t .refusal); room = room }) in
+          s .answer ≡ NotTicked n → s .room ≡ room
+      go true e = fifo.init-stays (jobsOf t) room n e
+      go false e = refl
+
+  pub tick-stays : (minute : ℕ) → tickTable t minute room .answer ≡ NotTicked n → tickTable t minute room .room ≡ room
+  unfolding tickTable
+  tick-stays minute = go (eqb (t .refusal) 0)
+    where
+      go : (b : Bool)
+          → let s : Step Ticked = cond b (tickStep (jobsOf t) minute room) (record { answer = NotTicked (t .refusal); room = room }) in
+          s .answer ≡ NotTicked n → s .room ≡ room
+      go true e = fifo.tick-stays (jobsOf t) minute room n e
+      go false e = refl
+
+  pub pop-stays : popTable t room .answer ≡ NotPopped n → popTable t room .room ≡ room
+  unfolding popTable
+  pop-stays = go (eqb (t .refusal) 0)
+    where
+      go : (b : Bool)
+          → let s : Step Popped = cond b (popStep (t .count) room) (record { answer = NotPopped (t .refusal); room = room }) in
+          s .answer ≡ NotPopped n → s .room ≡ room
+      go true e = fifo.pop-stays (t .count) room n e
+      go false e = refl
 
 -- the third demand, from any line of the table
 pub table-fair-from : TableFairFrom
