@@ -1,14 +1,15 @@
 -- What holds of each line that is read. An entry's command is some bytes of the line; a setting's name and value are parts of it; a
--- refusal has its number in paper 01.
+-- refusal has its number in paper 01, and its column is in the line or a byte behind it.
 -- Assumes nothing.
 use mathlib.Core.Path.{_≡_, refl}
 use mathlib.Core.Bool.{Bool, true, false, cond}
 use mathlib.Core.List.{List}
-use Prim.Native.Nat.{ℕ, _+_, _≤_, _<_}
+use Prim.Native.Nat.{ℕ, _+_, _-_, _≤_, _<_}
 use native.Mathlib.Omega.{arith}
 use lib.ListN.{length, drop, getD, length-drop}
 use lib.Dec.{eqb, leb, ltb}
-use borrow.Author.Tests.{ltb-true, ltb-false, eqb-true}
+use lib.Seq.{length-take-le}
+use borrow.Author.Tests.{ltb-true, ltb-false, leb-false, eqb-true}
 use Rattle.bytes.specs.declared.class.Class.the-variants.{Blank, Solid, Name, Not}
 use Rattle.bytes.specs.Classes.{isQuote}
 use Rattle.bytes.specs.Runs.{skipped, trimmed, between}
@@ -17,7 +18,7 @@ use Rattle.field.specs.declared.Limits.{Limits}
 use Rattle.field.specs.declared.Answer.{Answer}
 use Rattle.field.specs.declared.Answer.the-variants as answer
 use Rattle.field.specs.Fields.{readField}
-use Rattle.field.proofs.Refusals.{FieldNumber, field-number}
+use Rattle.field.proofs.Refusals.{FieldNumber, field-number, FieldColumn, field-column}
 use Rattle.crontab.specs.declared.time.When.{When}
 use Rattle.crontab.specs.declared.Part.{Part}
 use Rattle.crontab.specs.declared.word.Word.{Word}
@@ -44,71 +45,83 @@ pub record Inside (n : ℕ) (p : Part) : Type 0 where
   pub order : p .start ≤ p .end
   pub within : p .end ≤ n
 
--- the refusals of lines
-pub record Numbered (n : ℕ) : Type 0 where
-  pub from : 1 ≤ n
-  pub to : n ≤ 11
+-- the refusals of lines, with no column behind the last
+pub record Numbered (last number column : ℕ) : Type 0 where
+  pub from : 1 ≤ number
+  pub to : number ≤ 11
+  pub inside : column ≤ last
 
 -- a line of n bytes
 abbrev pub Proper : ℕ → Line → Type 0
 Proper n line.Ignored = Unit {0}
 Proper n (line.Setting name value) = (n ≤ maxLine) × (Inside n name) × (Inside n value)
 Proper n (line.Entry when start) = (n ≤ maxLine) × (start < n)
-Proper n (line.Refused fault) = Numbered (fault .number)
+Proper n (line.Refused fault) = Numbered (maxLine + 1) (fault .number) (fault .column)
 
 -- ---- its time
 
-abbrev FieldFault : Field → Type 0
-FieldFault (field.Read v) = Unit {0}
-FieldFault (field.Refused fault) = Numbered (fault .number)
+-- a field's bytes stand in the line
+field-length : (s : List ℕ) (at : ℕ) → at ≤ length s → at + length (fieldBytes s at) ≤ length s
+unfolding fieldBytes between
+field-length s at h =
+    let a = skipped-within Solid s at h in
+    let b = skipped-from Solid s at in
+    omega (arith, length-take-le (skipped Solid s at - at) (drop at s) (omega (arith, length-drop at s)))
 
-abbrev TimeFault : Time → Type 0
-TimeFault (time.Read when next) = Unit {0}
-TimeFault (time.Refused fault) = Numbered (fault .number)
+module _ (s : List ℕ) where
+  abbrev FieldFault : Field → Type 0
+  FieldFault (field.Read v) = Unit {0}
+  FieldFault (field.Refused fault) = Numbered (length s + 1) (fault .number) (fault .column)
 
-answered-fault : (a : Answer) (next : ℕ) → FieldNumber a → FieldFault (answered a next)
-unfolding answered
-answered-fault (answer.Values set star) next h = tt
-answered-fault (answer.Refused number column) next h = record { from = omega arith; to = omega arith }
+  abbrev TimeFault : Time → Type 0
+  TimeFault (time.Read when next) = Unit {0}
+  TimeFault (time.Refused fault) = Numbered (length s + 1) (fault .number) (fault .column)
 
-field-fault : (l : Limits) (s : List ℕ) (at : ℕ) → FieldFault (fieldAt l s at)
-unfolding fieldAt
-field-fault l s at = go (leb (length s) at)
-  where
-    go : (t : Bool)
-        → FieldFault (cond t (field.Refused (record { number = 4; column = length s + 1 })) (answered (readField l (at + 1) (fieldBytes s at)) (skipped Blank s (skipped Solid s at))))
-    go true = record { from = omega arith; to = omega arith }
-    go false = answered-fault _ _ (field-number l (at + 1) (fieldBytes s at))
+  answered-fault : (a : Answer) (last next : ℕ) → last ≤ length s + 1 → FieldNumber a → FieldColumn last a → FieldFault (answered a next)
+  unfolding answered
+  answered-fault (answer.Values set star) last next k h c = tt
+  answered-fault (answer.Refused number column) last next k h c = record { from = omega arith; to = omega arith; inside = omega arith }
 
-after-fault : (f : Field) (later : Values → Time) → FieldFault f → ((v : Values) → TimeFault (later v)) → TimeFault (after f later)
-unfolding after
-after-fault (field.Read v) later h k = k v
-after-fault (field.Refused fault) later h k = h
+  field-fault : (l : Limits) (at : ℕ) → FieldFault (fieldAt l s at)
+  unfolding fieldAt
+  field-fault l at = go (leb (length s) at) refl
+    where
+      go : (t : Bool) → leb (length s) at ≡ t
+          → FieldFault (cond t (field.Refused (record { number = 4; column = length s + 1 })) (answered (readField l (at + 1) (fieldBytes s at)) (skipped Blank s (skipped Solid s at))))
+      go true e = record { from = omega arith; to = omega arith; inside = omega arith }
+      go false e =
+          let h : at < length s = leb-false (length s) at e in
+          answered-fault _ _ _ (omega (arith, field-length s at (omega arith))) (field-number l (at + 1) (fieldBytes s at)) (field-column l (at + 1) (fieldBytes s at))
 
-fields-fault : (s : List ℕ) (at : ℕ) → TimeFault (fieldsAt s at)
-unfolding fieldsAt
-fields-fault s at =
-    after-fault _ _ (field-fault _ s at)
-    (λ minute. after-fault _ _ (field-fault _ s (minute .next))
-    (λ hour. after-fault _ _ (field-fault _ s (hour .next))
-    (λ day. after-fault _ _ (field-fault _ s (day .next))
-    (λ month. after-fault _ _ (field-fault _ s (month .next)) (λ weekday. tt)))))
+  after-fault : (f : Field) (later : Values → Time) → FieldFault f → ((v : Values) → TimeFault (later v)) → TimeFault (after f later)
+  unfolding after
+  after-fault (field.Read v) later h k = k v
+  after-fault (field.Refused fault) later h k = h
 
-word-fault : (s : List ℕ) (at : ℕ) → TimeFault (wordAt s at)
-unfolding wordAt afterWord
-word-fault s at = go (wordOf (between s at (skipped Solid s at)))
-  where
-    go : (w : Word) → TimeFault (afterWord at (skipped Blank s (skipped Solid s at)) w)
-    go Unknown = record { from = omega arith; to = omega arith }
-    go (Known when) = tt
+  fields-fault : (at : ℕ) → TimeFault (fieldsAt s at)
+  unfolding fieldsAt
+  fields-fault at =
+      after-fault _ _ (field-fault _ at)
+      (λ minute. after-fault _ _ (field-fault _ (minute .next))
+      (λ hour. after-fault _ _ (field-fault _ (hour .next))
+      (λ day. after-fault _ _ (field-fault _ (day .next))
+      (λ month. after-fault _ _ (field-fault _ (month .next)) (λ weekday. tt)))))
 
-time-fault : (s : List ℕ) (at first : ℕ) → TimeFault (timeAt s at first)
-unfolding timeAt
-time-fault s at first = go (eqb first 64)
-  where
-    go : (t : Bool) → TimeFault (cond t (wordAt s at) (fieldsAt s at))
-    go true = word-fault s at
-    go false = fields-fault s at
+  word-fault : (at : ℕ) → at ≤ length s → TimeFault (wordAt s at)
+  unfolding wordAt afterWord
+  word-fault at h = go (wordOf (between s at (skipped Solid s at)))
+    where
+      go : (w : Word) → TimeFault (afterWord at (skipped Blank s (skipped Solid s at)) w)
+      go Unknown = record { from = omega arith; to = omega arith; inside = omega arith }
+      go (Known when) = tt
+
+  time-fault : (at first : ℕ) → at ≤ length s → TimeFault (timeAt s at first)
+  unfolding timeAt
+  time-fault at first h = go (eqb first 64)
+    where
+      go : (t : Bool) → TimeFault (cond t (wordAt s at) (fieldsAt s at))
+      go true = word-fault at h
+      go false = fields-fault at
 
 -- ---- a line that is short enough
 
@@ -120,12 +133,12 @@ module _ (s : List ℕ) (short : length s ≤ maxLine) where
       go : (t : Bool) → ltb start (length s) ≡ t
           → Proper (length s) (cond t (line.Entry when start) (line.Refused (record { number = 9; column = length s + 1 })))
       go true p = (short, ltb-true _ _ p)
-      go false p = record { from = omega arith; to = omega arith }
+      go false p = record { from = omega arith; to = omega arith; inside = omega arith }
 
-  time-proper : (t : Time) → TimeFault t → Proper (length s) (afterTime s t)
+  time-proper : (t : Time) → TimeFault s t → Proper (length s) (afterTime s t)
   unfolding afterTime
   time-proper (time.Read when next) h = command-proper when next
-  time-proper (time.Refused fault) h = h
+  time-proper (time.Refused fault) h = record { from = h .from; to = h .to; inside = omega (arith, h .inside) }
 
   -- ---- a setting
 
@@ -180,15 +193,15 @@ module _ (s : List ℕ) (short : length s ≤ maxLine) where
       go true = closed-inside _ (quoted-inside at)
       go false = record { order = omega arith; within = omega (arith, trimmed-le (drop at s), length-drop at s) }
 
-  equals-proper : (at : ℕ) (name : Part) (v : Text) → Inside (length s) name → TextInside v → Proper (length s) (afterEquals at name v)
+  equals-proper : (at : ℕ) (name : Part) (v : Text) → at ≤ length s → Inside (length s) name → TextInside v → Proper (length s) (afterEquals at name v)
   unfolding afterEquals
-  equals-proper at name Malformed n h = record { from = omega arith; to = omega arith }
-  equals-proper at name (Found value next) n h = (short, n, h)
+  equals-proper at name Malformed k n h = record { from = omega arith; to = omega arith; inside = omega arith }
+  equals-proper at name (Found value next) k n h = (short, n, h)
 
-  name-proper : (at : ℕ) (t : Text) → TextInside t → Proper (length s) (afterName s at t)
+  name-proper : (at : ℕ) (t : Text) → at ≤ length s → TextInside t → Proper (length s) (afterName s at t)
   unfolding afterName
-  name-proper at Malformed h = record { from = omega arith; to = omega arith }
-  name-proper at (Found name next) h = go (eqb (getD s equals 0) 61) refl
+  name-proper at Malformed i h = record { from = omega arith; to = omega arith; inside = omega arith }
+  name-proper at (Found name next) i h = go (eqb (getD s equals 0) 61) refl
     where
       equals : ℕ
       equals = skipped Blank s next
@@ -198,8 +211,8 @@ module _ (s : List ℕ) (short : length s ≤ maxLine) where
       go true p =
           let e : getD s equals 0 ≡ 61 = eqb-true _ _ p in
           let k : equals < length s = byte-within s equals (omega arith) in
-          equals-proper at name _ h (value-inside _ (skipped-within Blank s (equals + 1) (omega arith)))
-      go false p = record { from = omega arith; to = omega arith }
+          equals-proper at name _ i h (value-inside _ (skipped-within Blank s (equals + 1) (omega arith)))
+      go false p = record { from = omega arith; to = omega arith; inside = omega arith }
 
   -- ---- by the first byte that isn't blank
 
@@ -209,8 +222,8 @@ module _ (s : List ℕ) (short : length s ≤ maxLine) where
     where
       go : (a b : Bool) → Proper (length s) (cond a line.Ignored (cond b (entryAt s at first) (settingAt s at)))
       go true b = tt
-      go false true = time-proper _ (time-fault s at first)
-      go false false = name-proper at _ (name-inside at h)
+      go false true = time-proper _ (time-fault s at first h)
+      go false false = name-proper at _ h (name-inside at h)
 
   content-proper : Proper (length s) (contentOf s)
   unfolding contentOf
@@ -228,8 +241,8 @@ line-proper s = go (ltb maxLine (length s)) (ltb (skipped (Not 0) s 0) (length s
   where
     go : (a b : Bool) → ltb maxLine (length s) ≡ a
         → Proper (length s) (cond a (line.Refused (record { number = 2; column = 1001 })) (cond b (line.Refused (record { number = 3; column = skipped (Not 0) s 0 + 1 })) (contentOf s)))
-    go true b p = record { from = omega arith; to = omega arith }
-    go false true p = record { from = omega arith; to = omega arith }
+    go true b p = record { from = omega arith; to = omega arith; inside = omega arith }
+    go false true p = record { from = omega arith; to = omega arith; inside = omega (arith, ltb-false maxLine (length s) p, skipped-within (Not 0) s 0 (omega arith)) }
     go false false p = content-proper s (ltb-false _ _ p)
 
 pub setting-proper : (s : List ℕ) {name value : Part} → readLine s ≡ line.Setting name value

@@ -1,5 +1,5 @@
 -- What holds of the items of every table: entries and settings stand in it, there are no more entries than there may be, and a fault
--- has its number in paper 01.
+-- has its number in paper 01 and its place.
 -- Assumes nothing.
 use mathlib.Core.Path.{_≡_, refl}
 use mathlib.Core.Bool.{Bool, true, false, cond}
@@ -8,12 +8,12 @@ use Prim.Native.Nat.{ℕ, suc, _+_, _≤_, _<_}
 use native.Mathlib.Omega.{arith}
 use lib.ListN.{length}
 use lib.Dec.{eqb, ltb}
-use borrow.Author.Tests.{ltb-true}
+use borrow.Author.Tests.{ltb-true, ltb-false}
 use Rattle.crontab.specs.declared.Part.{Part}
 use Rattle.crontab.specs.declared.entry.Entry.{Entry}
 use Rattle.crontab.specs.declared.line.Line.{Line}
 use Rattle.crontab.specs.declared.line.Line.the-variants as line
-use Rattle.crontab.specs.Limits.{maxTable, maxEntries}
+use Rattle.crontab.specs.Limits.{maxTable, maxLine, maxEntries}
 use Rattle.crontab.specs.Lines.{onto, linesOf, readLine}
 use Rattle.crontab.specs.Items.{Items, done, fault, setting, entry, moved, placed, afterLine, itemsFrom, itemsOf}
 use Rattle.crontab.proofs.Proper.{Inside, Proper, line-proper}
@@ -51,38 +51,39 @@ pub record Sound (n : ℕ) (e : Entry) : Type 0 where
 
 abbrev pub SoundItems : ℕ → ℕ → Items → Type 0
 SoundItems n k done = Unit {0}
-SoundItems n k (fault number line column) = (1 ≤ number) × (number ≤ 12)
+SoundItems n k (fault number line column) = (1 ≤ number) × (number ≤ 12) × (line ≤ maxTable + 1) × (column ≤ maxLine + 1)
 SoundItems n k (setting line name value later) = (Inside n name) × (Inside n value) × SoundItems n k later
 SoundItems n k (entry e later) = (Sound n e) × (k < maxEntries) × SoundItems n (k + 1) later
 
-module _ (n at size : ℕ) (h : at + size ≤ n) where
+module _ (n at size : ℕ) (h : at + size ≤ n) (short : n ≤ maxTable) where
   moved-inside : (p : Part) → Inside size p → Inside n (moved at p)
   moved-inside p i =
       let a = i .order in
       let b = i .within in
       record { order = omega arith; within = omega arith }
 
-  line-sound : (m k : ℕ) (x : Line) (later : ℕ → Items) → Proper size x → ((j : ℕ) → SoundItems n j (later j)) → SoundItems n k (afterLine at m size k x later)
+  line-sound : (m k : ℕ) (x : Line) (later : ℕ → Items) → m ≤ at + 1 → Proper size x → ((j : ℕ) → SoundItems n j (later j)) → SoundItems n k (afterLine at m size k x later)
   unfolding afterLine
-  line-sound m k line.Ignored later p q = q k
-  line-sound m k (line.Setting name value) later p q = (moved-inside name (p .1), moved-inside value (p .2), q k)
-  line-sound m k (line.Refused f) later p q = (p .from, let t = p .to in omega arith)
-  line-sound m k (line.Entry when start) later p q = go (ltb k maxEntries) refl
+  line-sound m k line.Ignored later i p q = q k
+  line-sound m k (line.Setting name value) later i p q = (moved-inside name (p .1), moved-inside value (p .2), q k)
+  line-sound m k (line.Refused f) later i p q = (p .from, let t = p .to in omega arith, omega arith, p .inside)
+  line-sound m k (line.Entry when start) later i p q = go (ltb k maxEntries) refl
     where
       go : (t : Bool) → ltb k maxEntries ≡ t → SoundItems n k (cond t (entry (placed at m size when start) (later (k + 1))) (fault 12 m 1))
       go true e = (record { some = omega (arith, p .1); within = h }, ltb-true _ _ e, q (k + 1))
-      go false e = (omega arith, omega arith)
+      go false e = (omega arith, omega arith, omega arith, omega arith)
 
-from-sound : (n at m k : ℕ) (ls : List (List ℕ)) → Placed n at ls → SoundItems n k (itemsFrom at m k ls)
+from-sound : (n at m k : ℕ) (ls : List (List ℕ)) → n ≤ maxTable → m ≤ at + 1 → Placed n at ls → SoundItems n k (itemsFrom at m k ls)
 unfolding itemsFrom
-from-sound n at m k [] w = tt
-from-sound n at m k (l ∷ ls) w =
-    line-sound n at (length l) (w .0) m k (readLine l) _ (line-proper l) (λ j. from-sound n (at + length l + 1) (m + 1) j ls (w .1))
+from-sound n at m k [] short i w = tt
+from-sound n at m k (l ∷ ls) short i w =
+    line-sound n at (length l) (w .0) short m k (readLine l) _ i (line-proper l)
+    (λ j. from-sound n (at + length l + 1) (m + 1) j ls short (omega arith) (w .1))
 
 pub items-sound : (s : List ℕ) → SoundItems (length s) 0 (itemsOf s)
 unfolding itemsOf
-items-sound s = go (ltb maxTable (length s))
+items-sound s = go (ltb maxTable (length s)) refl
   where
-    go : (t : Bool) → SoundItems (length s) 0 (cond t (fault 1 0 0) (itemsFrom 0 1 0 (linesOf s)))
-    go true = (omega arith, omega arith)
-    go false = from-sound (length s) 0 1 0 (linesOf s) (lines-placed s (length s) 0 (omega arith))
+    go : (t : Bool) → ltb maxTable (length s) ≡ t → SoundItems (length s) 0 (cond t (fault 1 0 0) (itemsFrom 0 1 0 (linesOf s)))
+    go true e = (omega arith, omega arith, omega arith, omega arith)
+    go false e = from-sound (length s) 0 1 0 (linesOf s) (ltb-false maxTable (length s) e) (omega arith) (lines-placed s (length s) 0 (omega arith))

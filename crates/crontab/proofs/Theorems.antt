@@ -34,7 +34,7 @@ use Rattle.crontab.specs.declared.firing.DueAnswer.{DueAnswer}
 use Rattle.crontab.specs.declared.firing.DueAnswer.the-variants as due
 use Rattle.crontab.specs.declared.firing.NextAnswer.{NextAnswer}
 use Rattle.crontab.specs.declared.firing.NextAnswer.the-variants.{At, Refused}
-use Rattle.crontab.specs.Limits.{maxTable, maxEntries}
+use Rattle.crontab.specs.Limits.{maxTable, maxLine, maxEntries}
 use Rattle.crontab.specs.Lines.{linesOf}
 use Rattle.crontab.specs.Items.{Items, done, fault, setting, entry, itemsFrom, itemsOf}
 use Rattle.crontab.specs.Tables.{blankEntry, noEntries, refusedTable, emptyTable, withEntry, withItems, tableOf, entryIn}
@@ -54,11 +54,13 @@ pub record SoundTable (n : ℕ) (t : Table) : Type 0 where
   pub each : (i : ℕ) → i < t .count → Sound n (getD (t .entries) i blankEntry)
   pub empty : (t .refusal ≡ 0 → ⊥) → t .count ≡ 0
   pub clean : t .refusal ≡ 0 → (t .line ≡ 0) × (t .column ≡ 0)
+  pub line-few : t .line ≤ maxTable + 1
+  pub column-few : t .column ≤ maxLine + 1
 
 module _ (n : ℕ) where
-  refused-sound : (number line column : ℕ) → 1 ≤ number → number ≤ 12 → SoundTable n (refusedTable number line column)
+  refused-sound : (number line column : ℕ) → 1 ≤ number → number ≤ 12 → line ≤ maxTable + 1 → column ≤ maxLine + 1 → SoundTable n (refusedTable number line column)
   unfolding refusedTable noEntries
-  refused-sound number line column h k =
+  refused-sound number line column h k i j =
       record {
         number = k;
         few = omega arith;
@@ -66,6 +68,8 @@ module _ (n : ℕ) where
         each = λ i z. absurd (omega arith);
         empty = λ z. refl;
         clean = λ z. absurd (omega arith);
+        line-few = i;
+        column-few = j;
       }
 
   entry-added : (t : Table) (e : Entry) → t .refusal ≡ 0 → t .count < maxEntries → SoundTable n t → Sound n e → SoundTable n (withEntry t e)
@@ -78,6 +82,8 @@ module _ (n : ℕ) where
         each = at-each;
         empty = λ z. absurd (z good);
         clean = p .clean;
+        line-few = p .line-few;
+        column-few = p .column-few;
       }
     where
       long : t .count < length (t .entries)
@@ -95,7 +101,7 @@ module _ (n : ℕ) where
   with-sound : (t : Table) (items : Items) → t .refusal ≡ 0 → SoundTable n t → SoundItems n (t .count) items → SoundTable n (withItems t items)
   unfolding withItems withEntry
   with-sound t done good p q = p
-  with-sound t (fault number line column) good p q = refused-sound number line column (q .0) (q .1)
+  with-sound t (fault number line column) good p q = refused-sound number line column (q .0) (q .1) (q .2) (q .3)
   with-sound t (setting line name value later) good p q = with-sound t later good p (q .2)
   with-sound t (entry e later) good p q = with-sound (withEntry t e) later good (entry-added t e good (q .1) p (q .0)) (q .2)
 
@@ -109,6 +115,8 @@ module _ (n : ℕ) where
         each = λ i z. absurd (omega arith);
         empty = λ z. refl;
         clean = λ z. (refl, refl);
+        line-few = omega arith;
+        column-few = omega arith;
       }
 
 pub table-sound : (s : List ℕ) → SoundTable (length s) (tableOf s)

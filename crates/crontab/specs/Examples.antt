@@ -126,6 +126,9 @@ tables-read : Hold fault
     (([], 0 ∷ 0 ∷ 0 ∷ 0 ∷ [])
     -- the three lines of the paper's whole run, the last without a newline
     ∷ (text "* * * * * a\n@reboot b\n0 * * * * c", 0 ∷ 0 ∷ 0 ∷ 3 ∷ [])
+    -- a tab ends no line, and byte 0 none
+    ∷ (text "A=\tb\n@reboot\tx\n", 0 ∷ 0 ∷ 0 ∷ 1 ∷ [])
+    ∷ (10 ∷ 35 ∷ 0 ∷ [], 3 ∷ 2 ∷ 2 ∷ 0 ∷ [])
     -- the first bad line, and no entry
     ∷ (text "@reboot b\n\n60 * * * * a\nA\n", 6 ∷ 3 ∷ 1 ∷ 0 ∷ [])
     -- as many entries as there may be, and one more, which a bad line follows; a bad line has its own refusal there too

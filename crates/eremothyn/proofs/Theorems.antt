@@ -7,6 +7,7 @@
 use mathlib.Core.Path.{_≡_, refl, ap, _∙_}
 use mathlib.Core.List.{List}
 use Prim.Native.Nat.{ℕ, _≤_}
+use native.Mathlib.Omega.{arith}
 use borrow.Author.Tests.{le-leb}
 use lib.Dec.{lit≤}
 use Rattle.bytes.specs.Texts.{text}
@@ -92,6 +93,8 @@ told-apart =
       year-to-weekday = part-tells;
       minute-of-date = minute-tells;
       check = check-tells;
+      fault-line = λ table. omega (arith, table-sound table .line-few);
+      fault-column = λ table. omega (arith, table-sound table .column-few);
       due = λ table i minute. due-tells (dueIn (tableOf table) i minute) (due-told table i minute);
       next = λ table i minute. next-tells (nextIn (tableOf table) i minute) (next-told table i minute);
       setting = setting-tells;

@@ -82,6 +82,8 @@ pub record ToldApart : Type 0 where
   pub minute-of-date : (year month day hour minute : ℕ)
       → Tells (byRefusal (minuteOf year month day hour minute .refusal)) (dateMinute year month day hour minute)
   pub check : (table : List ℕ) → Tells (byRefusal (tableOf table .refusal)) (checkNumber (tableOf table))
+  pub fault-line : (table : List ℕ) → Tells answered (tableOf table .line)
+  pub fault-column : (table : List ℕ) → Tells answered (tableOf table .column)
   pub due : (table : List ℕ) (i minute : ℕ) → let a = dueIn (tableOf table) i minute in Tells (byDue a) (dueNumber a)
   pub next : (table : List ℕ) (i minute : ℕ) → let a = nextIn (tableOf table) i minute in Tells (byNext a) (nextNumber a)
   pub setting : (table : List ℕ) (line : ℕ) (what : Shown)
