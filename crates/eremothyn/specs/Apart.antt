@@ -1,5 +1,6 @@
--- The header's sentences. "A refusal is EREMOTHYN_REFUSED plus its number; no other answer is above EREMOTHYN_REFUSED". So one comparison
--- tells a C caller whether a call was refused, whatever it was lent. It is proved in proofs/Theorems.
+-- Two sentences of the C header. "A refusal is EREMOTHYN_REFUSED plus its number; no other answer is above EREMOTHYN_REFUSED": one
+-- comparison tells a caller whether a call was refused, whatever it was lent. "A refused call changes no byte." Both are proved in
+-- proofs/Theorems.
 -- Assumes nothing.
 use mathlib.Core.Path.{_≡_}
 use Prim.Native.Nat.{ℕ, zero, suc, _+_, _≤_}
@@ -35,45 +36,45 @@ use Rattle.eremothyn.specs.Queue.{tickNumber, popNumber}
 -- ---- whether an answer is a refusal, and which
 
 pub data Outcome : Type 0 where
-  answered : Outcome
+  granted : Outcome
   refused : ℕ → Outcome
 
 -- by a record's refusal, 0 where there is none
 abbrev pub byRefusal : ℕ → Outcome
-byRefusal zero = answered
+byRefusal zero = granted
 byRefusal (suc n) = refused (suc n)
 
 abbrev pub byEntry : EntryAnswer → Outcome
-byEntry (entry.Found e) = answered
+byEntry (entry.Found e) = granted
 byEntry (entry.Refused number) = refused number
 
 abbrev pub byDue : DueAnswer → Outcome
-byDue due.Yes = answered
-byDue due.No = answered
+byDue due.Yes = granted
+byDue due.No = granted
 byDue (due.Refused number) = refused number
 
 abbrev pub byNext : NextAnswer → Outcome
-byNext (next.At m) = answered
+byNext (next.At m) = granted
 byNext (next.Refused number) = refused number
 
 abbrev pub bySplit : SplitAnswer → Outcome
-bySplit (split.Written n input) = answered
+bySplit (split.Written n input) = granted
 bySplit (split.Refused number) = refused number
 
 abbrev pub byTick : Ticked → Outcome
-byTick (tick.Joined n) = answered
+byTick (tick.Joined n) = granted
 byTick (tick.Refused number) = refused number
 
 -- "nothing waits" is an answer
 abbrev pub byPop : Popped → Outcome
-byPop (pop.Entry e) = answered
-byPop pop.Nothing = answered
+byPop (pop.Entry e) = granted
+byPop pop.Nothing = granted
 byPop (pop.Refused number) = refused number
 
 -- ---- the number that a C caller gets tells it
 
 abbrev pub Tells : Outcome → ℕ → Type 0
-Tells answered number = number ≤ refusedFrom
+Tells granted number = number ≤ refusedFrom
 Tells (refused n) number = (1 ≤ n) × (number ≡ refusedFrom + n)
 
 -- for every call, whatever is asked and lent
@@ -82,8 +83,8 @@ pub record ToldApart : Type 0 where
   pub minute-of-date : (year month day hour minute : ℕ)
       → Tells (byRefusal (minuteOf year month day hour minute .refusal)) (dateMinute year month day hour minute)
   pub check : (table : List ℕ) → Tells (byRefusal (tableOf table .refusal)) (checkNumber (tableOf table))
-  pub fault-line : (table : List ℕ) → Tells answered (tableOf table .line)
-  pub fault-column : (table : List ℕ) → Tells answered (tableOf table .column)
+  pub fault-line : (table : List ℕ) → Tells granted (tableOf table .line)
+  pub fault-column : (table : List ℕ) → Tells granted (tableOf table .column)
   pub due : (table : List ℕ) (i minute : ℕ) → let a = dueIn (tableOf table) i minute in Tells (byDue a) (dueNumber a)
   pub next : (table : List ℕ) (i minute : ℕ) → let a = nextIn (tableOf table) i minute in Tells (byNext a) (nextNumber a)
   pub setting : (table : List ℕ) (line : ℕ) (what : Shown)
@@ -95,10 +96,10 @@ pub record ToldApart : Type 0 where
   pub queue-tick : (table room : List ℕ) (minute : ℕ) → let a = tickTable (tableOf table) minute room .answer in Tells (byTick a) (tickNumber a)
   pub queue-pop : (table room : List ℕ) → let a = popTable (tableOf table) room .answer in Tells (byPop a) (popNumber a)
 
--- ---- and the header's next sentence: "a refused call changes no byte"
+-- ---- a refused call changes no byte
 
 abbrev pub Stays : Outcome → List ℕ → List ℕ → Type 0
-Stays answered before after = Unit {0}
+Stays granted before after = Unit {0}
 Stays (refused n) before after = after ≡ before
 
 -- for every call that is lent bytes to write on
