@@ -96,11 +96,13 @@ lines-read : Hold readLine
     ∷ (text "'A B'=c'd ", setting 1 4 6 9)
     ∷ (text "A =", setting 0 1 3 3)
     ∷ (text "A=\"\"", setting 0 1 3 3)
+    ∷ (text "A=b=#c", setting 0 1 2 6)
     -- no settings: at the first byte that isn't blank
     ∷ (text " A\"B=c", refused 11 2)
     ∷ (text "\"A'=c", refused 11 1)
     ∷ (text "A=\"b\"c", refused 11 1)
     ∷ (text "\"\"=c", refused 11 1)
+    ∷ (text "=c", refused 11 1)
     ∷ (text " A b=c", refused 11 2)
     ∷ (text " A=\"b", refused 11 2)
     ∷ (text " 'A", refused 11 2)
