@@ -2,10 +2,11 @@
  * A daemon's life with a crontab, in fast motion: each minute is announced, and so many requests take the jobs that have
  * waited longest.
  *
- *     daemon FILE PACE FROM TO [FROM TO]...
+ *     daemon [-s] FILE PACE FROM TO [FROM TO]...
  *
- * PACE is how many jobs may start in a minute. FROM and TO are dates such as 1970-01-01T00:00. With more than one pair the
- * clock jumps, and the queue of waiting jobs goes on as it stands.
+ * With -s the file is a system table, as /etc/crontab is one, and whom a job runs as is shown with it. PACE is how many jobs
+ * may start in a minute. FROM and TO are dates such as 1970-01-01T00:00. With more than one pair the clock jumps, and the
+ * queue of waiting jobs goes on as it stands.
  *
  * A real daemon has the minute from the clock, time(NULL) / 60, which is UTC; it sleeps until the next one, announces those
  * that it slept through as well, in their order, and starts what this one only shows. When its crontab changes, it makes
@@ -25,9 +26,10 @@
 
 enum { DONE = 0, REFUSED = 1, FAILED = 2 };
 
-/* A crontab, and the queue of its waiting jobs. */
+/* A crontab, its kind, and the queue of its waiting jobs. */
 struct site {
     struct table_file table;
+    uint64_t kind;
     uint8_t queue[EREMOTHYN_ROOM(EREMOTHYN_MAX_ENTRIES)];
     uint64_t waiting;
 };
@@ -73,21 +75,23 @@ static void print_text(const uint8_t *text, uint64_t length)
 }
 
 /* The settings of a table, by the numbers of its lines: a line that has none is refused, and that is no fault. */
-static void print_settings(const uint8_t *table, uint64_t length)
+static void print_settings(const struct site *site)
 {
+    const uint8_t *table = site->table.bytes;
+    uint64_t length = site->table.length, kind = site->kind;
     uint64_t lines = 1;
     for (uint64_t i = 0; i < length; i++)
         lines += table[i] == '\n';
     for (uint64_t line = 1; line <= lines; line++) {
-        uint64_t name = eremothyn_setting_name_offset(table, length, line);
+        uint64_t name = eremothyn_setting_name_offset(table, length, kind, line);
         if (name == EREMOTHYN_REFUSED + EREMOTHYN_NO_SETTING)
             continue;
-        uint64_t value = answered("setting", eremothyn_setting_value_offset(table, length, line));
+        uint64_t value = answered("setting", eremothyn_setting_value_offset(table, length, kind, line));
         fputs("setting   ", stdout);
         print_text(table + answered("setting", name),
-                   answered("setting", eremothyn_setting_name_length(table, length, line)));
+                   answered("setting", eremothyn_setting_name_length(table, length, kind, line)));
         fputs(" = ", stdout);
-        print_text(table + value, answered("setting", eremothyn_setting_value_length(table, length, line)));
+        print_text(table + value, answered("setting", eremothyn_setting_value_length(table, length, kind, line)));
         putchar('\n');
     }
 }
@@ -95,7 +99,7 @@ static void print_settings(const uint8_t *table, uint64_t length)
 /* When an entry fires next; that it fires at boot only, never or no more is an answer, too. */
 static void print_next(const struct site *site, uint64_t entry, uint64_t minute)
 {
-    uint64_t next = eremothyn_next(site->table.bytes, site->table.length, entry, minute);
+    uint64_t next = eremothyn_next(site->table.bytes, site->table.length, site->kind, entry, minute);
     printf("entry %2" PRIu64 "  ", entry);
     switch (EREMOTHYN_IS_REFUSED(next) ? EREMOTHYN_REFUSAL(next) : 0) {
     case EREMOTHYN_AT_BOOT_ONLY:
@@ -110,18 +114,41 @@ static void print_next(const struct site *site, uint64_t entry, uint64_t minute)
     }
 }
 
-/* A real daemon would hand the shell line to a shell, and the input to its standard input. */
+/* A part of an entry's user column, by the answers for its offset and its length; an absent one isn't shown. */
+static void print_part(const struct site *site, const char *name, uint64_t offset, uint64_t length)
+{
+    if (answered(name, length) == 0)
+        return;
+    printf("  %s ", name);
+    print_text(site->table.bytes + answered(name, offset), length);
+}
+
+/* Whom an entry runs as. In a user table every part is absent, for all is run as the user whose table it is. */
+static void print_user(const struct site *site, uint64_t entry)
+{
+    const uint8_t *table = site->table.bytes;
+    uint64_t length = site->table.length, kind = site->kind;
+    print_part(site, "user", eremothyn_user_offset(table, length, kind, entry),
+               eremothyn_user_length(table, length, kind, entry));
+    print_part(site, "group", eremothyn_group_offset(table, length, kind, entry),
+               eremothyn_group_length(table, length, kind, entry));
+    print_part(site, "class", eremothyn_class_offset(table, length, kind, entry),
+               eremothyn_class_length(table, length, kind, entry));
+}
+
+/* A real daemon would become the entry's user, hand the shell line to a shell, and the input to its standard input. */
 static void start(const struct site *site, uint64_t entry, uint64_t minute)
 {
     uint8_t shell[EREMOTHYN_MAX_LINE], input[EREMOTHYN_MAX_LINE];
     const uint8_t *table = site->table.bytes;
-    uint64_t length = site->table.length;
+    uint64_t length = site->table.length, kind = site->kind;
     uint64_t shell_length = answered(
-        "split_command", eremothyn_split_command(table, length, entry, shell, sizeof shell, input, sizeof input));
-    uint64_t input_length = answered("stdin_length", eremothyn_stdin_length(table, length, entry));
+        "split_command", eremothyn_split_command(table, length, kind, entry, shell, sizeof shell, input, sizeof input));
+    uint64_t input_length = answered("stdin_length", eremothyn_stdin_length(table, length, kind, entry));
     print_date(minute);
     printf("  start entry %2" PRIu64 "  ", entry);
     print_text(shell, shell_length);
+    print_user(site, entry);
     putchar('\n');
     if (input_length != EREMOTHYN_NO_INPUT) {
         printf("%38s  ", "standard input");
@@ -133,8 +160,10 @@ static void start(const struct site *site, uint64_t entry, uint64_t minute)
 /* One minute: whoever is due joins the queue, then whoever has waited longest is taken, as often as the pace allows. */
 static void live(struct site *site, uint64_t minute, uint64_t pace)
 {
-    uint64_t joined = answered("queue_tick", eremothyn_queue_tick(site->table.bytes, site->table.length, site->queue,
-                                                                  sizeof site->queue, minute));
+    const uint8_t *table = site->table.bytes;
+    uint64_t length = site->table.length, kind = site->kind;
+    uint64_t joined = answered(
+        "queue_tick", eremothyn_queue_tick(table, length, kind, site->queue, sizeof site->queue, minute));
     site->waiting += joined;
     if (joined != 0) {
         print_date(minute);
@@ -142,7 +171,7 @@ static void live(struct site *site, uint64_t minute, uint64_t pace)
     }
     for (uint64_t taken = 0; taken < pace; taken++) {
         uint64_t entry = answered(
-            "queue_pop", eremothyn_queue_pop(site->table.bytes, site->table.length, site->queue, sizeof site->queue));
+            "queue_pop", eremothyn_queue_pop(table, length, kind, site->queue, sizeof site->queue));
         if (entry == EREMOTHYN_NOTHING_WAITS)
             return;
         site->waiting--;
@@ -158,18 +187,18 @@ static int boot(struct site *site, const char *name, uint64_t first)
         return FAILED;
     }
     const uint8_t *table = site->table.bytes;
-    uint64_t length = site->table.length;
-    uint64_t entries = eremothyn_check(table, length);
+    uint64_t length = site->table.length, kind = site->kind;
+    uint64_t entries = eremothyn_check(table, length, kind);
     if (EREMOTHYN_IS_REFUSED(entries)) {
-        fprintf(stderr, "%s:%" PRIu64 ":%" PRIu64 ": refused %" PRIu64 ": %s\n", name, eremothyn_fault_line(table, length),
-                eremothyn_fault_column(table, length), EREMOTHYN_REFUSAL(entries),
-                eremothyn_words(EREMOTHYN_REFUSAL(entries)));
+        fprintf(stderr, "%s:%" PRIu64 ":%" PRIu64 ": refused %" PRIu64 ": %s\n", name,
+                eremothyn_fault_line(table, length, kind), eremothyn_fault_column(table, length, kind),
+                EREMOTHYN_REFUSAL(entries), eremothyn_words(EREMOTHYN_REFUSAL(entries)));
         return REFUSED;
     }
-    print_settings(table, length);
+    print_settings(site);
     for (uint64_t entry = 0; entry < entries; entry++)
         print_next(site, entry, first);
-    site->waiting = answered("queue_init", eremothyn_queue_init(table, length, site->queue, sizeof site->queue));
+    site->waiting = answered("queue_init", eremothyn_queue_init(table, length, kind, site->queue, sizeof site->queue));
     print_date(first);
     printf("  boot, %" PRIu64 " wait\n", site->waiting);
     return DONE;
@@ -211,7 +240,8 @@ static bool read_span(char **pair, uint64_t *first, uint64_t *last)
 
 static int usage(void)
 {
-    fputs("usage: daemon FILE PACE FROM TO [FROM TO]..., a PACE below 1000, dates as 1970-01-01T00:00, FROM not after TO\n",
+    fputs("usage: daemon [-s] FILE PACE FROM TO [FROM TO]..., a PACE below 1000, dates as 1970-01-01T00:00, FROM not after "
+          "TO; -s for a system table\n",
           stderr);
     return FAILED;
 }
@@ -220,6 +250,12 @@ int main(int argc, char **argv)
 {
     static struct site site;
     uint64_t pace, first, last;
+    site.kind = EREMOTHYN_USER_TABLE;
+    if (argc > 1 && strcmp(argv[1], "-s") == 0) {
+        site.kind = EREMOTHYN_SYSTEM_TABLE;
+        argc--;
+        argv++;
+    }
     if (argc < 5 || argc % 2 == 0 || !read_pace(argv[2], &pace))
         return usage();
     for (int i = 3; i < argc; i += 2)

@@ -25,15 +25,23 @@ extern "C" {
 #endif
 
 /* The middle number counts the change requests that have landed. */
-#define EREMOTHYN_VERSION "1.3.0"
+#define EREMOTHYN_VERSION "1.4.0"
 
 /* The last minute of the calendar, 9999-12-31 23:59. */
 #define EREMOTHYN_LAST_MINUTE UINT64_C(4223371679)
 
-/* What a table may have: bytes, bytes in a line without its newline, entries. */
+/* What a table may have: bytes, bytes in a line without its newline, entries, bytes in a name of the user column. */
 #define EREMOTHYN_MAX_TABLE 16384
 #define EREMOTHYN_MAX_LINE 1000
 #define EREMOTHYN_MAX_ENTRIES 128
+#define EREMOTHYN_MAX_NAME 32
+
+/*
+ * Which kind a table is. In a system table, as /etc/crontab is one, a user column stands between the time of each entry and
+ * its command: user, user:group, user/class or user:group/class. Any number but 0 is a system table.
+ */
+#define EREMOTHYN_USER_TABLE UINT64_C(0)
+#define EREMOTHYN_SYSTEM_TABLE UINT64_C(1)
 
 /* A refusal is this plus its number. */
 #define EREMOTHYN_REFUSED UINT64_C(4294967296)
@@ -62,6 +70,7 @@ extern "C" {
 #define EREMOTHYN_UNKNOWN_WORD UINT64_C(10)     /* unknown @ word; the @ */
 #define EREMOTHYN_BAD_SETTING UINT64_C(11)      /* setting not of the form; the first non-blank byte */
 #define EREMOTHYN_TOO_MANY_ENTRIES UINT64_C(12) /* the 129th entry; column 1 */
+#define EREMOTHYN_USER_MALFORMED UINT64_C(20)   /* user column not of the form, in a system table; its first byte */
 
 /* Refusals of one entry, one minute, one setting and one queue of waiting jobs. */
 #define EREMOTHYN_NO_SUCH_ENTRY UINT64_C(13)   /* no entry of that number */
@@ -87,7 +96,7 @@ static inline const char *eremothyn_words(uint64_t refusal)
         return "a number outside its limits: minute 0-59, hour 0-23, day 1-31, month 1-12, weekday 0-7";
     case EREMOTHYN_RANGE_REVERSED: return "a range from high to low";
     case EREMOTHYN_STEP_ZERO: return "a step of 0";
-    case EREMOTHYN_NO_COMMAND: return "no command after the time";
+    case EREMOTHYN_NO_COMMAND: return "no command after the time, or in a system table after the user";
     case EREMOTHYN_UNKNOWN_WORD:
         return "not one of @reboot, @yearly, @annually, @monthly, @weekly, @daily, @midnight and @hourly";
     case EREMOTHYN_BAD_SETTING: return "neither an entry nor a setting, which is name=value";
@@ -99,6 +108,9 @@ static inline const char *eremothyn_words(uint64_t refusal)
     case EREMOTHYN_PAST_THE_END: return "fires no more before the year 10000";
     case EREMOTHYN_TOO_SHORT: return "a buffer is too short for the text";
     case EREMOTHYN_NO_SETTING: return "no setting on this line";
+    case EREMOTHYN_USER_MALFORMED:
+        return "not a user column: user, user:group, user/class or user:group/class, each of 1 to 32 letters, digits, "
+               "_, - and ., and - not first";
     case EREMOTHYN_NOT_A_QUEUE: return "not a queue of this table's entries, or room for too few of them";
     default: return "no refusal has this number";
     }
@@ -134,29 +146,29 @@ uint64_t eremothyn_minute_of_hour(uint64_t minute);
 uint64_t eremothyn_weekday(uint64_t minute);
 
 /*
- * Tables. A table is the bytes of a crontab; its entries have the numbers 0, 1 and on, in file order. Every call that takes
- * one reads it anew, and all but the two that say where a fault is refuse a bad one as eremothyn_check does, before anything
- * else.
+ * Tables. A table is the bytes of a crontab, and the number of its kind stands behind them: EREMOTHYN_USER_TABLE or
+ * EREMOTHYN_SYSTEM_TABLE. Its entries have the numbers 0, 1 and on, in file order. Every call that takes a table reads it
+ * anew, and all but the two that say where a fault is refuse a bad one as eremothyn_check does, before anything else.
  */
 
 /* How many entries the table has. */
-uint64_t eremothyn_check(const uint8_t *table, uint64_t table_length);
+uint64_t eremothyn_check(const uint8_t *table, uint64_t table_length, uint64_t kind);
 
 /* The line and the column of the table's fault; 0 where it is good, and for EREMOTHYN_TABLE_TOO_LONG. */
-uint64_t eremothyn_fault_line(const uint8_t *table, uint64_t table_length);
-uint64_t eremothyn_fault_column(const uint8_t *table, uint64_t table_length);
+uint64_t eremothyn_fault_line(const uint8_t *table, uint64_t table_length, uint64_t kind);
+uint64_t eremothyn_fault_column(const uint8_t *table, uint64_t table_length, uint64_t kind);
 
 /*
  * Whether an entry is due at a minute: 1 or 0, and 0 for an @reboot entry. Refused with EREMOTHYN_NO_SUCH_ENTRY, then
  * EREMOTHYN_NOT_ON_CALENDAR.
  */
-uint64_t eremothyn_due(const uint8_t *table, uint64_t table_length, uint64_t entry, uint64_t minute);
+uint64_t eremothyn_due(const uint8_t *table, uint64_t table_length, uint64_t kind, uint64_t entry, uint64_t minute);
 
 /*
  * The minute at which an entry fires next, strictly after a minute. Refused with EREMOTHYN_NO_SUCH_ENTRY,
  * EREMOTHYN_NOT_ON_CALENDAR, EREMOTHYN_AT_BOOT_ONLY, EREMOTHYN_NEVER or EREMOTHYN_PAST_THE_END, the first that holds.
  */
-uint64_t eremothyn_next(const uint8_t *table, uint64_t table_length, uint64_t entry, uint64_t minute);
+uint64_t eremothyn_next(const uint8_t *table, uint64_t table_length, uint64_t kind, uint64_t entry, uint64_t minute);
 
 /*
  * Splits an entry's command: the shell line goes to the front of one buffer and the standard input to the front of the
@@ -164,24 +176,36 @@ uint64_t eremothyn_next(const uint8_t *table, uint64_t table_length, uint64_t en
  * EREMOTHYN_TOO_SHORT if either buffer is too short. A command's length is always room enough for both; where there is no
  * input, none is needed. eremothyn_stdin_length answers how long the input is.
  */
-uint64_t eremothyn_split_command(const uint8_t *table, uint64_t table_length, uint64_t entry, uint8_t *shell,
+uint64_t eremothyn_split_command(const uint8_t *table, uint64_t table_length, uint64_t kind, uint64_t entry, uint8_t *shell,
                                  uint64_t shell_length, uint8_t *input, uint64_t input_length);
 
 /*
  * The length of an entry's standard input, or EREMOTHYN_NO_INPUT if its command has none; empty input is 0. Refused with
  * EREMOTHYN_NO_SUCH_ENTRY.
  */
-uint64_t eremothyn_stdin_length(const uint8_t *table, uint64_t table_length, uint64_t entry);
+uint64_t eremothyn_stdin_length(const uint8_t *table, uint64_t table_length, uint64_t kind, uint64_t entry);
+
+/*
+ * The user, the group and the class of an entry's user column, as parts of the table: where each starts, counted from 0,
+ * and its length, at most EREMOTHYN_MAX_NAME. Both are 0 where a part is absent, and in a user table all three are absent.
+ * Refused with EREMOTHYN_NO_SUCH_ENTRY.
+ */
+uint64_t eremothyn_user_offset(const uint8_t *table, uint64_t table_length, uint64_t kind, uint64_t entry);
+uint64_t eremothyn_user_length(const uint8_t *table, uint64_t table_length, uint64_t kind, uint64_t entry);
+uint64_t eremothyn_group_offset(const uint8_t *table, uint64_t table_length, uint64_t kind, uint64_t entry);
+uint64_t eremothyn_group_length(const uint8_t *table, uint64_t table_length, uint64_t kind, uint64_t entry);
+uint64_t eremothyn_class_offset(const uint8_t *table, uint64_t table_length, uint64_t kind, uint64_t entry);
+uint64_t eremothyn_class_length(const uint8_t *table, uint64_t table_length, uint64_t kind, uint64_t entry);
 
 /*
  * The name and the value of the setting on a line, counted from 1, as parts of the table: where each starts, counted from 0,
  * and its length, without quotes. Refused with EREMOTHYN_NO_SETTING if the line is none, or isn't there: a table has no more
  * lines than newlines and one.
  */
-uint64_t eremothyn_setting_name_offset(const uint8_t *table, uint64_t table_length, uint64_t line);
-uint64_t eremothyn_setting_name_length(const uint8_t *table, uint64_t table_length, uint64_t line);
-uint64_t eremothyn_setting_value_offset(const uint8_t *table, uint64_t table_length, uint64_t line);
-uint64_t eremothyn_setting_value_length(const uint8_t *table, uint64_t table_length, uint64_t line);
+uint64_t eremothyn_setting_name_offset(const uint8_t *table, uint64_t table_length, uint64_t kind, uint64_t line);
+uint64_t eremothyn_setting_name_length(const uint8_t *table, uint64_t table_length, uint64_t kind, uint64_t line);
+uint64_t eremothyn_setting_value_offset(const uint8_t *table, uint64_t table_length, uint64_t kind, uint64_t line);
+uint64_t eremothyn_setting_value_length(const uint8_t *table, uint64_t table_length, uint64_t kind, uint64_t line);
 
 /*
  * The run queue: a table's waiting jobs, in a room of bytes that the caller lends. An entry stands in the
@@ -193,21 +217,23 @@ uint64_t eremothyn_setting_value_length(const uint8_t *table, uint64_t table_len
 #define EREMOTHYN_ROOM(entries) (8 * (entries) + 64)
 
 /* Makes a fresh queue, whatever the room held: the @reboot entries in file order. Answers how many wait. */
-uint64_t eremothyn_queue_init(const uint8_t *table, uint64_t table_length, uint8_t *room, uint64_t room_length);
+uint64_t eremothyn_queue_init(const uint8_t *table, uint64_t table_length, uint64_t kind, uint8_t *room,
+                              uint64_t room_length);
 
 /*
  * Announces a minute: each time-based entry that matches it and isn't waiting joins at the back, in file order. Answers
  * how many joined. Refused with EREMOTHYN_NOT_A_QUEUE for bytes that name an entry which the table doesn't have, or one
  * twice, then EREMOTHYN_NOT_ON_CALENDAR. Minutes may repeat or go back.
  */
-uint64_t eremothyn_queue_tick(const uint8_t *table, uint64_t table_length, uint8_t *room, uint64_t room_length,
-                              uint64_t minute);
+uint64_t eremothyn_queue_tick(const uint8_t *table, uint64_t table_length, uint64_t kind, uint8_t *room,
+                              uint64_t room_length, uint64_t minute);
 
 /*
  * Requests the next job: removes the front entry and answers its number, or EREMOTHYN_NOTHING_WAITS. Refused with
  * EREMOTHYN_NOT_A_QUEUE as eremothyn_queue_tick is.
  */
-uint64_t eremothyn_queue_pop(const uint8_t *table, uint64_t table_length, uint8_t *room, uint64_t room_length);
+uint64_t eremothyn_queue_pop(const uint8_t *table, uint64_t table_length, uint64_t kind, uint8_t *room,
+                             uint64_t room_length);
 
 #ifdef __cplusplus
 }

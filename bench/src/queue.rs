@@ -5,7 +5,7 @@ use crate::measure::{nanoseconds, print_pair, print_pair_head};
 use crate::table::entries_alone;
 use eremothyn::Table;
 use second::queue::Queue;
-use second::table::{read, ENTRIES, TABLE_BYTES};
+use second::table::{read, Kind, ENTRIES, TABLE_BYTES};
 
 const CALLS: usize = 200;
 
@@ -51,7 +51,7 @@ pub fn run() {
         );
     }
     let pop = |line: &mut Line| Table::of(&table).queue_pop(&mut line.room[..]);
-    let second_pop = |line: &mut Line| line.queue.pop(&read(&table).expect(GOOD));
+    let second_pop = |line: &mut Line| line.queue.pop(&read(&table, Kind::User).expect(GOOD));
     row("pop, all wait", &waiting, pop, second_pop);
     row("pop, nothing waits", &empty, pop, second_pop);
     println!("times as long as the second program");
@@ -78,7 +78,8 @@ fn library_tick(table: &[u8], line: &mut Line, minute: u64) -> Result<u64, u64> 
 }
 
 fn second_tick(table: &[u8], line: &mut Line, minute: u64) -> Result<u64, u64> {
-    line.queue.tick(&read(table).expect(GOOD), minute)
+    line.queue
+        .tick(&read(table, Kind::User).expect(GOOD), minute)
 }
 
 /// Entries that are all due at the same minutes, in 128 bytes each.

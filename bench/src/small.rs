@@ -5,6 +5,7 @@ use crate::measure::{in_turn, print_pair, print_pair_head, round};
 use eremothyn::Table;
 use second::table::calls::Calls;
 use second::table::samples::schedule_of;
+use second::table::Kind;
 use test_calls::schedules;
 
 /// For the first entry the answer by table bytes may take so many times as long as the search.
@@ -61,7 +62,11 @@ fn next(fields: &str, starts: &[u64]) {
 
 fn setting(what: &str, table: &[u8], line: u64) {
     let library = |line: u64| Table::of(table).setting(line);
-    let second = |line: u64| Calls::of(table).setting(line).expect("a setting");
+    let second = |line: u64| {
+        Calls::of(table, Kind::User)
+            .setting(line)
+            .expect("a setting")
+    };
     let parts = second(line);
     let expected = [
         parts.name.offset,

@@ -1,9 +1,9 @@
 //! Reading a full table, of 16,384 bytes and 128 entries, as the library and the second program do it: the same bytes,
-//! the same count of entries.
+//! the same count of entries. A system table stands beside the same entries as a user table.
 
 use crate::measure::{nanoseconds, print_pair, print_pair_head};
 use eremothyn::Table;
-use second::table::{self, ENTRIES, TABLE_BYTES};
+use second::table::{self, Kind, ENTRIES, TABLE_BYTES};
 
 const READS: usize = 500;
 
@@ -13,13 +13,24 @@ const GOAL: f64 = 1.2;
 pub fn run() {
     let title = format!("table, {TABLE_BYTES} bytes and {ENTRIES} entries read, MB a second each");
     print_pair_head(&title, "second program");
-    compare("as people write it", &full(&WRITTEN));
-    compare("lists in every field", &full(&LISTS));
-    compare("entries alone, no comments", &entries_alone(&WRITTEN));
+    compare("as people write it", &full(&WRITTEN), Kind::User);
+    compare("lists in every field", &full(&LISTS), Kind::User);
+    compare(
+        "entries alone, no comments",
+        &entries_alone(&WRITTEN),
+        Kind::User,
+    );
+    compare(
+        "the same as a system table",
+        &entries_alone(&WRITTEN.map(with_user)),
+        Kind::System,
+    );
     println!("times as long as the second program; goal: at most {GOAL}");
 }
 
-fn compare(which: &str, bytes: &[u8]) {
+fn compare(which: &str, bytes: &[u8], kind: Kind) {
+    let library = |bytes: &[u8]| library(bytes, kind);
+    let second = |bytes: &[u8]| second(bytes, kind);
     assert_eq!(bytes.len(), TABLE_BYTES);
     assert_eq!(library(bytes), ENTRIES as u64);
     assert_eq!(second(bytes), ENTRIES as u64);
@@ -29,12 +40,13 @@ fn compare(which: &str, bytes: &[u8]) {
     print_pair(which, [library, second].map(speed), library / second);
 }
 
-fn library(bytes: &[u8]) -> u64 {
-    Table::of(bytes).check().expect("a good table")
+fn library(bytes: &[u8], kind: Kind) -> u64 {
+    let table = Table::of(bytes).of_kind(kind.number());
+    table.check().expect("a good table")
 }
 
-fn second(bytes: &[u8]) -> u64 {
-    let table = table::read(bytes).expect("a good table");
+fn second(bytes: &[u8], kind: Kind) -> u64 {
+    let table = table::read(bytes, kind).expect("a good table");
     table.entries.len() as u64
 }
 
@@ -61,6 +73,14 @@ const LISTS: [&str; 2] = [
     "1,4-9,11-59/2 0-5,7,9-23/3 1-15/2,20,25-31 1-6,8-12/2 0-2,4-7/2 /bin/a",
     "0,7,14,21,28,35,42,49,56 1,3,5,7,9,11 2,4,6,8,30,31 1,2,3,10,11,12 1,2,3,4,5 /bin/b",
 ];
+
+/// An entry of a user table as a system table has it: a user stands before its command.
+fn with_user(line: &str) -> String {
+    let time = if line.starts_with('@') { 1 } else { 5 };
+    let mut words: Vec<&str> = line.splitn(time + 1, ' ').collect();
+    words.insert(time, "observer:dome/batch");
+    words.join(" ")
+}
 
 /// All entries in turn, with settings and comments between them, filled up with comments.
 fn full(lines: &[&str]) -> Vec<u8> {

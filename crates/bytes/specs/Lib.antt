@@ -4,3 +4,4 @@ pub mod Classes
 pub mod Runs
 pub mod Laid
 pub mod Sets
+pub mod Examples

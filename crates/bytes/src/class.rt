@@ -1,6 +1,6 @@
 // Kinds of bytes.
 ghost use mathlib.Core.Path.{_≡_};
-ghost use Rattle.bytes.specs.Classes.{isBlank, isQuote, ofClass};
+ghost use Rattle.bytes.specs.Classes.{isBlank, isQuote, isAccount, ofClass};
 
 pub enum Class {
     // Space and tab.
@@ -9,6 +9,8 @@ pub enum Class {
     Solid,
     // What a bare name is made of: no blank, no `=` and no quote.
     Name,
+    // What a user, a group or a class is made of: letters, digits, `_`, `-` and `.`.
+    Account,
     // Any byte but this one.
     Not(u8),
     // What a line is made of: no newline and no byte 0.
@@ -27,6 +29,14 @@ pub fn is_quote(b: u8) -> bool
     (b == b'"') | (b == b'\'')
 }
 
+fn is_account(b: u8) -> bool
+    ensures { λ r. ⌜ r ≡ isAccount b ⌝ }
+{
+    let letter = ((b'a' <= b) & (b <= b'z')) | ((b'A' <= b) & (b <= b'Z'));
+    let digit = (b'0' <= b) & (b <= b'9');
+    letter | (digit | ((b == b'_') | ((b == b'-') | (b == b'.'))))
+}
+
 pub fn is_in(class: Class, b: u8) -> bool
     ensures { λ r. ⌜ r ≡ ofClass class b ⌝ }
 {
@@ -34,6 +44,7 @@ pub fn is_in(class: Class, b: u8) -> bool
         Class::Blank => is_blank(b),
         Class::Solid => !is_blank(b),
         Class::Name => !(is_blank(b) | ((b == b'=') | is_quote(b))),
+        Class::Account => is_account(b),
         Class::Not(other) => b != other,
         Class::InLine => !((b == b'\n') | (b == 0)),
     }

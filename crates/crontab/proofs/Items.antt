@@ -9,6 +9,7 @@ use lib.Seq.{length-take-le}
 use borrow.Author.Tests.{lt-ltb, le-ltb}
 use Rattle.bytes.specs.declared.class.Class.the-variants.{Not}
 use Rattle.bytes.proofs.Runs.{skipped-from, skipped-within}
+use Rattle.crontab.specs.declared.Rules.{Rules}
 use Rattle.crontab.specs.declared.Part.{Part}
 use Rattle.crontab.specs.declared.time.When.{When}
 use Rattle.crontab.specs.declared.line.Fault.{Fault}
@@ -26,19 +27,19 @@ use Rattle.crontab.proofs.Proper.{entry-proper}
 abbrev pub start : Cursor
 start = record { at = 0; line = 1; count = 0 }
 
-pub items-start : (s : List ℕ) → length s ≤ maxTable → itemsAt s start ≡ itemsOf s
+pub items-start : (rules : Rules) (s : List ℕ) → length s ≤ maxTable → itemsAt rules s start ≡ itemsOf rules s
 unfolding itemsAt itemsOf
-items-start s h = rw (le-ltb maxTable (length s) h)
+items-start rules s h = rw (le-ltb maxTable (length s) h)
 
 pub start-reached : (s : List ℕ) → length s ≤ maxTable → Reached s start
 start-reached s h = record { short = h; place = omega arith; lines = omega arith; few = omega arith }
 
-pub items-end : (s : List ℕ) (c : Cursor) → length s ≤ c .at → itemsAt s c ≡ done
+pub items-end : (rules : Rules) (s : List ℕ) (c : Cursor) → length s ≤ c .at → itemsAt rules s c ≡ done
 unfolding itemsAt itemsFrom linesOf
-items-end s c h = rw (drop-of-length-le s h)
+items-end rules s c h = rw (drop-of-length-le s h)
 
 -- the line at a cursor, by where it ends
-module _ (s : List ℕ) (c : Cursor) (end : ℕ) (reached : Reached s c) (inside : c .at < length s) (found : end ≡ lineEnd s (c .at)) where
+module _ (rules : Rules) (s : List ℕ) (c : Cursor) (end : ℕ) (reached : Reached s c) (inside : c .at < length s) (found : end ≡ lineEnd s (c .at)) where
   abbrev bytes : List ℕ
   bytes = take (end - c .at) (drop (c .at) s)
 
@@ -54,12 +55,12 @@ module _ (s : List ℕ) (c : Cursor) (end : ℕ) (reached : Reached s c) (inside
   size : length bytes ≡ end - c .at
   size = length-take-le (end - c .at) (drop (c .at) s) (omega (arith, within, length-drop (c .at) s))
 
-  here : itemsAt s c ≡ afterLine (c .at) (c .line) (end - c .at) (c .count) (readLine bytes) (λ k. itemsAt s (behind k))
+  here : itemsAt rules s c ≡ afterLine (c .at) (c .line) (end - c .at) (c .count) (readLine rules bytes) (λ k. itemsAt rules s (behind k))
   unfolding itemsAt itemsFrom
   here = rw (lines-first s (c .at) end inside found, next-start s (c .at) end inside found, size)
 
-  step-is : (i : Item) (k : ℕ) → itemsAt s c ≡ given (c .line) i (itemsAt s (behind k)) → k ≡ counted i (c .count) → k ≤ maxEntries
-      → StepIs s c (record { item = i; next = behind k })
+  step-is : (i : Item) (k : ℕ) → itemsAt rules s c ≡ given (c .line) i (itemsAt rules s (behind k)) → k ≡ counted i (c .count) → k ≤ maxEntries
+      → StepIs rules s c (record { item = i; next = behind k })
   step-is i k g e few =
       record {
         gives = g;
@@ -68,35 +69,35 @@ module _ (s : List ℕ) (c : Cursor) (end : ℕ) (reached : Reached s c) (inside
         counts = e;
       }
 
-  pub step-nothing : readLine bytes ≡ line.Ignored → StepIs s c (record { item = item.Nothing; next = behind (c .count) })
+  pub step-nothing : readLine rules bytes ≡ line.Ignored → StepIs rules s c (record { item = item.Nothing; next = behind (c .count) })
   unfolding afterLine given counted
   step-nothing is = step-is item.Nothing (c .count) (here ∙ rw is) refl (reached .few)
 
-  pub step-setting : {name value : Part} → readLine bytes ≡ line.Setting name value
-      → StepIs s c (record { item = item.Setting (moved (c .at) name) (moved (c .at) value); next = behind (c .count) })
+  pub step-setting : {name value : Part} → readLine rules bytes ≡ line.Setting name value
+      → StepIs rules s c (record { item = item.Setting (moved (c .at) name) (moved (c .at) value); next = behind (c .count) })
   unfolding afterLine given counted
   step-setting {name} {value} is = step-is (item.Setting (moved (c .at) name) (moved (c .at) value)) (c .count) (here ∙ rw is) refl (reached .few)
 
-  pub step-refused : {f : Fault} → readLine bytes ≡ line.Refused f → StepIs s c (record { item = item.Refused f; next = behind (c .count) })
+  pub step-refused : {f : Fault} → readLine rules bytes ≡ line.Refused f → StepIs rules s c (record { item = item.Refused f; next = behind (c .count) })
   unfolding afterLine given counted
   step-refused {f} is = step-is (item.Refused f) (c .count) (here ∙ rw is) refl (reached .few)
 
-  module _ {when : When} {first : ℕ} (is : readLine bytes ≡ line.Entry when first) where
+  module _ {when : When} {first : ℕ} (is : readLine rules bytes ≡ line.Entry when first) where
     -- its places have 16 bits
     pub entry-placed : (c .at ≤ maxTable) × (c .line ≤ maxTable) × (first ≤ maxLine) × (end - c .at ≤ maxLine)
     entry-placed =
-        let p = entry-proper bytes is in
+        let p = entry-proper rules bytes is in
         let n = reached .short in
         let l = reached .lines in
         (omega arith, omega arith, omega (arith, p .0, p .1), omega (arith, p .0, size))
 
     pub step-entry : c .count < maxEntries
-        → StepIs s c (record { item = item.Entry (placed (c .at) (c .line) (end - c .at) when first); next = behind (c .count + 1) })
+        → StepIs rules s c (record { item = item.Entry (placed (c .at) (c .line) (end - c .at) when first); next = behind (c .count + 1) })
     unfolding afterLine given counted
     step-entry h =
         step-is (item.Entry (placed (c .at) (c .line) (end - c .at) when first)) (c .count + 1)
         (here ∙ rw (is, lt-ltb (c .count) maxEntries h)) refl (omega arith)
 
-    pub step-full : maxEntries ≤ c .count → StepIs s c (record { item = item.Refused (record { number = 12; column = 1 }); next = behind (c .count) })
+    pub step-full : maxEntries ≤ c .count → StepIs rules s c (record { item = item.Refused (record { number = 12; column = 1 }); next = behind (c .count) })
     unfolding afterLine given counted
     step-full h = step-is (item.Refused (record { number = 12; column = 1 })) (c .count) (here ∙ rw (is, le-ltb (c .count) maxEntries h)) refl (reached .few)

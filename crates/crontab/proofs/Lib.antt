@@ -1,4 +1,5 @@
 pub mod Words
+pub mod Users
 pub mod Times
 pub mod Proper
 pub mod Lines

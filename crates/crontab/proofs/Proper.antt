@@ -19,6 +19,7 @@ use Rattle.field.specs.declared.Answer.{Answer}
 use Rattle.field.specs.declared.Answer.the-variants as answer
 use Rattle.field.specs.Fields.{readField}
 use Rattle.field.proofs.Refusals.{FieldNumber, field-number, FieldColumn, field-column}
+use Rattle.crontab.specs.declared.Rules.{Rules}
 use Rattle.crontab.specs.declared.time.When.{When}
 use Rattle.crontab.specs.declared.Part.{Part}
 use Rattle.crontab.specs.declared.word.Word.{Word}
@@ -35,7 +36,13 @@ use Rattle.crontab.specs.declared.line.Line.the-variants as line
 use Rattle.crontab.specs.Limits.{maxLine}
 use Rattle.crontab.specs.Times.{answered, fieldAt, after, fieldsAt}
 use Rattle.crontab.specs.Words.{wordOf, afterWord, wordAt}
-use Rattle.crontab.specs.Entries.{timeAt, withCommand, afterTime, entryAt}
+use Rattle.crontab.specs.declared.Kind.{Kind}
+use Rattle.crontab.specs.declared.Kind.the-variants.{User, System}
+use Rattle.crontab.specs.declared.user.Column.{Column}
+use Rattle.crontab.specs.declared.user.Column.the-variants.{Named}
+use Rattle.crontab.specs.declared.user.Column.the-variants as column
+use Rattle.crontab.specs.Users.{columnAt}
+use Rattle.crontab.specs.Entries.{timeAt, withCommand, afterOwner, withUser, byKind, afterTime, entryAt}
 use Rattle.crontab.specs.Assignments.{quotedAt, nonEmpty, nameAt, closed, valueAt, afterEquals, afterName, settingAt}
 use Rattle.crontab.specs.Lines.{startsEntry, contentFrom, contentOf, readLine}
 use Rattle.crontab.proofs.Times.{fieldBytes}
@@ -48,7 +55,7 @@ pub record Inside (n : ℕ) (p : Part) : Type 0 where
 -- the refusals of lines, with no column behind the last
 pub record Numbered (last number column : ℕ) : Type 0 where
   pub from : 1 ≤ number
-  pub to : number ≤ 11
+  pub to : number ≤ 20
   pub inside : column ≤ last
 
 -- a line of n bytes
@@ -115,9 +122,9 @@ module _ (s : List ℕ) where
       go Unknown = record { from = omega arith; to = omega arith; inside = omega arith }
       go (Known when) = tt
 
-  time-fault : (at first : ℕ) → at ≤ length s → TimeFault (timeAt s at first)
+  time-fault : (at : ℕ) → at ≤ length s → TimeFault (timeAt s at)
   unfolding timeAt
-  time-fault at first h = go (eqb first 64)
+  time-fault at h = go (eqb (getD s at 0) 64)
     where
       go : (t : Bool) → TimeFault (cond t (wordAt s at) (fieldsAt s at))
       go true = word-fault at h
@@ -135,10 +142,27 @@ module _ (s : List ℕ) (short : length s ≤ maxLine) where
       go true p = (short, ltb-true _ _ p)
       go false p = record { from = omega arith; to = omega arith; inside = omega arith }
 
-  time-proper : (t : Time) → TimeFault s t → Proper (length s) (afterTime s t)
+  owner-proper : (when : When) (at : ℕ) (c : Column) → at < length s → Proper (length s) (afterOwner s when at c)
+  unfolding afterOwner
+  owner-proper when at (Named owner next) h = command-proper when _
+  owner-proper when at column.Malformed h = record { from = omega arith; to = omega arith; inside = omega arith }
+
+  user-proper : (when : When) (at : ℕ) → Proper (length s) (withUser s when at)
+  unfolding withUser
+  user-proper when at = go (ltb at (length s)) refl
+    where
+      go : (t : Bool) → ltb at (length s) ≡ t → Proper (length s) (cond t (afterOwner s when at (columnAt s at)) (withCommand s when at))
+      go true p = owner-proper when at _ (ltb-true _ _ p)
+      go false p = command-proper when at
+
+  time-proper : (rules : Rules) (t : Time) → TimeFault s t → Proper (length s) (afterTime rules s t)
   unfolding afterTime
-  time-proper (time.Read when next) h = command-proper when next
-  time-proper (time.Refused fault) h = record { from = h .from; to = h .to; inside = omega (arith, h .inside) }
+  time-proper rules (time.Read when next) h = go (rules .kind)
+    where
+      go : (k : Kind) → Proper (length s) (byKind k (withCommand s when next) (withUser s when next))
+      go User = command-proper when next
+      go System = user-proper when next
+  time-proper rules (time.Refused fault) h = record { from = h .from; to = h .to; inside = omega (arith, h .inside) }
 
   -- ---- a setting
 
@@ -216,38 +240,38 @@ module _ (s : List ℕ) (short : length s ≤ maxLine) where
 
   -- ---- by the first byte that isn't blank
 
-  first-proper : (at first : ℕ) → at ≤ length s → Proper (length s) (contentFrom s at first)
+  first-proper : (rules : Rules) (at first : ℕ) → at ≤ length s → Proper (length s) (contentFrom rules s at first)
   unfolding contentFrom entryAt settingAt
-  first-proper at first h = go (eqb first 35) (startsEntry first)
+  first-proper rules at first h = go (eqb first 35) (startsEntry first)
     where
-      go : (a b : Bool) → Proper (length s) (cond a line.Ignored (cond b (entryAt s at first) (settingAt s at)))
+      go : (a b : Bool) → Proper (length s) (cond a line.Ignored (cond b (entryAt rules s at) (settingAt s at)))
       go true b = tt
-      go false true = time-proper _ (time-fault s at first h)
+      go false true = time-proper rules _ (time-fault s at h)
       go false false = name-proper at _ h (name-inside at h)
 
-  content-proper : Proper (length s) (contentOf s)
+  content-proper : (rules : Rules) → Proper (length s) (contentOf rules s)
   unfolding contentOf
-  content-proper = go (leb (length s) (skipped Blank s 0))
+  content-proper rules = go (leb (length s) (skipped Blank s 0))
     where
-      go : (a : Bool) → Proper (length s) (cond a line.Ignored (contentFrom s (skipped Blank s 0) (getD s (skipped Blank s 0) 0)))
+      go : (a : Bool) → Proper (length s) (cond a line.Ignored (contentFrom rules s (skipped Blank s 0) (getD s (skipped Blank s 0) 0)))
       go true = tt
-      go false = first-proper _ _ (skipped-within Blank s 0 (omega arith))
+      go false = first-proper rules _ _ (skipped-within Blank s 0 (omega arith))
 
 -- ---- any line
 
-pub line-proper : (s : List ℕ) → Proper (length s) (readLine s)
+pub line-proper : (rules : Rules) (s : List ℕ) → Proper (length s) (readLine rules s)
 unfolding readLine
-line-proper s = go (ltb maxLine (length s)) (ltb (skipped (Not 0) s 0) (length s)) refl
+line-proper rules s = go (ltb maxLine (length s)) (ltb (skipped (Not 0) s 0) (length s)) refl
   where
     go : (a b : Bool) → ltb maxLine (length s) ≡ a
-        → Proper (length s) (cond a (line.Refused (record { number = 2; column = 1001 })) (cond b (line.Refused (record { number = 3; column = skipped (Not 0) s 0 + 1 })) (contentOf s)))
+        → Proper (length s) (cond a (line.Refused (record { number = 2; column = 1001 })) (cond b (line.Refused (record { number = 3; column = skipped (Not 0) s 0 + 1 })) (contentOf rules s)))
     go true b p = record { from = omega arith; to = omega arith; inside = omega arith }
     go false true p = record { from = omega arith; to = omega arith; inside = omega (arith, ltb-false maxLine (length s) p, skipped-within (Not 0) s 0 (omega arith)) }
-    go false false p = content-proper s (ltb-false _ _ p)
+    go false false p = content-proper s (ltb-false _ _ p) rules
 
-pub setting-proper : (s : List ℕ) {name value : Part} → readLine s ≡ line.Setting name value
+pub setting-proper : (rules : Rules) (s : List ℕ) {name value : Part} → readLine rules s ≡ line.Setting name value
     → (length s ≤ maxLine) × (Inside (length s) name) × (Inside (length s) value)
-setting-proper s p = rw p at (line-proper s)
+setting-proper rules s p = rw p at (line-proper rules s)
 
-pub entry-proper : (s : List ℕ) {when : When} {start : ℕ} → readLine s ≡ line.Entry when start → (length s ≤ maxLine) × (start < length s)
-entry-proper s p = rw p at (line-proper s)
+pub entry-proper : (rules : Rules) (s : List ℕ) {when : When} {start : ℕ} → readLine rules s ≡ line.Entry when start → (length s ≤ maxLine) × (start < length s)
+entry-proper rules s p = rw p at (line-proper rules s)

@@ -9,6 +9,7 @@ use native.Mathlib.Omega.{arith}
 use lib.ListN.{length}
 use lib.Dec.{eqb, ltb}
 use borrow.Author.Tests.{ltb-true, ltb-false}
+use Rattle.crontab.specs.declared.Rules.{Rules}
 use Rattle.crontab.specs.declared.Part.{Part}
 use Rattle.crontab.specs.declared.entry.Entry.{Entry}
 use Rattle.crontab.specs.declared.line.Line.{Line}
@@ -44,14 +45,16 @@ lines-placed (b ∷ s) n at h = go (eqb b 10) (lines-placed s n (at + 1) (omega 
 
 -- ---- items of n bytes, behind k entries
 
--- an entry's command is some bytes of n
+-- an entry's command is some bytes of n, on a line that isn't too long
 pub record Sound (n : ℕ) (e : Entry) : Type 0 where
+  pub line : e .at ≤ e .start
+  pub short : e .end ≤ e .at + maxLine
   pub some : e .start < e .end
   pub within : e .end ≤ n
 
 abbrev pub SoundItems : ℕ → ℕ → Items → Type 0
 SoundItems n k done = Unit {0}
-SoundItems n k (fault number line column) = (1 ≤ number) × (number ≤ 12) × (line ≤ maxTable + 1) × (column ≤ maxLine + 1)
+SoundItems n k (fault number line column) = (1 ≤ number) × (number ≤ 20) × (line ≤ maxTable + 1) × (column ≤ maxLine + 1)
 SoundItems n k (setting line name value later) = (Inside n name) × (Inside n value) × SoundItems n k later
 SoundItems n k (entry e later) = (Sound n e) × (k < maxEntries) × SoundItems n (k + 1) later
 
@@ -70,20 +73,20 @@ module _ (n at size : ℕ) (h : at + size ≤ n) (short : n ≤ maxTable) where
   line-sound m k (line.Entry when start) later i p q = go (ltb k maxEntries) refl
     where
       go : (t : Bool) → ltb k maxEntries ≡ t → SoundItems n k (cond t (entry (placed at m size when start) (later (k + 1))) (fault 12 m 1))
-      go true e = (record { some = omega (arith, p .1); within = h }, ltb-true _ _ e, q (k + 1))
+      go true e = (record { line = omega arith; short = omega (arith, p .0); some = omega (arith, p .1); within = h }, ltb-true _ _ e, q (k + 1))
       go false e = (omega arith, omega arith, omega arith, omega arith)
 
-from-sound : (n at m k : ℕ) (ls : List (List ℕ)) → n ≤ maxTable → m ≤ at + 1 → Placed n at ls → SoundItems n k (itemsFrom at m k ls)
+from-sound : (rules : Rules) (n at m k : ℕ) (ls : List (List ℕ)) → n ≤ maxTable → m ≤ at + 1 → Placed n at ls → SoundItems n k (itemsFrom rules at m k ls)
 unfolding itemsFrom
-from-sound n at m k [] short i w = tt
-from-sound n at m k (l ∷ ls) short i w =
-    line-sound n at (length l) (w .0) short m k (readLine l) _ i (line-proper l)
-    (λ j. from-sound n (at + length l + 1) (m + 1) j ls short (omega arith) (w .1))
+from-sound rules n at m k [] short i w = tt
+from-sound rules n at m k (l ∷ ls) short i w =
+    line-sound n at (length l) (w .0) short m k (readLine rules l) _ i (line-proper rules l)
+    (λ j. from-sound rules n (at + length l + 1) (m + 1) j ls short (omega arith) (w .1))
 
-pub items-sound : (s : List ℕ) → SoundItems (length s) 0 (itemsOf s)
+pub items-sound : (rules : Rules) (s : List ℕ) → SoundItems (length s) 0 (itemsOf rules s)
 unfolding itemsOf
-items-sound s = go (ltb maxTable (length s)) refl
+items-sound rules s = go (ltb maxTable (length s)) refl
   where
-    go : (t : Bool) → ltb maxTable (length s) ≡ t → SoundItems (length s) 0 (cond t (fault 1 0 0) (itemsFrom 0 1 0 (linesOf s)))
+    go : (t : Bool) → ltb maxTable (length s) ≡ t → SoundItems (length s) 0 (cond t (fault 1 0 0) (itemsFrom rules 0 1 0 (linesOf s)))
     go true e = (omega arith, omega arith, omega arith, omega arith)
-    go false e = from-sound (length s) 0 1 0 (linesOf s) (ltb-false maxTable (length s) e) (omega arith) (lines-placed s (length s) 0 (omega arith))
+    go false e = from-sound rules (length s) 0 1 0 (linesOf s) (ltb-false maxTable (length s) e) (omega arith) (lines-placed s (length s) 0 (omega arith))

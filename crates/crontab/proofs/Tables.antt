@@ -11,6 +11,7 @@ use lib.ListN.{length, getD, set, length-set}
 use lib.Seq.{getD-set-same, getD-set-other}
 use lib.Dec.{eqb, ltb}
 use borrow.Author.Tests.{lt-ltb, le-ltb, ne-eqb, eqb-true, eqb-false}
+use Rattle.crontab.specs.declared.Rules.{Rules}
 use Rattle.crontab.specs.declared.entry.Entry.{Entry}
 use Rattle.crontab.specs.declared.table.Table.{Table}
 use Rattle.crontab.specs.declared.table.Verdict.{Verdict}
@@ -46,9 +47,9 @@ verdict-found k es (fault number line column) = refl
 verdict-found k es (setting line name value later) = verdict-found k es later
 verdict-found k es (entry e later) = verdict-found (k + 1) (set es k e) later
 
-pub table-verdict : (s : List ℕ) → verdictFrom 0 (itemsOf s) ≡ verdictOf (tableOf s)
+pub table-verdict : (rules : Rules) (s : List ℕ) → verdictFrom 0 (itemsOf rules s) ≡ verdictOf (tableOf rules s)
 unfolding tableOf emptyTable refusedTable
-table-verdict s = verdict-found 0 noEntries (itemsOf s)
+table-verdict rules s = verdict-found 0 noEntries (itemsOf rules s)
 
 -- a fault refuses the whole table
 refused-in : (number line column i : ℕ) → 1 ≤ number → entryIn (refusedTable number line column) i ≡ Refused number
@@ -85,9 +86,9 @@ entry-found n k i es (entry e later) full sound =
     entry-found n (k + 1) i (set es k e) later (simp length-set full) (sound .2)
     ∙ rw (added-in k i es e (omega (arith, full, sound .1)))
 
-pub table-entry : (s : List ℕ) (i : ℕ) → entryIn (tableOf s) i ≡ entryFrom (Refused 13) 0 i (itemsOf s)
+pub table-entry : (rules : Rules) (s : List ℕ) (i : ℕ) → entryIn (tableOf rules s) i ≡ entryFrom (Refused 13) 0 i (itemsOf rules s)
 unfolding tableOf emptyTable refusedTable noEntries entryIn
-table-entry s i = entry-found (length s) 0 i noEntries (itemsOf s) refl (items-sound s) ∙ rw (none i)
+table-entry rules s i = entry-found (length s) 0 i noEntries (itemsOf rules s) refl (items-sound rules s) ∙ rw (none i)
   where
     none : (i : ℕ) → entryIn (good 0 noEntries) i ≡ Refused 13
     none i = rw (le-ltb i 0 (omega arith))

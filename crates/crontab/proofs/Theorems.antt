@@ -1,6 +1,7 @@
 -- What a caller may rely on: of a table that is read, of the entries it has, of where settings stand, and of how far ahead a firing is.
 --   table-sound, table-short: a table that is read; a good one is as long as it may be
 --   entry-sound, entry-told: an entry that is found, and the answer to a number
+--   owner-inside, owner-short: where an owner's parts stand
 --   setting-inside, setting-short: where name and value stand
 --   due-told, next-told: what is said of an entry, refused or not
 --   next-in-gap: a next firing that is told is at most 21,036,960 minutes ahead
@@ -8,12 +9,12 @@
 use mathlib.Core.Path.{_≡_, refl, sym, _∙_}
 use mathlib.Core.Bool.{Bool, true, false, cond}
 use mathlib.Core.List.{List}
-use Prim.Native.Nat.{ℕ, _+_, _≤_, _<_}
+use Prim.Native.Nat.{ℕ, _+_, _-_, _≤_, _<_}
 use native.Mathlib.Nat.{lt-of-not-le}
 use native.Mathlib.Decide.{decLe}
 use native.Mathlib.Omega.{arith}
-use lib.ListN.{length, getD, set, length-set}
-use lib.Seq.{getD-set-same, getD-set-other}
+use lib.ListN.{length, getD, set, drop, length-set, length-drop}
+use lib.Seq.{getD-set-same, getD-set-other, length-take-le}
 use lib.Dec.{eqb, leb, ltb}
 use borrow.Author.Tests.{ltb-true, ltb-false, eqb-true, eqb-false}
 use Rattle.calendar.specs.Dates.{lastMinute}
@@ -23,6 +24,16 @@ use Rattle.schedule.specs.declared.Next.the-variants as next
 use Rattle.schedule.specs.Next.{nextAfter}
 use Rattle.schedule.specs.Gap.{gap}
 use Rattle.schedule.proofs.Theorems.{next-on-calendar, next-within}
+use Rattle.crontab.specs.declared.Rules.{Rules}
+use Rattle.crontab.specs.declared.Part.{Part}
+use Rattle.crontab.specs.declared.Kind.{Kind}
+use Rattle.crontab.specs.declared.Kind.the-variants.{User, System}
+use Rattle.crontab.specs.declared.user.Owner.{Owner}
+use Rattle.bytes.specs.Runs.{between}
+use Rattle.crontab.specs.Users.{absent}
+use Rattle.crontab.specs.Entries.{byKind}
+use Rattle.crontab.specs.Owners.{nobody, lineOwner, shifted, shiftedAll, ownerFrom, ownerOf, ownerAnswer, ownerIn}
+use Rattle.crontab.proofs.Users.{owner-within}
 use Rattle.crontab.specs.declared.time.When.{When}
 use Rattle.crontab.specs.declared.time.When.the-variants.{Reboot, Timed}
 use Rattle.crontab.specs.declared.entry.Entry.{Entry}
@@ -36,7 +47,7 @@ use Rattle.crontab.specs.declared.firing.NextAnswer.{NextAnswer}
 use Rattle.crontab.specs.declared.firing.NextAnswer.the-variants.{At, Refused}
 use Rattle.crontab.specs.Limits.{maxTable, maxLine, maxEntries}
 use Rattle.crontab.specs.Lines.{linesOf}
-use Rattle.crontab.specs.Items.{Items, done, fault, setting, entry, itemsFrom, itemsOf}
+use Rattle.crontab.specs.Items.{Items, done, fault, setting, entry, moved, itemsFrom, itemsOf}
 use Rattle.crontab.specs.Tables.{blankEntry, noEntries, refusedTable, emptyTable, withEntry, withItems, tableOf, entryIn}
 use Rattle.crontab.specs.Settings.{refusedSetting, shown, settingFrom, settingIn}
 use Rattle.crontab.specs.Firings.{byWhen, firesAt, dueOf, told, nextOf, dueAnswer, dueIn, nextAnswer, nextIn}
@@ -48,7 +59,7 @@ use Rattle.crontab.proofs.Tables.{entryFrom, table-entry}
 
 -- A table of n bytes. Its entries are sound, and a refused one has none; a good one has no place of fault.
 pub record SoundTable (n : ℕ) (t : Table) : Type 0 where
-  pub number : t .refusal ≤ 12
+  pub number : t .refusal ≤ 20
   pub few : t .count ≤ maxEntries
   pub full : length (t .entries) ≡ maxEntries
   pub each : (i : ℕ) → i < t .count → Sound n (getD (t .entries) i blankEntry)
@@ -58,7 +69,7 @@ pub record SoundTable (n : ℕ) (t : Table) : Type 0 where
   pub column-few : t .column ≤ maxLine + 1
 
 module _ (n : ℕ) where
-  refused-sound : (number line column : ℕ) → 1 ≤ number → number ≤ 12 → line ≤ maxTable + 1 → column ≤ maxLine + 1 → SoundTable n (refusedTable number line column)
+  refused-sound : (number line column : ℕ) → 1 ≤ number → number ≤ 20 → line ≤ maxTable + 1 → column ≤ maxLine + 1 → SoundTable n (refusedTable number line column)
   unfolding refusedTable noEntries
   refused-sound number line column h k i j =
       record {
@@ -119,17 +130,17 @@ module _ (n : ℕ) where
         column-few = omega arith;
       }
 
-pub table-sound : (s : List ℕ) → SoundTable (length s) (tableOf s)
+pub table-sound : (rules : Rules) (s : List ℕ) → SoundTable (length s) (tableOf rules s)
 unfolding tableOf emptyTable refusedTable
-table-sound s = with-sound (length s) emptyTable (itemsOf s) refl (empty-sound (length s)) (items-sound s)
+table-sound rules s = with-sound (length s) emptyTable (itemsOf rules s) refl (empty-sound (length s)) (items-sound rules s)
 
 -- a table that isn't refused has at most so many bytes
-pub table-short : (s : List ℕ) → tableOf s .refusal ≡ 0 → length s ≤ maxTable
+pub table-short : (rules : Rules) (s : List ℕ) → tableOf rules s .refusal ≡ 0 → length s ≤ maxTable
 unfolding tableOf itemsOf withItems refusedTable
-table-short s = go (ltb maxTable (length s)) refl
+table-short rules s = go (ltb maxTable (length s)) refl
   where
     go : (b : Bool) → ltb maxTable (length s) ≡ b
-        → withItems emptyTable (cond b (fault 1 0 0) (itemsFrom 0 1 0 (linesOf s))) .refusal ≡ 0 → length s ≤ maxTable
+        → withItems emptyTable (cond b (fault 1 0 0) (itemsFrom rules 0 1 0 (linesOf s))) .refusal ≡ 0 → length s ≤ maxTable
     go true e z = absurd (omega arith)
     go false e z = ltb-false maxTable (length s) e
 
@@ -150,26 +161,86 @@ from-answered n k i f (entry e later) p q = from-answered n (k + 1) i (cond (eqb
     go true = q .0
     go false = p
 
-pub entry-sound : (s : List ℕ) (i : ℕ) {e : Entry} → entryIn (tableOf s) i ≡ answer.Found e → Sound (length s) e
-entry-sound s i e = rw (sym (table-entry s i) ∙ e) at (from-answered (length s) 0 i (answer.Refused 13) (itemsOf s) tt (items-sound s))
+pub entry-sound : (rules : Rules) (s : List ℕ) (i : ℕ) {e : Entry} → entryIn (tableOf rules s) i ≡ answer.Found e → Sound (length s) e
+entry-sound rules s i e = rw (sym (table-entry rules s i) ∙ e) at (from-answered (length s) 0 i (answer.Refused 13) (itemsOf rules s) tt (items-sound rules s))
 
 -- an answer of a table of n bytes: an entry, and then the table isn't refused; or a refusal
 abbrev pub EntryTold : ℕ → EntryAnswer → Type 0
 EntryTold n (answer.Found e) = (Sound n e) × (n ≤ maxTable)
 EntryTold n (answer.Refused number) = 1 ≤ number
 
-pub entry-told : (s : List ℕ) (i : ℕ) → EntryTold (length s) (entryIn (tableOf s) i)
+pub entry-told : (rules : Rules) (s : List ℕ) (i : ℕ) → EntryTold (length s) (entryIn (tableOf rules s) i)
 unfolding entryIn
-entry-told s i = go (eqb (t .refusal) 0) (ltb i (t .count)) refl refl
+entry-told rules s i = go (eqb (t .refusal) 0) (ltb i (t .count)) refl refl
   where
     t : Table
-    t = tableOf s
+    t = tableOf rules s
 
     go : (a b : Bool) → eqb (t .refusal) 0 ≡ a → ltb i (t .count) ≡ b
         → EntryTold (length s) (cond a (cond b (answer.Found (getD (t .entries) i blankEntry)) (answer.Refused 13)) (answer.Refused (t .refusal)))
-    go true true p q = (table-sound s .each i (ltb-true i (t .count) q), table-short s (eqb-true (t .refusal) 0 p))
+    go true true p q = (table-sound rules s .each i (ltb-true i (t .count) q), table-short rules s (eqb-true (t .refusal) 0 p))
     go true false p q = omega arith
     go false b p q = omega (arith, eqb-false (t .refusal) 0 p)
+
+-- ---- its owner
+
+pub record OwnerInside (n : ℕ) (o : Owner) : Type 0 where
+  pub user : Inside n (o .user)
+  pub group : Inside n (o .group)
+  pub class : Inside n (o .class)
+
+shifted-inside : (at m n : ℕ) (p : Part) → p .end ≤ m → at + m ≤ n → Inside n (shifted at p)
+unfolding shifted
+shifted-inside at m n p h k = go (ltb (p .start) (p .end)) refl
+  where
+    go : (t : Bool) → ltb (p .start) (p .end) ≡ t → Inside n (cond t (moved at p) absent)
+    go true e = let l = ltb-true (p .start) (p .end) e in record { order = omega arith; within = omega arith }
+    go false e = record { order = omega arith; within = omega arith }
+
+nobody-inside : (n : ℕ) → OwnerInside n nobody
+nobody-inside n =
+    record {
+      user = record { order = omega arith; within = omega arith };
+      group = record { order = omega arith; within = omega arith };
+      class = record { order = omega arith; within = omega arith };
+    }
+
+of-inside : (rules : Rules) (s : List ℕ) (e : Entry) → Sound (length s) e → OwnerInside (length s) (ownerOf rules s e)
+unfolding ownerOf ownerFrom between
+of-inside rules s e h = go (rules .kind)
+  where
+    l : List ℕ
+    l = between s (e .at) (e .end)
+
+    size : e .at + length l ≤ length s
+    size = omega (arith, length-take-le (e .end - e .at) (drop (e .at) s) (omega (arith, length-drop (e .at) s, h .line, h .some, h .within)), h .line, h .some, h .within)
+
+    go : (k : Kind) → OwnerInside (length s) (byKind k nobody (shiftedAll (e .at) (lineOwner l)))
+    go User = nobody-inside (length s)
+    go System =
+        let o = owner-within l in
+        record {
+          user = shifted-inside (e .at) (length l) (length s) _ (o .user) size;
+          group = shifted-inside (e .at) (length l) (length s) _ (o .group) size;
+          class = shifted-inside (e .at) (length l) (length s) _ (o .class) size;
+        }
+
+module _ (rules : Rules) (s : List ℕ) (i : ℕ) where
+  pub owner-inside : OwnerInside (length s) (ownerIn rules s i .owner)
+  unfolding ownerAnswer
+  owner-inside = go (entryIn (tableOf rules s) i) (entry-told rules s i)
+    where
+      go : (a : EntryAnswer) → EntryTold (length s) a → OwnerInside (length s) (ownerAnswer rules s a .owner)
+      go (answer.Found e) h = of-inside rules s e (h .0)
+      go (answer.Refused number) h = nobody-inside (length s)
+
+  pub owner-short : ownerIn rules s i .refusal ≡ 0 → length s ≤ maxTable
+  unfolding ownerAnswer
+  owner-short = go (entryIn (tableOf rules s) i) (entry-told rules s i)
+    where
+      go : (a : EntryAnswer) → EntryTold (length s) a → ownerAnswer rules s a .refusal ≡ 0 → length s ≤ maxTable
+      go (answer.Found e) h z = h .1
+      go (answer.Refused number) h z = absurd (omega arith)
 
 -- ---- a setting
 
@@ -197,17 +268,17 @@ module _ (n : ℕ) where
       go true = record { name = q .0; value = q .1 }
       go false = p
 
-pub setting-inside : (s : List ℕ) (k : ℕ) → SettingInside (length s) (settingIn (itemsOf s) k)
+pub setting-inside : (rules : Rules) (s : List ℕ) (k : ℕ) → SettingInside (length s) (settingIn (itemsOf rules s) k)
 unfolding settingIn
-setting-inside s k = from-inside (length s) 0 k (refusedSetting 19) (itemsOf s) (none-inside (length s) 19) (items-sound s)
+setting-inside rules s k = from-inside (length s) 0 k (refusedSetting 19) (itemsOf rules s) (none-inside (length s) 19) (items-sound rules s)
 
 -- a setting that is found stands in a table that isn't too long
-pub setting-short : (s : List ℕ) (k : ℕ) → settingIn (itemsOf s) k .refusal ≡ 0 → length s ≤ maxTable
+pub setting-short : (rules : Rules) (s : List ℕ) (k : ℕ) → settingIn (itemsOf rules s) k .refusal ≡ 0 → length s ≤ maxTable
 unfolding settingIn itemsOf settingFrom refusedSetting
-setting-short s k = go (ltb maxTable (length s)) refl
+setting-short rules s k = go (ltb maxTable (length s)) refl
   where
     go : (b : Bool) → ltb maxTable (length s) ≡ b
-        → settingFrom (refusedSetting 19) k (cond b (fault 1 0 0) (itemsFrom 0 1 0 (linesOf s))) .refusal ≡ 0 → length s ≤ maxTable
+        → settingFrom (refusedSetting 19) k (cond b (fault 1 0 0) (itemsFrom rules 0 1 0 (linesOf s))) .refusal ≡ 0 → length s ≤ maxTable
     go true e z = absurd (omega arith)
     go false e z = ltb-false maxTable (length s) e
 
@@ -231,9 +302,9 @@ due-of e m = go (leb m lastMinute) (firesAt e m)
     go true false = tt
     go false b = omega arith
 
-pub due-told : (s : List ℕ) (i m : ℕ) → DueTold (dueIn (tableOf s) i m)
+pub due-told : (rules : Rules) (s : List ℕ) (i m : ℕ) → DueTold (dueIn (tableOf rules s) i m)
 unfolding dueIn dueAnswer
-due-told s i m = go (entryIn (tableOf s) i) (entry-told s i)
+due-told rules s i m = go (entryIn (tableOf rules s) i) (entry-told rules s i)
   where
     go : (a : EntryAnswer) → EntryTold (length s) a → DueTold (dueAnswer a m)
     go (answer.Found e) h = due-of e m
@@ -253,9 +324,9 @@ next-of e m = go (leb m lastMinute) (e .when)
     go true Reboot = omega arith
     go true (Timed times) = firing times (nextAfter times m) refl
 
-pub next-told : (s : List ℕ) (i m : ℕ) → NextTold (nextIn (tableOf s) i m)
+pub next-told : (rules : Rules) (s : List ℕ) (i m : ℕ) → NextTold (nextIn (tableOf rules s) i m)
 unfolding nextIn nextAnswer
-next-told s i m = go (entryIn (tableOf s) i) (entry-told s i)
+next-told rules s i m = go (entryIn (tableOf rules s) i) (entry-told rules s i)
   where
     go : (a : EntryAnswer) → EntryTold (length s) a → NextTold (nextAnswer a m)
     go (answer.Found e) h = next-of e m

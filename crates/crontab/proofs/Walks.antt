@@ -7,6 +7,7 @@ use Prim.Native.Nat.{ℕ, _<_}
 use native.Mathlib.Omega.{arith}
 use lib.ListN.{set}
 use lib.Dec.{eqb}
+use Rattle.crontab.specs.declared.Rules.{Rules}
 use Rattle.crontab.specs.declared.Part.{Part}
 use Rattle.crontab.specs.declared.entry.Entry.{Entry}
 use Rattle.crontab.specs.declared.line.Fault.{Fault}
@@ -23,66 +24,66 @@ use Rattle.crontab.specs.Tables.{refusedTable, withEntry, withItems}
 use Rattle.crontab.specs.Settings.{refusedSetting, shown, settingFrom}
 use Rattle.crontab.proofs.Tables.{good, verdictFrom, entryFrom}
 
-module _ {s : List ℕ} {c : Cursor} {r : Step} (step : StepIs s c r) where
+module _ {rules : Rules} {s : List ℕ} {c : Cursor} {r : Step} (step : StepIs rules s c r) where
   module _ {x : Item} (is : r .item ≡ x) where
-    left : itemsAt s c ≡ given (c .line) x (itemsAt s (r .next))
+    left : itemsAt rules s c ≡ given (c .line) x (itemsAt rules s (r .next))
     left = step .gives ∙ rw is
 
     count : r .next .count ≡ counted x (c .count)
     count = step .counts ∙ rw is
 
-  pub verdict-entry : {e : Entry} → r .item ≡ item.Entry e → verdictFrom (r .next .count) (itemsAt s (r .next)) ≡ verdictFrom (c .count) (itemsAt s c)
+  pub verdict-entry : {e : Entry} → r .item ≡ item.Entry e → verdictFrom (r .next .count) (itemsAt rules s (r .next)) ≡ verdictFrom (c .count) (itemsAt rules s c)
   unfolding given counted verdictFrom
   verdict-entry is = rw (left is, count is)
 
   pub verdict-setting : {name value : Part} → r .item ≡ item.Setting name value
-      → verdictFrom (r .next .count) (itemsAt s (r .next)) ≡ verdictFrom (c .count) (itemsAt s c)
+      → verdictFrom (r .next .count) (itemsAt rules s (r .next)) ≡ verdictFrom (c .count) (itemsAt rules s c)
   unfolding given counted verdictFrom
   verdict-setting is = rw (left is, count is)
 
-  pub verdict-nothing : r .item ≡ item.Nothing → verdictFrom (r .next .count) (itemsAt s (r .next)) ≡ verdictFrom (c .count) (itemsAt s c)
+  pub verdict-nothing : r .item ≡ item.Nothing → verdictFrom (r .next .count) (itemsAt rules s (r .next)) ≡ verdictFrom (c .count) (itemsAt rules s c)
   unfolding given counted verdictFrom
   verdict-nothing is = rw (left is, count is)
 
   pub verdict-refused : {fault : Fault} → r .item ≡ item.Refused fault
-      → record { refusal = fault .number; line = c .line; column = fault .column; count = 0 } ≡ verdictFrom (c .count) (itemsAt s c)
+      → record { refusal = fault .number; line = c .line; column = fault .column; count = 0 } ≡ verdictFrom (c .count) (itemsAt rules s c)
   unfolding given verdictFrom
   verdict-refused is = rw (left is)
 
   module _ (f : EntryAnswer) (i : ℕ) where
     pub entry-here : {e : Entry} → r .item ≡ item.Entry e
-        → entryFrom (cond (eqb (c .count) i) (Found e) f) (r .next .count) i (itemsAt s (r .next)) ≡ entryFrom f (c .count) i (itemsAt s c)
+        → entryFrom (cond (eqb (c .count) i) (Found e) f) (r .next .count) i (itemsAt rules s (r .next)) ≡ entryFrom f (c .count) i (itemsAt rules s c)
     unfolding given counted entryFrom
     entry-here is = rw (left is, count is)
 
     pub entry-setting : {name value : Part} → r .item ≡ item.Setting name value
-        → entryFrom f (r .next .count) i (itemsAt s (r .next)) ≡ entryFrom f (c .count) i (itemsAt s c)
+        → entryFrom f (r .next .count) i (itemsAt rules s (r .next)) ≡ entryFrom f (c .count) i (itemsAt rules s c)
     unfolding given counted entryFrom
     entry-setting is = rw (left is, count is)
 
-    pub entry-nothing : r .item ≡ item.Nothing → entryFrom f (r .next .count) i (itemsAt s (r .next)) ≡ entryFrom f (c .count) i (itemsAt s c)
+    pub entry-nothing : r .item ≡ item.Nothing → entryFrom f (r .next .count) i (itemsAt rules s (r .next)) ≡ entryFrom f (c .count) i (itemsAt rules s c)
     unfolding given counted entryFrom
     entry-nothing is = rw (left is, count is)
 
-    pub entry-refused : {fault : Fault} → r .item ≡ item.Refused fault → Refused (fault .number) ≡ entryFrom f (c .count) i (itemsAt s c)
+    pub entry-refused : {fault : Fault} → r .item ≡ item.Refused fault → Refused (fault .number) ≡ entryFrom f (c .count) i (itemsAt rules s c)
     unfolding given entryFrom
     entry-refused is = rw (left is)
 
   module _ (f : SettingAnswer) (n : ℕ) where
     pub setting-here : {name value : Part} → r .item ≡ item.Setting name value
-        → settingFrom (cond (eqb (c .line) n) (shown name value) f) n (itemsAt s (r .next)) ≡ settingFrom f n (itemsAt s c)
+        → settingFrom (cond (eqb (c .line) n) (shown name value) f) n (itemsAt rules s (r .next)) ≡ settingFrom f n (itemsAt rules s c)
     unfolding given settingFrom
     setting-here is = rw (left is)
 
-    pub setting-entry : {e : Entry} → r .item ≡ item.Entry e → settingFrom f n (itemsAt s (r .next)) ≡ settingFrom f n (itemsAt s c)
+    pub setting-entry : {e : Entry} → r .item ≡ item.Entry e → settingFrom f n (itemsAt rules s (r .next)) ≡ settingFrom f n (itemsAt rules s c)
     unfolding given settingFrom
     setting-entry is = rw (left is)
 
-    pub setting-nothing : r .item ≡ item.Nothing → settingFrom f n (itemsAt s (r .next)) ≡ settingFrom f n (itemsAt s c)
+    pub setting-nothing : r .item ≡ item.Nothing → settingFrom f n (itemsAt rules s (r .next)) ≡ settingFrom f n (itemsAt rules s c)
     unfolding given settingFrom
     setting-nothing is = rw (left is)
 
-    pub setting-refused : {fault : Fault} → r .item ≡ item.Refused fault → refusedSetting (fault .number) ≡ settingFrom f n (itemsAt s c)
+    pub setting-refused : {fault : Fault} → r .item ≡ item.Refused fault → refusedSetting (fault .number) ≡ settingFrom f n (itemsAt rules s c)
     unfolding given settingFrom
     setting-refused is = rw (left is)
 
@@ -93,21 +94,21 @@ module _ {s : List ℕ} {c : Cursor} {r : Step} (step : StepIs s c r) where
 
   module _ (es : List Entry) where
     pub table-here : {e : Entry} → r .item ≡ item.Entry e
-        → withItems (good (r .next .count) (set es (c .count) e)) (itemsAt s (r .next)) ≡ withItems (good (c .count) es) (itemsAt s c)
+        → withItems (good (r .next .count) (set es (c .count) e)) (itemsAt rules s (r .next)) ≡ withItems (good (c .count) es) (itemsAt rules s c)
     unfolding given counted withItems withEntry
     table-here is = rw (left is, count is)
 
     pub table-setting : {name value : Part} → r .item ≡ item.Setting name value
-        → withItems (good (r .next .count) es) (itemsAt s (r .next)) ≡ withItems (good (c .count) es) (itemsAt s c)
+        → withItems (good (r .next .count) es) (itemsAt rules s (r .next)) ≡ withItems (good (c .count) es) (itemsAt rules s c)
     unfolding given counted withItems
     table-setting is = rw (left is, count is)
 
     pub table-nothing : r .item ≡ item.Nothing
-        → withItems (good (r .next .count) es) (itemsAt s (r .next)) ≡ withItems (good (c .count) es) (itemsAt s c)
+        → withItems (good (r .next .count) es) (itemsAt rules s (r .next)) ≡ withItems (good (c .count) es) (itemsAt rules s c)
     unfolding given counted withItems
     table-nothing is = rw (left is, count is)
 
     pub table-refused : {fault : Fault} → r .item ≡ item.Refused fault
-        → refusedTable (fault .number) (c .line) (fault .column) ≡ withItems (good (c .count) es) (itemsAt s c)
+        → refusedTable (fault .number) (c .line) (fault .column) ≡ withItems (good (c .count) es) (itemsAt rules s c)
     unfolding given withItems
     table-refused is = rw (left is)

@@ -8,20 +8,31 @@ use lib.ListN.{replicate}
 use Rattle.bytes.specs.Texts.{text}
 use Rattle.bytes.specs.Rows.{Hold}
 use Rattle.bytes.specs.Sets.{setOf, upTo}
+use Rattle.crontab.specs.declared.Part.{Part}
+use Rattle.crontab.specs.declared.Rules.{Rules}
+use Rattle.crontab.specs.declared.Kind.the-variants.{User, System}
 use Rattle.crontab.specs.declared.time.When.{When}
 use Rattle.crontab.specs.declared.time.When.the-variants.{Reboot, Timed}
 use Rattle.crontab.specs.declared.line.Line.{Line}
 use Rattle.crontab.specs.declared.line.Line.the-variants.{Ignored, Setting, Entry, Refused}
 use Rattle.crontab.specs.declared.table.EntryAnswer.{EntryAnswer}
 use Rattle.crontab.specs.declared.table.EntryAnswer.the-variants as answer
-use Rattle.crontab.specs.Limits.{maxTable, maxLine, maxEntries}
+use Rattle.crontab.specs.Limits.{maxTable, maxLine, maxEntries, maxAccount}
+use Rattle.crontab.specs.Users.{absent}
+use Rattle.crontab.specs.Owners.{ownerIn}
 use Rattle.crontab.specs.Lines.{readLine}
 use Rattle.crontab.specs.Items.{itemsOf}
 use Rattle.crontab.specs.Tables.{tableOf, entryIn, commandIn}
 use Rattle.crontab.specs.Settings.{settingIn, partBytes}
 use Rattle.crontab.specs.Computing.{reading}
 
--- ---- lines
+-- ---- lines of a user's table
+
+abbrev ofUser : Rules
+ofUser = record { kind = User }
+
+abbrev ofSystem : Rules
+ofSystem = record { kind = System }
 
 -- at midnight; whether the day fields begin with `*`
 abbrev midnight : List ℕ → List ℕ → List ℕ → Bool → Bool → When
@@ -55,7 +66,7 @@ refused number column = Refused (record { number = number; column = column })
 abbrev setting : ℕ → ℕ → ℕ → ℕ → Line
 setting n m v w = Setting (record { start = n; end = m }) (record { start = v; end = w })
 
-lines-read : Hold readLine
+lines-read : Hold (readLine ofUser)
     -- at the first field
     ((text "60 0 * * * x", refused 6 1)
     -- Monday to Friday; and at the fifth field from high to low, and a name of another field
@@ -114,10 +125,44 @@ lines-read : Hold readLine
 unfolding reading
 lines-read = refl
 
+-- ticket 2026-04: lines of a system table
+system-lines-read : Hold (readLine ofSystem)
+    -- the command stands behind the user
+    ((text "0 0 1 1 * root x", Entry (midnight (1 ∷ []) (1 ∷ []) (upTo 0 6) false true) 15)
+    ∷ (text "@reboot u:g/c  x", Entry Reboot 15)
+    ∷ (text "@reboot A_1.-/c x", Entry Reboot 16)
+    -- nothing behind the time, or behind the user: after the last byte
+    ∷ (text "@reboot ", refused 9 9)
+    ∷ (text "* * * * * cmd", refused 9 14)
+    ∷ (text "@reboot u:g ", refused 9 13)
+    -- a bad user, at its first byte, comes before a missing command, and a bad field before it
+    ∷ (text "@reboot -a", refused 20 9)
+    ∷ (text "60 0 * * * -a x", refused 6 1)
+    -- each part in its place, once, of the bytes it may have, and not empty
+    ∷ (text "@reboot a/c:b x", refused 20 9)
+    ∷ (text "@reboot a:b:c x", refused 20 9)
+    ∷ (text "@reboot a/b/c x", refused 20 9)
+    ∷ (text "@reboot :b x", refused 20 9)
+    ∷ (text "@reboot a: x", refused 20 9)
+    ∷ (text "@reboot a:/c x", refused 20 9)
+    ∷ (text "@reboot a:-b x", refused 20 9)
+    ∷ (text "@reboot a/-c x", refused 20 9)
+    ∷ (text "@reboot a$ x", refused 20 9)
+    -- as long as a part may be, and a byte more
+    ∷ (text "@reboot " ++ replicate maxAccount 97 ++ text " x", Entry Reboot 41)
+    ∷ (text "@reboot " ++ replicate (maxAccount + 1) 97 ++ text " x", refused 20 9)
+    ∷ (text "@reboot a:" ++ replicate (maxAccount + 1) 97 ++ text " x", refused 20 9)
+    -- settings and comments as in a user's
+    ∷ (text "A=b", setting 0 1 2 3)
+    ∷ (text "#", Ignored)
+    ∷ [])
+unfolding reading
+system-lines-read = refl
+
 -- ---- tables: the refusal, its line and column, and the count of entries
 
 abbrev fault : List ℕ → List ℕ
-fault s = let t = tableOf s in t .refusal ∷ t .line ∷ t .column ∷ t .count ∷ []
+fault s = let t = tableOf ofUser s in t .refusal ∷ t .line ∷ t .column ∷ t .count ∷ []
 
 times : ℕ → List ℕ → List ℕ
 times zero s = []
@@ -150,7 +195,7 @@ abbrev three : List ℕ
 three = text "A=b\n @reboot x y \n0 * * * * z\n'B C' = d e \n"
 
 abbrev found : ℕ → EntryAnswer × List ℕ
-found i = let e = entryIn (tableOf three) i in (e, commandIn three e)
+found i = let e = entryIn (tableOf ofUser three) i in (e, commandIn three e)
 
 entries-found : Hold found
     ((0, (answer.Found (record { when = Reboot; line = 2; at = 4; start = 13; end = 17 }), text "x y "))
@@ -161,7 +206,7 @@ unfolding reading
 entries-found = refl
 
 abbrev named : ℕ → ℕ × List ℕ × List ℕ
-named n = let a = settingIn (itemsOf three) n in (a .refusal, partBytes three (a .name), partBytes three (a .value))
+named n = let a = settingIn (itemsOf ofUser three) n in (a .refusal, partBytes three (a .name), partBytes three (a .value))
 
 settings-found : Hold named
     ((1, (0, text "A", text "b"))
@@ -170,3 +215,30 @@ settings-found : Hold named
     ∷ [])
 unfolding reading
 settings-found = refl
+
+-- ---- ticket 2026-04: owners, by the number of their entry: a refusal, and user, group and class
+
+abbrev watch : List ℕ
+watch = text "A=b\n @reboot u:g x\n0 * * * * v/c y\n@daily w:h/d z"
+
+abbrev owned : Rules → ℕ → ℕ × List Part
+owned rules i =
+    let a = ownerIn rules watch i in
+    (a .refusal, a .owner .user ∷ a .owner .group ∷ a .owner .class ∷ [])
+
+abbrev part : ℕ → ℕ → Part
+part start end = record { start = start; end = end }
+
+owners-found : Hold (owned ofSystem)
+    ((0, (0, part 13 14 ∷ part 15 16 ∷ absent ∷ []))
+    ∷ (1, (0, part 29 30 ∷ absent ∷ part 31 32 ∷ []))
+    ∷ (2, (0, part 42 43 ∷ part 44 45 ∷ part 46 47 ∷ []))
+    ∷ (3, (13, absent ∷ absent ∷ absent ∷ []))
+    ∷ [])
+unfolding reading
+owners-found = refl
+
+-- in a user's table what stands there is the command's
+nobody-found : Hold (owned ofUser) ((0, (0, absent ∷ absent ∷ absent ∷ [])) ∷ (3, (13, absent ∷ absent ∷ absent ∷ [])) ∷ [])
+unfolding reading
+nobody-found = refl

@@ -9,6 +9,7 @@ use lib.Dec.{ltb}
 use Rattle.crontab.specs.declared.entry.Entry.{Entry}
 use Rattle.crontab.specs.declared.Part.{Part}
 use Rattle.crontab.specs.declared.time.When.{When}
+use Rattle.crontab.specs.declared.Rules.{Rules}
 use Rattle.crontab.specs.declared.line.Line.{Line}
 use Rattle.crontab.specs.declared.line.Line.the-variants as line
 use Rattle.crontab.specs.Limits.{maxTable, maxEntries}
@@ -44,9 +45,9 @@ afterLine at n size k (line.Entry when start) later =
 afterLine at n size k (line.Refused f) later = fault (f .number) n (f .column)
 
 -- the next line starts a newline after this one
-unfoldable pub itemsFrom : ℕ → ℕ → ℕ → List (List ℕ) → Items
-itemsFrom at n k [] = done
-itemsFrom at n k (l ∷ ls) = afterLine at n (length l) k (readLine l) (λ j. itemsFrom (at + length l + 1) (n + 1) j ls)
+unfoldable pub itemsFrom : Rules → ℕ → ℕ → ℕ → List (List ℕ) → Items
+itemsFrom rules at n k [] = done
+itemsFrom rules at n k (l ∷ ls) = afterLine at n (length l) k (readLine rules l) (λ j. itemsFrom rules (at + length l + 1) (n + 1) j ls)
 
-unfoldable pub itemsOf : List ℕ → Items
-itemsOf s = cond (ltb maxTable (length s)) (fault tableTooLong 0 0) (itemsFrom 0 1 0 (linesOf s))
+unfoldable pub itemsOf : Rules → List ℕ → Items
+itemsOf rules s = cond (ltb maxTable (length s)) (fault tableTooLong 0 0) (itemsFrom rules 0 1 0 (linesOf s))

@@ -3,10 +3,12 @@ pub mod Refusals
 pub mod Assignments
 pub mod Times
 pub mod Words
+pub mod Users
 pub mod Entries
 pub mod Lines
 pub mod Items
 pub mod Tables
+pub mod Owners
 pub mod Settings
 pub mod Firings
 pub mod Steps

@@ -9,5 +9,9 @@ maxTable = 16384
 abbrev pub maxLine : ℕ
 maxLine = 1000
 
+-- a user, a group or a class
+abbrev pub maxAccount : ℕ
+maxAccount = 32
+
 abbrev pub maxEntries : ℕ
 maxEntries = 128

@@ -10,6 +10,7 @@ use Rattle.bytes.specs.Classes.{newline}
 use Rattle.bytes.specs.Runs.{skipped}
 use Rattle.field.specs.Numbers.{isDigit}
 use Rattle.field.specs.Fields.{asterisk}
+use Rattle.crontab.specs.declared.Rules.{Rules}
 use Rattle.crontab.specs.declared.line.Line.{Line}
 use Rattle.crontab.specs.declared.line.Line.the-variants.{Ignored, Refused}
 use Rattle.crontab.specs.Limits.{maxLine}
@@ -39,17 +40,17 @@ unfoldable pub startsEntry : ℕ → Bool
 startsEntry b = eqb b asterisk || (isDigit b || eqb b atSign)
 
 -- by its first byte that isn't blank
-unfoldable pub contentFrom : List ℕ → ℕ → ℕ → Line
-contentFrom s at first =
-    cond (eqb first hash) Ignored (cond (startsEntry first) (entryAt s at first) (settingAt s at))
+unfoldable pub contentFrom : Rules → List ℕ → ℕ → ℕ → Line
+contentFrom rules s at first =
+    cond (eqb first hash) Ignored (cond (startsEntry first) (entryAt rules s at) (settingAt s at))
 
 -- leading blanks are skipped, and an empty rest is ignored
-unfoldable pub contentOf : List ℕ → Line
-contentOf s = let at = skipped Blank s 0 in cond (leb (length s) at) Ignored (contentFrom s at (getD s at 0))
+unfoldable pub contentOf : Rules → List ℕ → Line
+contentOf rules s = let at = skipped Blank s 0 in cond (leb (length s) at) Ignored (contentFrom rules s at (getD s at 0))
 
-unfoldable pub readLine : List ℕ → Line
-readLine s =
+unfoldable pub readLine : Rules → List ℕ → Line
+readLine rules s =
     let nul = skipped (Not 0) s 0 in
     cond (ltb maxLine (length s))
     (Refused (record { number = lineTooLong; column = maxLine + 1 }))
-    (cond (ltb nul (length s)) (Refused (record { number = nulByte; column = nul + 1 })) (contentOf s))
+    (cond (ltb nul (length s)) (Refused (record { number = nulByte; column = nul + 1 })) (contentOf rules s))

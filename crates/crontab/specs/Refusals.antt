@@ -38,3 +38,7 @@ atBootOnly = 15
 -- the line asked for is no setting, or isn't there
 abbrev pub noSetting : ℕ
 noSetting = 19
+
+-- user column malformed
+abbrev pub badUser : ℕ
+badUser = 20

@@ -4,6 +4,7 @@ use mathlib.Core.Path.{_≡_}
 use Prim.Native.Nat.{ℕ, _+_, _≤_, _<_}
 use mathlib.Core.List.{List}
 use lib.ListN.{length, drop}
+use Rattle.crontab.specs.declared.Rules.{Rules}
 use Rattle.crontab.specs.declared.item.Cursor.{Cursor}
 use Rattle.crontab.specs.declared.item.Item.{Item}
 use Rattle.crontab.specs.declared.item.Item.the-variants as item
@@ -13,8 +14,8 @@ use Rattle.crontab.specs.Lines.{linesOf}
 use Rattle.crontab.specs.Items.{Items, fault, setting, entry, itemsFrom}
 
 -- the items from a cursor on
-unfoldable pub itemsAt : List ℕ → Cursor → Items
-itemsAt s c = itemsFrom (c .at) (c .line) (c .count) (linesOf (drop (c .at) s))
+unfoldable pub itemsAt : Rules → List ℕ → Cursor → Items
+itemsAt rules s c = itemsFrom rules (c .at) (c .line) (c .count) (linesOf (drop (c .at) s))
 
 -- a cursor of a table: as many lines and entries as there can be before it
 pub record Reached (s : List ℕ) (c : Cursor) : Type 0 where
@@ -37,8 +38,8 @@ counted (item.Entry e) k = k + 1
 counted (item.Refused f) k = k
 
 -- a step from a cursor: the line there, and the cursor behind it
-pub record StepIs (s : List ℕ) (c : Cursor) (r : Step) : Type 0 where
-  pub gives : itemsAt s c ≡ given (c .line) (r .item) (itemsAt s (r .next))
+pub record StepIs (rules : Rules) (s : List ℕ) (c : Cursor) (r : Step) : Type 0 where
+  pub gives : itemsAt rules s c ≡ given (c .line) (r .item) (itemsAt rules s (r .next))
   pub onward : c .at < r .next .at
   pub reached : Reached s (r .next)
   pub counts : r .next .count ≡ counted (r .item) (c .count)

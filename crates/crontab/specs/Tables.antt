@@ -7,6 +7,7 @@ use mathlib.Core.List.{List, []}
 use lib.ListN.{getD, set, replicate}
 use lib.Dec.{eqb, ltb}
 use Rattle.bytes.specs.Runs.{between}
+use Rattle.crontab.specs.declared.Rules.{Rules}
 use Rattle.crontab.specs.declared.time.When.the-variants.{Reboot}
 use Rattle.crontab.specs.declared.entry.Entry.{Entry}
 use Rattle.crontab.specs.declared.table.Table.{Table}
@@ -41,8 +42,8 @@ withItems t (fault number line column) = refusedTable number line column
 withItems t (setting line name value later) = withItems t later
 withItems t (entry e later) = withItems (withEntry t e) later
 
-unfoldable pub tableOf : List ℕ → Table
-tableOf s = withItems emptyTable (itemsOf s)
+unfoldable pub tableOf : Rules → List ℕ → Table
+tableOf rules s = withItems emptyTable (itemsOf rules s)
 
 -- without its entries
 unfoldable pub verdictOf : Table → Verdict

@@ -1,16 +1,24 @@
 // An entry: its time, and the command behind it.
 ghost use mathlib.Core.Path.{_≡_};
-ghost use Prim.Native.Nat.{_≤_, _<_};
+ghost use Prim.Native.Nat.{_≤_};
 ghost use lib.ListN.{length};
 ghost use Rattle.crontab.specs.Limits.{maxLine};
-ghost use Rattle.crontab.specs.Entries.{timeAt, withCommand, entryAt};
+ghost use Rattle.crontab.specs.Entries.{timeAt, withCommand, withUser, byKind, entryAt};
+use crate::BAD_USER;
+use crate::Kind;
 use crate::NO_COMMAND;
+use crate::Rules;
 use crate::line::Fault;
 use crate::line::Line;
 use crate::time;
 use crate::time::Time;
 use crate::time::When;
+use crate::user;
+use crate::user::Column;
 use crate::word;
+use bytes::class::Class;
+use bytes::run::byte_at;
+use bytes::run::skip;
 
 // An entry: the number of its line, where that line starts, and the bytes of its command, from `start` to before `end`.
 pub struct Entry {
@@ -21,12 +29,12 @@ pub struct Entry {
     pub end: u16,
 }
 
-// The time that starts at a place with this byte.
-fn time(s: &[u8], at: usize, first: u8) -> Time
-    requires { ⌜ (at < length (now s)) × (length (now s) ≤ maxLine) ⌝ }
-    ensures { λ r. ⌜ r ≡ timeAt (now (s .entry)) at first ⌝ }
+// The time that starts at a place.
+pub(crate) fn time(s: &[u8], at: usize) -> Time
+    requires { ⌜ length (now s) ≤ maxLine ⌝ }
+    ensures { λ r. ⌜ r ≡ timeAt (now (s .entry)) at ⌝ }
 {
-    if first == b'@' {
+    if byte_at(s, at) == b'@' {
         return word::read(s, at);
     }
     time::read(s, at)
@@ -46,13 +54,40 @@ fn with_command(s: &[u8], when: When, start: usize) -> Line
     })
 }
 
-// The entry that starts at a place with this byte.
-pub(crate) fn read(s: &[u8], at: usize, first: u8) -> Line
-    requires { ⌜ (at < length (now s)) × (length (now s) ≤ maxLine) ⌝ }
-    ensures { λ r. ⌜ r ≡ entryAt (now (s .entry)) at first ⌝ }
+// The user column from a place on, and the command behind it.
+fn with_user(s: &[u8], when: When, at: usize) -> Line
+    ensures { λ r. ⌜ r ≡ withUser (now (s .entry)) when at ⌝ }
 {
-    match time(s, at, first) {
-        Time::Read { when, next } => with_command(s, when, next),
+    if s.len() <= at {
+        return with_command(s, when, at);
+    }
+    match user::column_at(s, at) {
+        Column::Named { owner: _, next } => with_command(s, when, skip(s, next, Class::Blank)),
+        Column::Malformed => Line::Refused(Fault {
+            number: BAD_USER,
+            column: at + 1,
+        }),
+    }
+}
+
+// What follows the time, by the kind of table.
+fn after_time(s: &[u8], rules: Rules, when: When, next: usize) -> Line
+    ensures { λ r. ⌜ r ≡ byKind (rules .kind) (withCommand (now (s .entry)) when next) (withUser (now (s .entry)) when next) ⌝ }
+{
+    let kind = rules.kind;
+    match kind {
+        Kind::User => with_command(s, when, next),
+        Kind::System => with_user(s, when, next),
+    }
+}
+
+// The entry that starts at a place.
+pub(crate) fn read(s: &[u8], rules: Rules, at: usize) -> Line
+    requires { ⌜ length (now s) ≤ maxLine ⌝ }
+    ensures { λ r. ⌜ r ≡ entryAt rules (now (s .entry)) at ⌝ }
+{
+    match time(s, at) {
+        Time::Read { when, next } => after_time(s, rules, when, next),
         Time::Refused(fault) => Line::Refused(fault),
     }
 }

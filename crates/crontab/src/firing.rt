@@ -3,6 +3,7 @@ ghost use mathlib.Core.Path.{_≡_};
 ghost use Rattle.crontab.specs.Tables.{tableOf};
 ghost use Rattle.crontab.specs.Firings.{isBoot, firesOn, dueOf, told, nextOf, dueIn, nextIn};
 use crate::AT_BOOT_ONLY;
+use crate::Rules;
 use crate::entry::Entry;
 use crate::table::EntryAnswer;
 use crate::table::find_entry;
@@ -87,19 +88,19 @@ pub fn next_after(entry: Entry, minute: u64) -> NextAnswer
 }
 
 // The same of an entry of a table, by its number.
-pub fn due(s: &[u8], entry: u64, minute: u64) -> DueAnswer
-    ensures { λ r. ⌜ r ≡ dueIn (tableOf (now (s .entry))) entry minute ⌝ }
+pub fn due(s: &[u8], rules: Rules, entry: u64, minute: u64) -> DueAnswer
+    ensures { λ r. ⌜ r ≡ dueIn (tableOf rules (now (s .entry))) entry minute ⌝ }
 {
-    match find_entry(s, entry) {
+    match find_entry(s, rules, entry) {
         EntryAnswer::Found(found) => due_at(found, minute),
         EntryAnswer::Refused(number) => DueAnswer::Refused(number),
     }
 }
 
-pub fn next(s: &[u8], entry: u64, minute: u64) -> NextAnswer
-    ensures { λ r. ⌜ r ≡ nextIn (tableOf (now (s .entry))) entry minute ⌝ }
+pub fn next(s: &[u8], rules: Rules, entry: u64, minute: u64) -> NextAnswer
+    ensures { λ r. ⌜ r ≡ nextIn (tableOf rules (now (s .entry))) entry minute ⌝ }
 {
-    match find_entry(s, entry) {
+    match find_entry(s, rules, entry) {
         EntryAnswer::Found(found) => next_after(found, minute),
         EntryAnswer::Refused(number) => NextAnswer::Refused(number),
     }

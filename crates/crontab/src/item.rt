@@ -7,6 +7,7 @@ ghost use Rattle.crontab.specs.Items.{moved, placed};
 ghost use Rattle.crontab.specs.Steps.{Reached, StepIs};
 use crate::MAX_ENTRIES;
 use crate::Part;
+use crate::Rules;
 use crate::TOO_MANY_ENTRIES;
 use crate::entry::Entry;
 use crate::line;
@@ -69,9 +70,9 @@ fn placed(c: Cursor, size: usize, when: When, start: usize) -> Entry
 }
 
 // The line at a cursor, and the cursor behind it. One search finds the line's end and its first byte 0.
-pub(crate) fn advance(s: &[u8], c: Cursor) -> Step
+pub(crate) fn advance(s: &[u8], rules: Rules, c: Cursor) -> Step
     requires { ⌜ Reached (now s) c × (c .at < length (now s)) ⌝ }
-    ensures { λ r. ⌜ StepIs (now (s .entry)) c r ⌝ }
+    ensures { λ r. ⌜ StepIs rules (now (s .entry)) c r ⌝ }
 {
     let at = c.at;
     let stop = skip(s, at, Class::InLine);
@@ -81,7 +82,7 @@ pub(crate) fn advance(s: &[u8], c: Cursor) -> Step
         line: c.line + 1,
         count: c.count,
     };
-    match line::judge(&s[at..end], stop - at) {
+    match line::judge(&s[at..end], rules, stop - at) {
         Line::Ignored => Step {
             item: Item::Nothing,
             next,

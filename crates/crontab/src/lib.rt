@@ -4,9 +4,11 @@ pub mod entry;
 pub mod firing;
 mod item;
 mod line;
+pub mod owner;
 pub mod setting;
 pub mod table;
 pub mod time;
+pub mod user;
 mod word;
 
 pub const MAX_TABLE: usize = 16384;
@@ -14,6 +16,9 @@ pub const MAX_TABLE: usize = 16384;
 pub const MAX_LINE: usize = 1000;
 
 pub const MAX_ENTRIES: usize = 128;
+
+// A user, a group or a class.
+pub const MAX_ACCOUNT: usize = 32;
 
 // The refusals, by their numbers in paper 01; 5 to 8 are those of a field.
 pub const TABLE_TOO_LONG: u8 = 1;
@@ -37,6 +42,19 @@ pub const NO_SUCH_ENTRY: u8 = 13;
 pub const AT_BOOT_ONLY: u8 = 15;
 
 pub const NO_SETTING: u8 = 19;
+
+pub const BAD_USER: u8 = 20;
+
+// The kinds of tables: those of users, and the system's, in which a user stands between the time and the command.
+pub enum Kind {
+    User,
+    System,
+}
+
+// How a table is read.
+pub struct Rules {
+    pub kind: Kind,
+}
 
 // The bytes from `start` to before `end`.
 pub struct Part {

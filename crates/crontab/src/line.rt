@@ -10,6 +10,7 @@ use crate::LINE_TOO_LONG;
 use crate::MAX_LINE;
 use crate::NUL_BYTE;
 use crate::Part;
+use crate::Rules;
 use crate::assignment;
 use crate::entry;
 use crate::time::When;
@@ -40,9 +41,9 @@ fn starts_entry(b: u8) -> bool
 }
 
 // A line that is short enough and has no byte 0, by its first byte that isn't blank.
-fn content(s: &[u8]) -> Line
+fn content(s: &[u8], rules: Rules) -> Line
     requires { ⌜ length (now s) ≤ maxLine ⌝ }
-    ensures { λ r. ⌜ r ≡ contentOf (now (s .entry)) ⌝ }
+    ensures { λ r. ⌜ r ≡ contentOf rules (now (s .entry)) ⌝ }
 {
     let at = skip(s, 0, Class::Blank);
     if s.len() <= at {
@@ -53,15 +54,15 @@ fn content(s: &[u8]) -> Line
         return Line::Ignored;
     }
     if starts_entry(first) {
-        return entry::read(s, at, first);
+        return entry::read(s, rules, at);
     }
     assignment::read(s, at)
 }
 
 // A line whose first byte 0 stands at a place, or one that has none and ends there.
-pub(crate) fn judge(s: &[u8], nul: usize) -> Line
+pub(crate) fn judge(s: &[u8], rules: Rules, nul: usize) -> Line
     requires { ⌜ nul ≡ skipped (Not 0) (now s) 0 ⌝ }
-    ensures { λ r. ⌜ r ≡ readLine (now (s .entry)) ⌝ }
+    ensures { λ r. ⌜ r ≡ readLine rules (now (s .entry)) ⌝ }
 {
     if MAX_LINE < s.len() {
         return Line::Refused(Fault {
@@ -75,5 +76,5 @@ pub(crate) fn judge(s: &[u8], nul: usize) -> Line
             column: nul + 1,
         });
     }
-    content(s)
+    content(s, rules)
 }

@@ -6,6 +6,7 @@ ghost use Rattle.crontab.specs.Settings.{refusedSetting, shown, settingI
 use crate::MAX_TABLE;
 use crate::NO_SETTING;
 use crate::Part;
+use crate::Rules;
 use crate::TABLE_TOO_LONG;
 use crate::item;
 use crate::item::Item;
@@ -43,8 +44,8 @@ fn shown_or(chosen: bool, name: Part, value: Part, other: SettingAnswer) -> Sett
 }
 
 // The setting of a line, which is counted from 1.
-pub fn read(s: &[u8], line: u64) -> SettingAnswer
-    ensures { λ r. ⌜ r ≡ settingIn (itemsOf (now (s .entry))) line ⌝ }
+pub fn read(s: &[u8], rules: Rules, line: u64) -> SettingAnswer
+    ensures { λ r. ⌜ r ≡ settingIn (itemsOf rules (now (s .entry))) line ⌝ }
 {
     if MAX_TABLE < s.len() {
         return refused(TABLE_TOO_LONG);
@@ -53,7 +54,7 @@ pub fn read(s: &[u8], line: u64) -> SettingAnswer
     let mut c = item::START;
     while c.at < s.len() {
         let at_line = c.line as u64;
-        let step = item::advance(s, c);
+        let step = item::advance(s, rules, c);
         c = step.next;
         let item = step.item;
         match item {
@@ -67,10 +68,10 @@ pub fn read(s: &[u8], line: u64) -> SettingAnswer
 }
 
 // Its name as a part of the table, empty where it is refused.
-pub fn name(s: &[u8], line: u64) -> &[u8]
-    ensures { λ r. ⌜ now r ≡ partBytes (now (s .entry)) (settingIn (itemsOf (now (s .entry))) line .name) ⌝ }
+pub fn name(s: &[u8], rules: Rules, line: u64) -> &[u8]
+    ensures { λ r. ⌜ now r ≡ partBytes (now (s .entry)) (settingIn (itemsOf rules (now (s .entry))) line .name) ⌝ }
 {
-    let found = read(s, line);
+    let found = read(s, rules, line);
     let part = found.name;
     let start = part.start;
     let end = part.end;
@@ -78,10 +79,10 @@ pub fn name(s: &[u8], line: u64) -> &[u8]
 }
 
 // Its value, likewise.
-pub fn value(s: &[u8], line: u64) -> &[u8]
-    ensures { λ r. ⌜ now r ≡ partBytes (now (s .entry)) (settingIn (itemsOf (now (s .entry))) line .value) ⌝ }
+pub fn value(s: &[u8], rules: Rules, line: u64) -> &[u8]
+    ensures { λ r. ⌜ now r ≡ partBytes (now (s .entry)) (settingIn (itemsOf rules (now (s .entry))) line .value) ⌝ }
 {
-    let found = read(s, line);
+    let found = read(s, rules, line);
     let part = found.value;
     let start = part.start;
     let end = part.end;

@@ -6,6 +6,7 @@ ghost use Rattle.crontab.specs.Tables.{refusedTable, tableOf, verdictOf,
 use crate::MAX_ENTRIES;
 use crate::MAX_TABLE;
 use crate::NO_SUCH_ENTRY;
+use crate::Rules;
 use crate::TABLE_TOO_LONG;
 use crate::entry::Entry;
 use crate::item;
@@ -57,8 +58,8 @@ fn refused(number: u8, line: usize, column: usize) -> Table
 }
 
 // Any bytes as a table.
-pub fn read(s: &[u8]) -> Table
-    ensures { λ r. ⌜ r ≡ tableOf (now (s .entry)) ⌝ }
+pub fn read(s: &[u8], rules: Rules) -> Table
+    ensures { λ r. ⌜ r ≡ tableOf rules (now (s .entry)) ⌝ }
 {
     if MAX_TABLE < s.len() {
         return refused(TABLE_TOO_LONG, 0, 0);
@@ -68,7 +69,7 @@ pub fn read(s: &[u8]) -> Table
     while c.at < s.len() {
         let count = c.count;
         let line = c.line;
-        let step = item::advance(s, c);
+        let step = item::advance(s, rules, c);
         c = step.next;
         let item = step.item;
         match item {
@@ -88,8 +89,8 @@ pub fn read(s: &[u8]) -> Table
 }
 
 // Whether the bytes are a table, and how many entries it has or where its fault is. No entry is kept.
-pub fn check(s: &[u8]) -> Verdict
-    ensures { λ r. ⌜ r ≡ verdictOf (tableOf (now (s .entry))) ⌝ }
+pub fn check(s: &[u8], rules: Rules) -> Verdict
+    ensures { λ r. ⌜ r ≡ verdictOf (tableOf rules (now (s .entry))) ⌝ }
 {
     if MAX_TABLE < s.len() {
         return Verdict {
@@ -102,7 +103,7 @@ pub fn check(s: &[u8]) -> Verdict
     let mut c = item::START;
     while c.at < s.len() {
         let line = c.line;
-        let step = item::advance(s, c);
+        let step = item::advance(s, rules, c);
         c = step.next;
         let item = step.item;
         match item {
@@ -138,8 +139,8 @@ fn found_or(chosen: bool, entry: Entry, other: EntryAnswer) -> EntryAnswer
 }
 
 // The entry of a number, counted from 0. No entry but that one is kept.
-pub fn find_entry(s: &[u8], entry: u64) -> EntryAnswer
-    ensures { λ r. ⌜ r ≡ entryIn (tableOf (now (s .entry))) entry ⌝ }
+pub fn find_entry(s: &[u8], rules: Rules, entry: u64) -> EntryAnswer
+    ensures { λ r. ⌜ r ≡ entryIn (tableOf rules (now (s .entry))) entry ⌝ }
 {
     if MAX_TABLE < s.len() {
         return EntryAnswer::Refused(TABLE_TOO_LONG);
@@ -148,7 +149,7 @@ pub fn find_entry(s: &[u8], entry: u64) -> EntryAnswer
     let mut c = item::START;
     while c.at < s.len() {
         let count = c.count as u64;
-        let step = item::advance(s, c);
+        let step = item::advance(s, rules, c);
         c = step.next;
         let item = step.item;
         match item {
@@ -162,10 +163,10 @@ pub fn find_entry(s: &[u8], entry: u64) -> EntryAnswer
 }
 
 // The command of an entry as a part of the table, empty where it is refused.
-pub fn command(s: &[u8], entry: u64) -> &[u8]
-    ensures { λ r. ⌜ now r ≡ commandIn (now (s .entry)) (entryIn (tableOf (now (s .entry))) entry) ⌝ }
+pub fn command(s: &[u8], rules: Rules, entry: u64) -> &[u8]
+    ensures { λ r. ⌜ now r ≡ commandIn (now (s .entry)) (entryIn (tableOf rules (now (s .entry))) entry) ⌝ }
 {
-    let EntryAnswer::Found(found) = find_entry(s, entry) else {
+    let EntryAnswer::Found(found) = find_entry(s, rules, entry) else {
         return &s[0..0];
     };
     let start = found.start as usize;

@@ -15,6 +15,7 @@ use Rattle.bytes.specs.Laid.{laid}
 use Rattle.calendar.specs.declared.DateAnswer.{DateAnswer}
 use Rattle.calendar.specs.Dates.{lastMinute, dateAt, noDate, dateOf, minuteOf}
 use Rattle.calendar.proofs.Theorems.{parts-within, date-minute-date}
+use Rattle.crontab.specs.declared.Rules.{Rules}
 use Rattle.crontab.specs.declared.entry.Entry.{Entry}
 use Rattle.crontab.specs.declared.table.EntryAnswer.{EntryAnswer}
 use Rattle.crontab.specs.declared.table.EntryAnswer.the-variants as entry
@@ -27,8 +28,12 @@ use Rattle.crontab.specs.Items.{itemsOf}
 use Rattle.crontab.specs.Tables.{tableOf, entryIn}
 use Rattle.crontab.specs.Settings.{settingIn}
 use Rattle.crontab.proofs.Sound.{Sound}
-use Rattle.crontab.proofs.Theorems.{EntryTold, DueTold, NextTold, table-sound, entry-told, setting-inside, setting-short}
-use Rattle.command.specs.declared.Input.{Input}
+use Rattle.crontab.specs.declared.owner.OwnerAnswer.{OwnerAnswer}
+use Rattle.crontab.specs.Owners.{ownerIn}
+use Rattle.eremothyn.specs.declared.owners.Owned.{Owned}
+use Rattle.eremothyn.specs.declared.owners.Owned.the-variants.{UserOffset, UserLength, GroupOffset, GroupLength, ClassOffset, ClassLength}
+use Rattle.eremothyn.specs.Owners.{ownedIn, ownerNumber}
+use Rattle.crontab.proofs.Theorems.{OwnerInside, owner-inside, owner-short, EntryTold, DueTold, NextTold, table-sound, entry-told, setting-inside, setting-short}
 use Rattle.command.specs.declared.SplitAnswer.{SplitAnswer}
 use Rattle.command.specs.declared.SplitAnswer.the-variants as split
 use Rattle.command.specs.Parts.{Stdin, absent, given, shellLine, inputOf, textOf, inputLength}
@@ -87,22 +92,41 @@ minute-tells year month day hour minute =
 
 -- ---- tables and settings
 
-pub check-tells : (table : List ℕ) → Tells (byRefusal (tableOf table .refusal)) (checkNumber (tableOf table))
+pub check-tells : (rules : Rules) (table : List ℕ) → Tells (byRefusal (tableOf rules table .refusal)) (checkNumber (tableOf rules table))
 unfolding checkNumber
-check-tells table = answer-tells (tableOf table .refusal) (tableOf table .count) (λ z. omega (arith, table-sound table .few))
+check-tells rules table = answer-tells (tableOf rules table .refusal) (tableOf rules table .count) (λ z. omega (arith, table-sound rules table .few))
 
-pub setting-tells : (table : List ℕ) (line : ℕ) (what : Shown)
-    → let a = settingIn (itemsOf table) line in Tells (byRefusal (a .refusal)) (settingNumber a what)
+pub setting-tells : (rules : Rules) (table : List ℕ) (line : ℕ) (what : Shown)
+    → let a = settingIn (itemsOf rules table) line in Tells (byRefusal (a .refusal)) (settingNumber a what)
 unfolding settingNumber
-setting-tells table line what =
-    answer-tells (settingIn (itemsOf table) line .refusal) (shownIn (settingIn (itemsOf table) line) what)
-    (λ z. small what (setting-short table line z))
+setting-tells rules table line what =
+    answer-tells (settingIn (itemsOf rules table) line .refusal) (shownIn (settingIn (itemsOf rules table) line) what)
+    (λ z. small what (setting-short rules table line z))
   where
-    small : (what : Shown) → length table ≤ maxTable → shownIn (settingIn (itemsOf table) line) what ≤ refusedFrom
-    small NameOffset h = let i = setting-inside table line .name in omega (arith, i .order, i .within)
-    small NameLength h = let i = setting-inside table line .name in omega (arith, i .order, i .within)
-    small ValueOffset h = let i = setting-inside table line .value in omega (arith, i .order, i .within)
-    small ValueLength h = let i = setting-inside table line .value in omega (arith, i .order, i .within)
+    small : (what : Shown) → length table ≤ maxTable → shownIn (settingIn (itemsOf rules table) line) what ≤ refusedFrom
+    small NameOffset h = let i = setting-inside rules table line .name in omega (arith, i .order, i .within)
+    small NameLength h = let i = setting-inside rules table line .name in omega (arith, i .order, i .within)
+    small ValueOffset h = let i = setting-inside rules table line .value in omega (arith, i .order, i .within)
+    small ValueLength h = let i = setting-inside rules table line .value in omega (arith, i .order, i .within)
+
+-- ---- owners
+
+pub owner-tells : (rules : Rules) (table : List ℕ) (i : ℕ) (what : Owned)
+    → let a = ownerIn rules table i in Tells (byRefusal (a .refusal)) (ownerNumber a what)
+unfolding ownerNumber
+owner-tells rules table i what =
+    answer-tells (a .refusal) (ownedIn (a .owner) what) (λ z. small what (owner-short rules table i z) (owner-inside rules table i))
+  where
+    a : OwnerAnswer
+    a = ownerIn rules table i
+
+    small : (what : Owned) → length table ≤ maxTable → OwnerInside (length table) (a .owner) → ownedIn (a .owner) what ≤ refusedFrom
+    small UserOffset h o = omega (arith, o .user .order, o .user .within)
+    small UserLength h o = omega (arith, o .user .order, o .user .within)
+    small GroupOffset h o = omega (arith, o .group .order, o .group .within)
+    small GroupLength h o = omega (arith, o .group .order, o .group .within)
+    small ClassOffset h o = omega (arith, o .class .order, o .class .within)
+    small ClassLength h o = omega (arith, o .class .order, o .class .within)
 
 -- ---- entries
 
@@ -144,10 +168,10 @@ step-tells c shell input h = go (haveRoom c shell input)
     go true = omega (arith, split-length c)
     go false = (omega arith, refl)
 
-pub split-tells : (table : List ℕ) (i : ℕ) (shell input : List ℕ)
-    → let a = splitOf table i shell input .answer in Tells (bySplit a) (splitNumber a)
+pub split-tells : (rules : Rules) (table : List ℕ) (i : ℕ) (shell input : List ℕ)
+    → let a = splitOf rules table i shell input .answer in Tells (bySplit a) (splitNumber a)
 unfolding splitOf splitIn splitNumber
-split-tells table i shell input = go (entryIn (tableOf table) i) (entry-told table i)
+split-tells rules table i shell input = go (entryIn (tableOf rules table) i) (entry-told rules table i)
   where
     go : (x : EntryAnswer) → EntryTold (length table) x → let a = splitIn table x shell input .answer in Tells (bySplit a) (splitNumber a)
     go (entry.Found e) (s, h) = step-tells (between table (e .start) (e .end)) shell input (omega (arith, command-length table e s))
@@ -158,9 +182,9 @@ unfolding inputNumber inputLength textOf
 input-small n absent h k = omega arith
 input-small n (given t) h k = omega arith
 
-pub stdin-tells : (table : List ℕ) (i : ℕ) → Tells (byEntry (entryIn (tableOf table) i)) (stdinLength table i)
+pub stdin-tells : (rules : Rules) (table : List ℕ) (i : ℕ) → Tells (byEntry (entryIn (tableOf rules table) i)) (stdinLength rules table i)
 unfolding stdinLength stdinIn
-stdin-tells table i = go (entryIn (tableOf table) i) (entry-told table i)
+stdin-tells rules table i = go (entryIn (tableOf rules table) i) (entry-told rules table i)
   where
     go : (x : EntryAnswer) → EntryTold (length table) x → Tells (byEntry x) (stdinIn table x)
     go (entry.Found e) (s, h) =
@@ -202,10 +226,10 @@ step-stays c shell input = go (haveRoom c shell input)
     go true = (tt, tt)
     go false = (refl, refl)
 
-pub split-stays : (table : List ℕ) (i : ℕ) (shell input : List ℕ)
-    → let s = splitOf table i shell input in Stays (bySplit (s .answer)) shell (s .shell) × Stays (bySplit (s .answer)) input (s .input)
+pub split-stays : (rules : Rules) (table : List ℕ) (i : ℕ) (shell input : List ℕ)
+    → let s = splitOf rules table i shell input in Stays (bySplit (s .answer)) shell (s .shell) × Stays (bySplit (s .answer)) input (s .input)
 unfolding splitOf splitIn
-split-stays table i shell input = go (entryIn (tableOf table) i)
+split-stays rules table i shell input = go (entryIn (tableOf rules table) i)
   where
     go : (x : EntryAnswer)
         → let s = splitIn table x shell input in Stays (bySplit (s .answer)) shell (s .shell) × Stays (bySplit (s .answer)) input (s .input)

@@ -27,18 +27,20 @@ use Rattle.runqueue.specs.Calls.{initTable, tickTable, popTable}
 use Rattle.runqueue.proofs.Theorems.{init-told, tick-told, pop-told, init-stays, tick-stays, pop-stays}
 use Rattle.crontab.specs.Computing.{reading}
 use Rattle.command.specs.Computing.{splitting}
+use Rattle.eremothyn.specs.Rules.{rulesOf}
 use Rattle.eremothyn.specs.Entries.{nextNumber}
 use Rattle.eremothyn.specs.KnownDays.{KnownDays}
 use Rattle.eremothyn.specs.Apart.{ToldApart, RefusedStays}
-use Rattle.eremothyn.proofs.Apart.{part-tells, minute-tells, check-tells, setting-tells, due-tells, next-tells, split-tells, stdin-tells, tick-tells, pop-tells, split-stays, tick-keeps, pop-keeps}
+use Rattle.eremothyn.proofs.Apart.{part-tells, minute-tells, check-tells, setting-tells, owner-tells, due-tells, next-tells}
+use Rattle.eremothyn.proofs.Apart.{split-tells, stdin-tells, tick-tells, pop-tells, split-stays, tick-keeps, pop-keeps}
 
 -- the table's first entry is timed, and its command ends a byte behind its start
 abbrev reads : List ℕ → Schedule → ℕ → ℕ → Type 0
-reads s times start end = entryIn (tableOf s) 0 ≡ Found (record { when = Timed times; line = 1; at = 0; start = start; end = end })
+reads s times start end = entryIn (tableOf (rulesOf 0) s) 0 ≡ Found (record { when = Timed times; line = 1; at = 0; start = start; end = end })
 
 -- the next firing of a table's first entry, by its schedule's
 firing : (s : List ℕ) (times : Schedule) (start end m : ℕ) → reads s times start end → m ≤ lastMinute
-    → nextIn (tableOf s) 0 m ≡ told (nextAfter times m)
+    → nextIn (tableOf (rulesOf 0) s) 0 m ≡ told (nextAfter times m)
 unfolding nextIn nextAnswer nextOf
 firing s times start end m e h = rw (e, le-leb m lastMinute h)
 
@@ -77,12 +79,12 @@ known-days = (
 )
 
 -- `0 0 29 2 */7` after 62,147,520 (2088-02-29): 83,184,480 (2128-02-29)
-pub gap-reached : nextNumber (nextIn (tableOf (text "0 0 29 2 */7 a")) 0 62147520) ≡ 83184480
+pub gap-reached : nextNumber (nextIn (tableOf (rulesOf 0) (text "0 0 29 2 */7 a")) 0 62147520) ≡ 83184480
 unfolding nextNumber told
 gap-reached = ap nextNumber (firing _ leapSundays 13 14 _ (entries .5) (lit≤ tt) ∙ ap told firings.gap-reached)
 
 -- `0 0 30 2 *` is never due: 16 after every minute of the calendar
-pub february-30 : (m : ℕ) → m ≤ lastMinute → nextNumber (nextIn (tableOf (text "0 0 30 2 * a")) 0 m) ≡ 4294967312
+pub february-30 : (m : ℕ) → m ≤ lastMinute → nextNumber (nextIn (tableOf (rulesOf 0) (text "0 0 30 2 * a")) 0 m) ≡ 4294967312
 unfolding nextNumber told schedules firings.ever
 february-30 m h = ap nextNumber (firing _ february30 11 12 m (entries .2) h ∙ ap told (firings.never february30 m refl))
 
@@ -93,18 +95,23 @@ told-apart =
       year-to-weekday = part-tells;
       minute-of-date = minute-tells;
       check = check-tells;
-      fault-line = λ table. omega (arith, table-sound table .line-few);
-      fault-column = λ table. omega (arith, table-sound table .column-few);
-      due = λ table i minute. due-tells (dueIn (tableOf table) i minute) (due-told table i minute);
-      next = λ table i minute. next-tells (nextIn (tableOf table) i minute) (next-told table i minute);
+      fault-line = λ rules table. omega (arith, table-sound rules table .line-few);
+      fault-column = λ rules table. omega (arith, table-sound rules table .column-few);
+      due = λ rules table i minute. due-tells (dueIn (tableOf rules table) i minute) (due-told rules table i minute);
+      next = λ rules table i minute. next-tells (nextIn (tableOf rules table) i minute) (next-told rules table i minute);
       setting = setting-tells;
+      owner = owner-tells;
       split-command = split-tells;
       stdin-length = stdin-tells;
-      queue-init = λ table room. tick-tells (tableOf table .count) (initTable (tableOf table) room .answer) (table-sound table .few) (init-told (tableOf table) room);
+      queue-init =
+          λ rules table room. let t = tableOf rules table in
+          tick-tells (t .count) (initTable t room .answer) (table-sound rules table .few) (init-told t room);
       queue-tick =
-          λ table room minute.
-          tick-tells (tableOf table .count) (tickTable (tableOf table) minute room .answer) (table-sound table .few) (tick-told (tableOf table) room minute);
-      queue-pop = λ table room. pop-tells (tableOf table .count) (popTable (tableOf table) room .answer) (table-sound table .few) (pop-told (tableOf table) room);
+          λ rules table room minute. let t = tableOf rules table in
+          tick-tells (t .count) (tickTable t minute room .answer) (table-sound rules table .few) (tick-told t room minute);
+      queue-pop =
+          λ rules table room. let t = tableOf rules table in
+          pop-tells (t .count) (popTable t room .answer) (table-sound rules table .few) (pop-told t room);
     }
 
 -- a refused call changes no byte
@@ -112,10 +119,10 @@ pub refused-stays : RefusedStays
 refused-stays =
     record {
       split-command = split-stays;
-      queue-init = λ table room. let s = initTable (tableOf table) room in tick-keeps (s .answer) room (s .room) (init-stays (tableOf table) room);
+      queue-init = λ rules table room. let s = initTable (tableOf rules table) room in tick-keeps (s .answer) room (s .room) (init-stays (tableOf rules table) room);
       queue-tick =
-          λ table room minute.
-          let s = tickTable (tableOf table) minute room in
-          tick-keeps (s .answer) room (s .room) (λ n. tick-stays (tableOf table) room n minute);
-      queue-pop = λ table room. let s = popTable (tableOf table) room in pop-keeps (s .answer) room (s .room) (pop-stays (tableOf table) room);
+          λ rules table room minute.
+          let s = tickTable (tableOf rules table) minute room in
+          tick-keeps (s .answer) room (s .room) (λ n. tick-stays (tableOf rules table) room n minute);
+      queue-pop = λ rules table room. let s = popTable (tableOf rules table) room in pop-keeps (s .answer) room (s .room) (pop-stays (tableOf rules table) room);
     }

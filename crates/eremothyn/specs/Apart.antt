@@ -6,6 +6,7 @@ use mathlib.Core.Path.{_≡_}
 use Prim.Native.Nat.{ℕ, zero, suc, _+_, _≤_}
 use mathlib.Core.List.{List}
 use Rattle.calendar.specs.Dates.{dateOf, minuteOf}
+use Rattle.crontab.specs.declared.Rules.{Rules}
 use Rattle.crontab.specs.declared.table.EntryAnswer.{EntryAnswer}
 use Rattle.crontab.specs.declared.table.EntryAnswer.the-variants as entry
 use Rattle.crontab.specs.declared.firing.DueAnswer.{DueAnswer}
@@ -30,6 +31,9 @@ use Rattle.eremothyn.specs.Dates.{datePart, dateMinute}
 use Rattle.eremothyn.specs.Tables.{checkNumber}
 use Rattle.eremothyn.specs.Entries.{dueNumber, nextNumber}
 use Rattle.eremothyn.specs.Settings.{settingNumber}
+use Rattle.eremothyn.specs.declared.owners.Owned.{Owned}
+use Rattle.crontab.specs.Owners.{ownerIn}
+use Rattle.eremothyn.specs.Owners.{ownerNumber}
 use Rattle.eremothyn.specs.Commands.{splitNumber, splitOf, stdinLength}
 use Rattle.eremothyn.specs.Queue.{tickNumber, popNumber}
 
@@ -82,19 +86,21 @@ pub record ToldApart : Type 0 where
   pub year-to-weekday : (minute : ℕ) (part : DatePart) → Tells (byRefusal (dateOf minute .refusal)) (datePart minute part)
   pub minute-of-date : (year month day hour minute : ℕ)
       → Tells (byRefusal (minuteOf year month day hour minute .refusal)) (dateMinute year month day hour minute)
-  pub check : (table : List ℕ) → Tells (byRefusal (tableOf table .refusal)) (checkNumber (tableOf table))
-  pub fault-line : (table : List ℕ) → Tells granted (tableOf table .line)
-  pub fault-column : (table : List ℕ) → Tells granted (tableOf table .column)
-  pub due : (table : List ℕ) (i minute : ℕ) → let a = dueIn (tableOf table) i minute in Tells (byDue a) (dueNumber a)
-  pub next : (table : List ℕ) (i minute : ℕ) → let a = nextIn (tableOf table) i minute in Tells (byNext a) (nextNumber a)
-  pub setting : (table : List ℕ) (line : ℕ) (what : Shown)
-      → let a = settingIn (itemsOf table) line in Tells (byRefusal (a .refusal)) (settingNumber a what)
-  pub split-command : (table : List ℕ) (i : ℕ) (shell input : List ℕ)
-      → let a = splitOf table i shell input .answer in Tells (bySplit a) (splitNumber a)
-  pub stdin-length : (table : List ℕ) (i : ℕ) → Tells (byEntry (entryIn (tableOf table) i)) (stdinLength table i)
-  pub queue-init : (table room : List ℕ) → let a = initTable (tableOf table) room .answer in Tells (byTick a) (tickNumber a)
-  pub queue-tick : (table room : List ℕ) (minute : ℕ) → let a = tickTable (tableOf table) minute room .answer in Tells (byTick a) (tickNumber a)
-  pub queue-pop : (table room : List ℕ) → let a = popTable (tableOf table) room .answer in Tells (byPop a) (popNumber a)
+  pub check : (rules : Rules) (table : List ℕ) → Tells (byRefusal (tableOf rules table .refusal)) (checkNumber (tableOf rules table))
+  pub fault-line : (rules : Rules) (table : List ℕ) → Tells granted (tableOf rules table .line)
+  pub fault-column : (rules : Rules) (table : List ℕ) → Tells granted (tableOf rules table .column)
+  pub due : (rules : Rules) (table : List ℕ) (i minute : ℕ) → let a = dueIn (tableOf rules table) i minute in Tells (byDue a) (dueNumber a)
+  pub next : (rules : Rules) (table : List ℕ) (i minute : ℕ) → let a = nextIn (tableOf rules table) i minute in Tells (byNext a) (nextNumber a)
+  pub setting : (rules : Rules) (table : List ℕ) (line : ℕ) (what : Shown)
+      → let a = settingIn (itemsOf rules table) line in Tells (byRefusal (a .refusal)) (settingNumber a what)
+  pub owner : (rules : Rules) (table : List ℕ) (i : ℕ) (what : Owned)
+      → let a = ownerIn rules table i in Tells (byRefusal (a .refusal)) (ownerNumber a what)
+  pub split-command : (rules : Rules) (table : List ℕ) (i : ℕ) (shell input : List ℕ)
+      → let a = splitOf rules table i shell input .answer in Tells (bySplit a) (splitNumber a)
+  pub stdin-length : (rules : Rules) (table : List ℕ) (i : ℕ) → Tells (byEntry (entryIn (tableOf rules table) i)) (stdinLength rules table i)
+  pub queue-init : (rules : Rules) (table room : List ℕ) → let a = initTable (tableOf rules table) room .answer in Tells (byTick a) (tickNumber a)
+  pub queue-tick : (rules : Rules) (table room : List ℕ) (minute : ℕ) → let a = tickTable (tableOf rules table) minute room .answer in Tells (byTick a) (tickNumber a)
+  pub queue-pop : (rules : Rules) (table room : List ℕ) → let a = popTable (tableOf rules table) room .answer in Tells (byPop a) (popNumber a)
 
 -- ---- a refused call changes no byte
 
@@ -104,8 +110,8 @@ Stays (refused n) before after = after ≡ before
 
 -- for every call that is lent bytes to write on
 pub record RefusedStays : Type 0 where
-  pub split-command : (table : List ℕ) (i : ℕ) (shell input : List ℕ)
-      → let s = splitOf table i shell input in Stays (bySplit (s .answer)) shell (s .shell) × Stays (bySplit (s .answer)) input (s .input)
-  pub queue-init : (table room : List ℕ) → let s = initTable (tableOf table) room in Stays (byTick (s .answer)) room (s .room)
-  pub queue-tick : (table room : List ℕ) (minute : ℕ) → let s = tickTable (tableOf table) minute room in Stays (byTick (s .answer)) room (s .room)
-  pub queue-pop : (table room : List ℕ) → let s = popTable (tableOf table) room in Stays (byPop (s .answer)) room (s .room)
+  pub split-command : (rules : Rules) (table : List ℕ) (i : ℕ) (shell input : List ℕ)
+      → let s = splitOf rules table i shell input in Stays (bySplit (s .answer)) shell (s .shell) × Stays (bySplit (s .answer)) input (s .input)
+  pub queue-init : (rules : Rules) (table room : List ℕ) → let s = initTable (tableOf rules table) room in Stays (byTick (s .answer)) room (s .room)
+  pub queue-tick : (rules : Rules) (table room : List ℕ) (minute : ℕ) → let s = tickTable (tableOf rules table) minute room in Stays (byTick (s .answer)) room (s .room)
+  pub queue-pop : (rules : Rules) (table room : List ℕ) → let s = popTable (tableOf rules table) room in Stays (byPop (s .answer)) room (s .room)

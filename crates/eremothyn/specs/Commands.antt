@@ -3,6 +3,7 @@
 -- Assumes nothing.
 use Prim.Native.Nat.{ℕ, _+_}
 use mathlib.Core.List.{List}
+use Rattle.crontab.specs.declared.Rules.{Rules}
 use Rattle.crontab.specs.declared.table.EntryAnswer.{EntryAnswer}
 use Rattle.crontab.specs.declared.table.EntryAnswer.the-variants as entry
 use Rattle.bytes.specs.Runs.{between}
@@ -29,12 +30,12 @@ unfoldable pub splitIn : List ℕ → EntryAnswer → List ℕ → List ℕ → 
 splitIn table (entry.Found e) shell input = splitStep (between table (e .start) (e .end)) shell input
 splitIn table (entry.Refused number) shell input = record { answer = split.Refused number; shell = shell; input = input }
 
-unfoldable pub splitOf : List ℕ → ℕ → List ℕ → List ℕ → Split
-splitOf table i shell input = splitIn table (entryIn (tableOf table) i) shell input
+unfoldable pub splitOf : Rules → List ℕ → ℕ → List ℕ → List ℕ → Split
+splitOf rules table i shell input = splitIn table (entryIn (tableOf rules table) i) shell input
 
 unfoldable pub stdinIn : List ℕ → EntryAnswer → ℕ
 stdinIn table (entry.Found e) = inputNumber (inputLength (inputOf (between table (e .start) (e .end))))
 stdinIn table (entry.Refused number) = refusedFrom + number
 
-unfoldable pub stdinLength : List ℕ → ℕ → ℕ
-stdinLength table i = stdinIn table (entryIn (tableOf table) i)
+unfoldable pub stdinLength : Rules → List ℕ → ℕ → ℕ
+stdinLength rules table i = stdinIn table (entryIn (tableOf rules table) i)

@@ -14,11 +14,12 @@ use Rattle.eremothyn.specs.Dates.{datePart, dateMinute}
 use Rattle.eremothyn.specs.Tables.{checkNumber}
 use Rattle.eremothyn.specs.Entries.{dueNumber, nextNumber}
 use Rattle.eremothyn.specs.Settings.{settingNumber}
+use Rattle.eremothyn.specs.Owners.{ownerNumber}
 use Rattle.eremothyn.specs.Commands.{splitNumber, inputNumber, splitIn, splitOf, stdinIn, stdinLength}
 use Rattle.eremothyn.specs.Queue.{tickNumber, popNumber}
 
 unfoldable pub answering : Unit {0}
 unfolding dating firing reading isBoot firesOn firesAt dueOf told nextOf dueAnswer dueIn nextAnswer nextIn splitting running jobAt jobsOf
-    initTable tickTable popTable answerOf datePart dateMinute checkNumber dueNumber nextNumber settingNumber splitNumber inputNumber
+    initTable tickTable popTable answerOf datePart dateMinute checkNumber dueNumber nextNumber settingNumber ownerNumber splitNumber inputNumber
     splitIn splitOf stdinIn stdinLength tickNumber popNumber
 answering = tt

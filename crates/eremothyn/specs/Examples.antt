@@ -9,11 +9,15 @@ use Rattle.bytes.specs.Texts.{text}
 use Rattle.bytes.specs.Rows.{Hold}
 use Rattle.crontab.specs.Items.{itemsOf}
 use Rattle.crontab.specs.Tables.{tableOf}
+use Rattle.crontab.specs.Owners.{ownerIn}
 use Rattle.crontab.specs.Settings.{settingIn}
 use Rattle.crontab.specs.Firings.{dueIn, nextIn}
 use Rattle.runqueue.specs.Calls.{initTable, tickTable, popTable}
+use Rattle.eremothyn.specs.Rules.{rulesOf}
 use Rattle.eremothyn.specs.declared.dates.DatePart.the-variants.{Year, Month, Day, Hour, Minute, Weekday}
 use Rattle.eremothyn.specs.declared.settings.Shown.the-variants.{NameOffset, NameLength, ValueOffset, ValueLength}
+use Rattle.eremothyn.specs.declared.owners.Owned.the-variants.{UserOffset, UserLength, GroupOffset, GroupLength, ClassOffset, ClassLength}
+use Rattle.eremothyn.specs.Owners.{ownerNumber}
 use Rattle.eremothyn.specs.Dates.{datePart, dateMinute}
 use Rattle.eremothyn.specs.Tables.{checkNumber}
 use Rattle.eremothyn.specs.Entries.{dueNumber, nextNumber}
@@ -52,7 +56,7 @@ minutes = refl
 -- ---- tables: the answer of a check, and the line and the column of its fault
 
 abbrev checked : List ℕ → List ℕ
-checked s = let t = tableOf s in checkNumber t ∷ t .line ∷ t .column ∷ []
+checked s = let t = tableOf (rulesOf 0) s in checkNumber t ∷ t .line ∷ t .column ∷ []
 
 tables : Hold checked
     ((text "@reboot x\n0 * * * * y", 2 ∷ 0 ∷ 0 ∷ [])
@@ -62,13 +66,49 @@ tables : Hold checked
 unfolding answering
 tables = refl
 
+-- ---- ticket 2026-04: a table is a user's where its kind is 0, else the system's
+
+-- of an entry, where user, group and class start, and how long each is
+abbrev watch : List ℕ
+watch = text "A=b\n@reboot u:gh x\n0 * * * * v/c y"
+
+abbrev owned : ℕ × ℕ → List ℕ
+owned (kind, i) =
+    let a = ownerIn (rulesOf kind) watch i in
+    ownerNumber a UserOffset ∷ ownerNumber a UserLength ∷ ownerNumber a GroupOffset ∷ ownerNumber a GroupLength ∷ ownerNumber a ClassOffset
+    ∷ ownerNumber a ClassLength ∷ []
+
+owners : Hold owned
+    (((1, 0), 12 ∷ 1 ∷ 14 ∷ 2 ∷ 0 ∷ 0 ∷ [])
+    ∷ ((18446744073709551615, 1), 29 ∷ 1 ∷ 0 ∷ 0 ∷ 31 ∷ 1 ∷ [])
+    -- no user stands in a user's table; no such entry: 13
+    ∷ ((0, 0), 0 ∷ 0 ∷ 0 ∷ 0 ∷ 0 ∷ 0 ∷ [])
+    ∷ ((1, 2), 4294967309 ∷ 4294967309 ∷ 4294967309 ∷ 4294967309 ∷ 4294967309 ∷ 4294967309 ∷ [])
+    ∷ [])
+unfolding answering
+owners = refl
+
+-- the check of a table by its kind, and the line and the column of its fault
+abbrev checkedAs : ℕ × List ℕ → List ℕ
+checkedAs (kind, s) = let t = tableOf (rulesOf kind) s in checkNumber t ∷ t .line ∷ t .column ∷ []
+
+kinds : Hold checkedAs
+    -- 20 at the user, 9 behind it; a user's table has neither
+    (((1, text "@reboot x\n"), 4294967305 ∷ 1 ∷ 10 ∷ [])
+    ∷ ((1, text "\n@reboot -a x\n"), 4294967316 ∷ 2 ∷ 9 ∷ [])
+    ∷ ((2, text "@reboot a x\n"), 1 ∷ 0 ∷ 0 ∷ [])
+    ∷ ((0, text "@reboot -a x\n"), 1 ∷ 0 ∷ 0 ∷ [])
+    ∷ [])
+unfolding answering
+kinds = refl
+
 -- ---- entries: one at boot, and one at the hour
 
 abbrev pair : List ℕ
 pair = text "@reboot x\n0 * * * * y\n"
 
 abbrev dueOn : List ℕ × ℕ × ℕ → ℕ
-dueOn (s, i, m) = dueNumber (dueIn (tableOf s) i m)
+dueOn (s, i, m) = dueNumber (dueIn (tableOf (rulesOf 0) s) i m)
 
 due : Hold dueOn
     -- at minute 60, not at 61, and a boot job never
@@ -88,7 +128,7 @@ unfolding answering
 due = refl
 
 abbrev nextOn : List ℕ × ℕ × ℕ → ℕ
-nextOn (s, i, m) = nextNumber (nextIn (tableOf s) i m)
+nextOn (s, i, m) = nextNumber (nextIn (tableOf (rulesOf 0) s) i m)
 
 next : Hold nextOn
     -- 15 of a boot job; 14 comes before it, 13 before 14, and a refused table before all
@@ -105,7 +145,7 @@ next = refl
 
 abbrev shown : List ℕ × ℕ → List ℕ
 shown (s, n) =
-    let found = settingIn (itemsOf s) n in
+    let found = settingIn (itemsOf (rulesOf 0) s) n in
     settingNumber found NameOffset ∷ settingNumber found NameLength ∷ settingNumber found ValueOffset ∷ settingNumber found ValueLength ∷ []
 
 settings : Hold shown
@@ -135,8 +175,8 @@ input = text "===="
 
 abbrev splitAt : ℕ → ℕ × List ℕ × List ℕ × ℕ
 splitAt i =
-    let r = splitOf commands i shell input in
-    (splitNumber (r .answer), r .shell, r .input, stdinLength commands i)
+    let r = splitOf (rulesOf 0) commands i shell input in
+    (splitNumber (r .answer), r .shell, r .input, stdinLength (rulesOf 0) commands i)
 
 splits : Hold splitAt
     -- on line 2, with an input
@@ -162,9 +202,9 @@ data Ask : Type 0 where
 -- one after the other, each with the room that the last one left
 run : List ℕ → List ℕ → List Ask → List ℕ
 run table room [] = []
-run table room (init ∷ asks) = let s = initTable (tableOf table) room in tickNumber (s .answer) ∷ run table (s .room) asks
-run table room (tick minute ∷ asks) = let s = tickTable (tableOf table) minute room in tickNumber (s .answer) ∷ run table (s .room) asks
-run table room (pop ∷ asks) = let s = popTable (tableOf table) room in popNumber (s .answer) ∷ run table (s .room) asks
+run table room (init ∷ asks) = let s = initTable (tableOf (rulesOf 0) table) room in tickNumber (s .answer) ∷ run table (s .room) asks
+run table room (tick minute ∷ asks) = let s = tickTable (tableOf (rulesOf 0) table) minute room in tickNumber (s .answer) ∷ run table (s .room) asks
+run table room (pop ∷ asks) = let s = popTable (tableOf (rulesOf 0) table) room in popNumber (s .answer) ∷ run table (s .room) asks
 
 -- "Whole run: table `* * * * * a`, `@reboot b`, `0 * * * * c`. Request: entry 1. Announce 59: 1 joined. Announce 60: 1 joined. Requests:
 -- entry 0, entry 2, nothing."

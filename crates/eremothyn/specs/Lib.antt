@@ -1,9 +1,11 @@
 pub mod Answer
+pub mod Rules
 pub mod Dates
 pub mod Tables
 pub mod Entries
 pub mod Commands
 pub mod Settings
+pub mod Owners
 pub mod Queue
 pub mod Computing
 pub mod Examples

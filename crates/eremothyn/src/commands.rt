@@ -1,7 +1,9 @@
 // Commands: splitting one into the buffers that the caller lends, and the length of its standard input.
 ghost use mathlib.Core.Path.{_≡_};
+ghost use Rattle.eremothyn.specs.Rules.{rulesOf};
 ghost use Rattle.eremothyn.specs.Commands.{splitNumber, inputNumber, splitOf, stdinLength};
 use crate::answer::REFUSED;
+use crate::rules::rules_of;
 use command::Input;
 use command::SplitAnswer;
 use crontab::table::EntryAnswer;
@@ -29,15 +31,16 @@ fn input_number(input: Input) -> u64
 #[no_mangle]
 pub extern "C" fn eremothyn_split_command(
     table: &[u8],
+    kind: u64,
     entry: u64,
     shell: &mut [u8],
     input: &mut [u8],
 ) -> u64
-    ensures answer { λ r. ⌜ r ≡ splitNumber (splitOf (now (table .entry)) entry (now (shell .entry)) (now (input .entry)) .answer) ⌝ }
-    ensures shell { λ _. ⌜ now (shell .exit) ≡ splitOf (now (table .entry)) entry (now (shell .entry)) (now (input .entry)) .shell ⌝ }
-    ensures input { λ _. ⌜ now (input .exit) ≡ splitOf (now (table .entry)) entry (now (shell .entry)) (now (input .entry)) .input ⌝ }
+    ensures answer { λ r. ⌜ r ≡ splitNumber (splitOf (rulesOf kind) (now (table .entry)) entry (now (shell .entry)) (now (input .entry)) .answer) ⌝ }
+    ensures shell { λ _. ⌜ now (shell .exit) ≡ splitOf (rulesOf kind) (now (table .entry)) entry (now (shell .entry)) (now (input .entry)) .shell ⌝ }
+    ensures input { λ _. ⌜ now (input .exit) ≡ splitOf (rulesOf kind) (now (table .entry)) entry (now (shell .entry)) (now (input .entry)) .input ⌝ }
 {
-    match crontab::table::find_entry(table, entry) {
+    match crontab::table::find_entry(table, rules_of(kind), entry) {
         EntryAnswer::Found(found) => {
             let start = found.start as usize;
             let end = found.end as usize;
@@ -48,10 +51,10 @@ pub extern "C" fn eremothyn_split_command(
 }
 
 #[no_mangle]
-pub extern "C" fn eremothyn_stdin_length(table: &[u8], entry: u64) -> u64
-    ensures { λ r. ⌜ r ≡ stdinLength (now (table .entry)) entry ⌝ }
+pub extern "C" fn eremothyn_stdin_length(table: &[u8], kind: u64, entry: u64) -> u64
+    ensures { λ r. ⌜ r ≡ stdinLength (rulesOf kind) (now (table .entry)) entry ⌝ }
 {
-    match crontab::table::find_entry(table, entry) {
+    match crontab::table::find_entry(table, rules_of(kind), entry) {
         EntryAnswer::Found(found) => {
             let start = found.start as usize;
             let end = found.end as usize;

@@ -2,17 +2,19 @@
 ghost use mathlib.Core.Path.{_≡_};
 ghost use Rattle.crontab.specs.Tables.{tableOf};
 ghost use Rattle.crontab.specs.Firings.{dueIn, nextIn};
+ghost use Rattle.eremothyn.specs.Rules.{rulesOf};
 ghost use Rattle.eremothyn.specs.Entries.{dueNumber, nextNumber};
 use crate::answer::REFUSED;
+use crate::rules::rules_of;
 use crontab::firing;
 use crontab::firing::DueAnswer;
 use crontab::firing::NextAnswer;
 
 #[no_mangle]
-pub extern "C" fn eremothyn_due(table: &[u8], entry: u64, minute: u64) -> u64
-    ensures { λ r. ⌜ r ≡ dueNumber (dueIn (tableOf (now (table .entry))) entry minute) ⌝ }
+pub extern "C" fn eremothyn_due(table: &[u8], kind: u64, entry: u64, minute: u64) -> u64
+    ensures { λ r. ⌜ r ≡ dueNumber (dueIn (tableOf (rulesOf kind) (now (table .entry))) entry minute) ⌝ }
 {
-    match firing::due(table, entry, minute) {
+    match firing::due(table, rules_of(kind), entry, minute) {
         DueAnswer::Yes => 1,
         DueAnswer::No => 0,
         DueAnswer::Refused(number) => REFUSED + number as u64,
@@ -20,10 +22,10 @@ pub extern "C" fn eremothyn_due(table: &[u8], entry: u64, minute: u64) -> u64
 }
 
 #[no_mangle]
-pub extern "C" fn eremothyn_next(table: &[u8], entry: u64, minute: u64) -> u64
-    ensures { λ r. ⌜ r ≡ nextNumber (nextIn (tableOf (now (table .entry))) entry minute) ⌝ }
+pub extern "C" fn eremothyn_next(table: &[u8], kind: u64, entry: u64, minute: u64) -> u64
+    ensures { λ r. ⌜ r ≡ nextNumber (nextIn (tableOf (rulesOf kind) (now (table .entry))) entry minute) ⌝ }
 {
-    match firing::next(table, entry, minute) {
+    match firing::next(table, rules_of(kind), entry, minute) {
         NextAnswer::At(m) => m,
         NextAnswer::Refused(number) => REFUSED + number as u64,
     }

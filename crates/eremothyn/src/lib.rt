@@ -3,6 +3,8 @@ mod answer;
 pub mod commands;
 pub mod dates;
 pub mod entries;
+pub mod owners;
 pub mod queue;
+mod rules;
 pub mod settings;
 pub mod tables;

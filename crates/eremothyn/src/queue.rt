@@ -2,8 +2,10 @@
 ghost use mathlib.Core.Path.{_≡_};
 ghost use Rattle.crontab.specs.Tables.{tableOf};
 ghost use Rattle.runqueue.specs.Calls.{initTable, tickTable, popTable};
+ghost use Rattle.eremothyn.specs.Rules.{rulesOf};
 ghost use Rattle.eremothyn.specs.Queue.{tickNumber, popNumber};
 use crate::answer::REFUSED;
+use crate::rules::rules_of;
 use fifo::Popped;
 use fifo::Ticked;
 
@@ -29,25 +31,25 @@ fn popped_number(popped: Popped) -> u64
 }
 
 #[no_mangle]
-pub extern "C" fn eremothyn_queue_init(table: &[u8], room: &mut [u8]) -> u64
-    ensures answer { λ r. ⌜ r ≡ tickNumber (initTable (tableOf (now (table .entry))) (now (room .entry)) .answer) ⌝ }
-    ensures room { λ _. ⌜ now (room .exit) ≡ initTable (tableOf (now (table .entry))) (now (room .entry)) .room ⌝ }
+pub extern "C" fn eremothyn_queue_init(table: &[u8], kind: u64, room: &mut [u8]) -> u64
+    ensures answer { λ r. ⌜ r ≡ tickNumber (initTable (tableOf (rulesOf kind) (now (table .entry))) (now (room .entry)) .answer) ⌝ }
+    ensures room { λ _. ⌜ now (room .exit) ≡ initTable (tableOf (rulesOf kind) (now (table .entry))) (now (room .entry)) .room ⌝ }
 {
-    ticked_number(runqueue::init(table, room))
+    ticked_number(runqueue::init(table, rules_of(kind), room))
 }
 
 #[no_mangle]
-pub extern "C" fn eremothyn_queue_tick(table: &[u8], room: &mut [u8], minute: u64) -> u64
-    ensures answer { λ r. ⌜ r ≡ tickNumber (tickTable (tableOf (now (table .entry))) minute (now (room .entry)) .answer) ⌝ }
-    ensures room { λ _. ⌜ now (room .exit) ≡ tickTable (tableOf (now (table .entry))) minute (now (room .entry)) .room ⌝ }
+pub extern "C" fn eremothyn_queue_tick(table: &[u8], kind: u64, room: &mut [u8], minute: u64) -> u64
+    ensures answer { λ r. ⌜ r ≡ tickNumber (tickTable (tableOf (rulesOf kind) (now (table .entry))) minute (now (room .entry)) .answer) ⌝ }
+    ensures room { λ _. ⌜ now (room .exit) ≡ tickTable (tableOf (rulesOf kind) (now (table .entry))) minute (now (room .entry)) .room ⌝ }
 {
-    ticked_number(runqueue::tick(table, room, minute))
+    ticked_number(runqueue::tick(table, rules_of(kind), room, minute))
 }
 
 #[no_mangle]
-pub extern "C" fn eremothyn_queue_pop(table: &[u8], room: &mut [u8]) -> u64
-    ensures answer { λ r. ⌜ r ≡ popNumber (popTable (tableOf (now (table .entry))) (now (room .entry)) .answer) ⌝ }
-    ensures room { λ _. ⌜ now (room .exit) ≡ popTable (tableOf (now (table .entry))) (now (room .entry)) .room ⌝ }
+pub extern "C" fn eremothyn_queue_pop(table: &[u8], kind: u64, room: &mut [u8]) -> u64
+    ensures answer { λ r. ⌜ r ≡ popNumber (popTable (tableOf (rulesOf kind) (now (table .entry))) (now (room .entry)) .answer) ⌝ }
+    ensures room { λ _. ⌜ now (room .exit) ≡ popTable (tableOf (rulesOf kind) (now (table .entry))) (now (room .entry)) .room ⌝ }
 {
-    popped_number(runqueue::pop(table, room))
+    popped_number(runqueue::pop(table, rules_of(kind), room))
 }

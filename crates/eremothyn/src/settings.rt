@@ -3,8 +3,10 @@ ghost use mathlib.Core.Path.{_≡_};
 ghost use Prim.Native.Nat.{_≤_};
 ghost use Rattle.crontab.specs.Items.{itemsOf};
 ghost use Rattle.crontab.specs.Settings.{settingIn};
+ghost use Rattle.eremothyn.specs.Rules.{rulesOf};
 ghost use Rattle.eremothyn.specs.Settings.{shownIn, settingNumber};
 use crate::answer::answer;
+use crate::rules::rules_of;
 use crontab::setting;
 use crontab::setting::SettingAnswer;
 
@@ -30,37 +32,37 @@ fn shown_in(found: SettingAnswer, what: Shown) -> u64
     }
 }
 
-fn setting_number(table: &[u8], line: u64, what: Shown) -> u64
-    ensures { λ r. ⌜ r ≡ settingNumber (settingIn (itemsOf (now (table .entry))) line) what ⌝ }
+fn setting_number(table: &[u8], kind: u64, line: u64, what: Shown) -> u64
+    ensures { λ r. ⌜ r ≡ settingNumber (settingIn (itemsOf (rulesOf kind) (now (table .entry))) line) what ⌝ }
 {
-    let found = setting::read(table, line);
+    let found = setting::read(table, rules_of(kind), line);
     answer(found.refusal, shown_in(found, what))
 }
 
 #[no_mangle]
-pub extern "C" fn eremothyn_setting_name_offset(table: &[u8], line: u64) -> u64
-    ensures { λ r. ⌜ r ≡ settingNumber (settingIn (itemsOf (now (table .entry))) line) Shown.NameOffset ⌝ }
+pub extern "C" fn eremothyn_setting_name_offset(table: &[u8], kind: u64, line: u64) -> u64
+    ensures { λ r. ⌜ r ≡ settingNumber (settingIn (itemsOf (rulesOf kind) (now (table .entry))) line) Shown.NameOffset ⌝ }
 {
-    setting_number(table, line, Shown::NameOffset)
+    setting_number(table, kind, line, Shown::NameOffset)
 }
 
 #[no_mangle]
-pub extern "C" fn eremothyn_setting_name_length(table: &[u8], line: u64) -> u64
-    ensures { λ r. ⌜ r ≡ settingNumber (settingIn (itemsOf (now (table .entry))) line) Shown.NameLength ⌝ }
+pub extern "C" fn eremothyn_setting_name_length(table: &[u8], kind: u64, line: u64) -> u64
+    ensures { λ r. ⌜ r ≡ settingNumber (settingIn (itemsOf (rulesOf kind) (now (table .entry))) line) Shown.NameLength ⌝ }
 {
-    setting_number(table, line, Shown::NameLength)
+    setting_number(table, kind, line, Shown::NameLength)
 }
 
 #[no_mangle]
-pub extern "C" fn eremothyn_setting_value_offset(table: &[u8], line: u64) -> u64
-    ensures { λ r. ⌜ r ≡ settingNumber (settingIn (itemsOf (now (table .entry))) line) Shown.ValueOffset ⌝ }
+pub extern "C" fn eremothyn_setting_value_offset(table: &[u8], kind: u64, line: u64) -> u64
+    ensures { λ r. ⌜ r ≡ settingNumber (settingIn (itemsOf (rulesOf kind) (now (table .entry))) line) Shown.ValueOffset ⌝ }
 {
-    setting_number(table, line, Shown::ValueOffset)
+    setting_number(table, kind, line, Shown::ValueOffset)
 }
 
 #[no_mangle]
-pub extern "C" fn eremothyn_setting_value_length(table: &[u8], line: u64) -> u64
-    ensures { λ r. ⌜ r ≡ settingNumber (settingIn (itemsOf (now (table .entry))) line) Shown.ValueLength ⌝ }
+pub extern "C" fn eremothyn_setting_value_length(table: &[u8], kind: u64, line: u64) -> u64
+    ensures { λ r. ⌜ r ≡ settingNumber (settingIn (itemsOf (rulesOf kind) (now (table .entry))) line) Shown.ValueLength ⌝ }
 {
-    setting_number(table, line, Shown::ValueLength)
+    setting_number(table, kind, line, Shown::ValueLength)
 }

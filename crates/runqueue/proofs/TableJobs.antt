@@ -14,6 +14,7 @@ use Rattle.schedule.specs.Next.{canFire}
 use Rattle.schedule.specs.Gap.{gap}
 use Rattle.schedule.proofs.Search.{from-some}
 use Rattle.schedule.proofs.Gap.{fires-within}
+use Rattle.crontab.specs.declared.Rules.{Rules}
 use Rattle.crontab.specs.declared.time.When.{When}
 use Rattle.crontab.specs.declared.time.When.the-variants.{Reboot, Timed}
 use Rattle.crontab.specs.Tables.{tableOf}
@@ -29,18 +30,18 @@ unfolding canFire
 fires s m h t = lt-ltb _ _ (from-some (matches s) cycleMinutes 0 m (omega arith) h t)
 
 -- an entry that can fire has a match soon
-pub soon : (table : List ℕ) (e t : ℕ) → CanFire table e → t + bound (jobsIn table) gap ≤ lastMinute → Soon (jobsIn table) gap e t
+pub soon : (rules : Rules) (table : List ℕ) (e t : ℕ) → CanFire rules table e → t + bound (jobsIn rules table) gap ≤ lastMinute → Soon (jobsIn rules table) gap e t
 unfolding Soon jobsOf isBoot firesAt
-soon table e t f h = go (jobAt (tableOf table) e .when) refl (f .timed) (f .matched)
+soon rules table e t f h = go (jobAt (tableOf rules table) e .when) refl (f .timed) (f .matched)
   where
-    go : (w : When) → jobAt (tableOf table) e .when ≡ w → byWhen w true (λ s. false) ≡ false → byWhen w false (λ s. matches s (f .minute)) ≡ true
-        → (m : ℕ) × (t < m) × (m ≤ t + gap) × (byWhen (jobAt (tableOf table) e .when) false (λ s. matches s m) ≡ true)
+    go : (w : When) → jobAt (tableOf rules table) e .when ≡ w → byWhen w true (λ s. false) ≡ false → byWhen w false (λ s. matches s (f .minute)) ≡ true
+        → (m : ℕ) × (t < m) × (m ≤ t + gap) × (byWhen (jobAt (tableOf rules table) e .when) false (λ s. matches s m) ≡ true)
     go Reboot p b m = absurd (true≢false b)
     go (Timed s) p b m =
         let (n, u, v, x) = fires-within s (fires s (f .minute) (f .cycle) m) t (omega (arith, f .entry)) in
         (n, u, v, rw p x)
 
 -- and they are few
-pub few : (table : List ℕ) → jobsIn table .count < limit
+pub few : (rules : Rules) (table : List ℕ) → jobsIn rules table .count < limit
 unfolding jobsOf
-few table = omega (arith, table-sound table .few)
+few rules table = omega (arith, table-sound rules table .few)

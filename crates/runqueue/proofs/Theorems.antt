@@ -11,6 +11,7 @@ use lib.Dec.{eqb}
 use borrow.Author.Tests.{eq-eqb, eqb-false, lt-ltb, le-leb}
 use Rattle.calendar.specs.Dates.{lastMinute}
 use Rattle.schedule.specs.Gap.{gap}
+use Rattle.crontab.specs.declared.Rules.{Rules}
 use Rattle.crontab.specs.declared.table.Table.{Table}
 use Rattle.crontab.specs.Tables.{tableOf, entryIn}
 use Rattle.crontab.specs.Firings.{dueOf, dueAnswer, dueIn}
@@ -29,25 +30,25 @@ use Rattle.runqueue.proofs.Exits.{init-good, tick-good, pop-good}
 use Rattle.runqueue.proofs.TableJobs.{soon, few}
 
 -- a table that has an entry isn't refused
-pub entry-good : (table : List ℕ) (e : ℕ) → e < jobsIn table .count → tableOf table .refusal ≡ 0
+pub entry-good : (rules : Rules) (table : List ℕ) (e : ℕ) → e < jobsIn rules table .count → tableOf rules table .refusal ≡ 0
 unfolding jobsOf
-entry-good table e h =
-    elim (decLe (tableOf table .refusal) 0) [ yes p ↦ omega arith | no n ↦ absurd (let z = table-sound table .empty (λ k. n (omega arith)) in omega arith) ]
+entry-good rules table e h =
+    elim (decLe (tableOf rules table .refusal) 0) [ yes p ↦ omega arith | no n ↦ absurd (let z = table-sound rules table .empty (λ k. n (omega arith)) in omega arith) ]
 
 -- the functions go by the steps of which the claims speak
 pub table-steps-good : TableStepsGood
 unfolding jobsOf
-table-steps-good table g room minute =
-    (init-good (tableOf table) room g, tick-good (tableOf table) room g minute, pop-good (tableOf table) room g)
+table-steps-good rules table g room minute =
+    (init-good (tableOf rules table) room g, tick-good (tableOf rules table) room g minute, pop-good (tableOf rules table) room g)
 
 pub table-steps : TableSteps
-table-steps table e h = table-steps-good table (entry-good table e h)
+table-steps rules table e h = table-steps-good rules table (entry-good rules table e h)
 
 -- what `due` says of an entry is what the claims' jobs say
 pub table-due : TableDue
 unfolding dueIn dueAnswer entryIn dueOf jobsOf jobAt
-table-due table e minute h on =
-    rw (eq-eqb (tableOf table .refusal) 0 (entry-good table e h), lt-ltb e (tableOf table .count) h, le-leb minute lastMinute on)
+table-due rules table e minute h on =
+    rw (eq-eqb (tableOf rules table .refusal) 0 (entry-good rules table e h), lt-ltb e (tableOf rules table .count) h, le-leb minute lastMinute on)
 
 -- no more than the table's entries join, and an entry that is named is one of them
 module _ (t : Table) (room : List ℕ) where
@@ -112,25 +113,25 @@ module _ (t : Table) (room : List ℕ) (n : ℕ) where
 
 -- the third demand, from any line of the table
 pub table-fair-from : TableFairFrom
-table-fair-from table e t l second f entries follows end =
-    fair-from (jobsIn table) gap e t l second (few table) (f .entry) (f .timed) (soon table e t f end) entries follows
+table-fair-from rules table e t l second f entries follows end =
+    fair-from (jobsIn rules table) gap e t l second (few rules table) (f .entry) (f .timed) (soon rules table e t f end) entries follows
 
 -- from its fresh line: the third demand as it is said
 pub table-fair : TableFair
-table-fair table e t first second f follows end =
-    fair (jobsIn table) gap e t first second (few table) (f .entry) (f .timed) (soon table e t f end) follows
+table-fair rules table e t first second f follows end =
+    fair (jobsIn rules table) gap e t first second (few rules table) (f .entry) (f .timed) (soon rules table e t f end) follows
 
 -- a call is refused only for too little room or for a minute off the calendar
 pub table-refused-only : TableRefusedOnly
-table-refused-only table cs g = refused-only (jobsIn table) cs (few table)
+table-refused-only rules table cs g = refused-only (jobsIn rules table) cs (few rules table)
 
 -- in one buffer
 pub table-fair-in-buffer : TableFairInBuffer
-table-fair-in-buffer table e t size buffer first second f r end =
-    fair-in-buffer (jobsIn table) gap e t size buffer first second (few table) (f .entry) (f .timed) (soon table e t f end) r
+table-fair-in-buffer rules table e t size buffer first second f r end =
+    fair-in-buffer (jobsIn rules table) gap e t size buffer first second (few rules table) (f .entry) (f .timed) (soon rules table e t f end) r
 
 -- in the steady list
 pub table-fair-steady : TableFairSteady
 unfolding jobsOf
-table-fair-steady table e t size buffer first f r end =
-    fair-steady (jobsIn table) gap e t size buffer first (few table) (f .entry) (f .timed) (soon table e t f end) r end
+table-fair-steady rules table e t size buffer first f r end =
+    fair-steady (jobsIn rules table) gap e t size buffer first (few rules table) (f .entry) (f .timed) (soon rules table e t f end) r end

@@ -9,6 +9,7 @@ use mathlib.Core.List.{List, _++_}
 use lib.ListN.{take}
 use Rattle.calendar.specs.Dates.{lastMinute, cycleMinutes}
 use Rattle.schedule.specs.Gap.{gap}
+use Rattle.crontab.specs.declared.Rules.{Rules}
 use Rattle.crontab.specs.declared.firing.DueAnswer.the-variants.{Yes, No}
 use Rattle.crontab.specs.Tables.{tableOf}
 use Rattle.crontab.specs.Firings.{dueIn}
@@ -22,23 +23,23 @@ use Rattle.fifo.specs.Steady.{steady}
 use Rattle.runqueue.specs.Jobs.{jobsOf}
 use Rattle.runqueue.specs.Calls.{initTable, tickTable, popTable}
 
--- the jobs that a table's bytes say
-abbrev pub jobsIn : List ℕ → Jobs
-jobsIn table = jobsOf (tableOf table)
+-- the jobs that a table's bytes say, read by the rules for its kind
+abbrev pub jobsIn : Rules → List ℕ → Jobs
+jobsIn rules table = jobsOf (tableOf rules table)
 
 -- a time-based entry that some minute of the cycle matches
-pub record CanFire (table : List ℕ) (e : ℕ) : Type 0 where
-  pub entry : e < jobsIn table .count
-  pub timed : jobsIn table .boot e ≡ false
+pub record CanFire (rules : Rules) (table : List ℕ) (e : ℕ) : Type 0 where
+  pub entry : e < jobsIn rules table .count
+  pub timed : jobsIn rules table .boot e ≡ false
   pub minute : ℕ
   pub cycle : minute < cycleMinutes
-  pub matched : jobsIn table .matches e minute ≡ true
+  pub matched : jobsIn rules table .matches e minute ≡ true
 
 -- the third demand
 abbrev pub TableFair : Type 0
-TableFair = (table : List ℕ) (e t : ℕ) (first second : List Call)
-    → let jobs = jobsIn table in
-    CanFire table e
+TableFair = (rules : Rules) (table : List ℕ) (e t : ℕ) (first second : List Call)
+    → let jobs = jobsIn rules table in
+    CanFire rules table e
     → Follows jobs (fresh jobs) (first ++ second)
     → t + bound jobs gap ≤ lastMinute
     → Paced (t + 1) (bound jobs gap) true (unrefused jobs second)
@@ -46,9 +47,9 @@ TableFair = (table : List ℕ) (e t : ℕ) (first second : List Call)
 
 -- the same from any line of the table, such as one that was left when the table was changed
 abbrev pub TableFairFrom : Type 0
-TableFairFrom = (table : List ℕ) (e t : ℕ) (l : List ℕ) (second : List Call)
-    → let jobs = jobsIn table in
-    CanFire table e
+TableFairFrom = (rules : Rules) (table : List ℕ) (e t : ℕ) (l : List ℕ) (second : List Call)
+    → let jobs = jobsIn rules table in
+    CanFire rules table e
     → entriesOf (jobs .count) l ≡ true
     → Follows jobs l second
     → t + bound jobs gap ≤ lastMinute
@@ -56,35 +57,37 @@ TableFairFrom = (table : List ℕ) (e t : ℕ) (l : List ℕ) (second : List Cal
     → Names jobs e (upTo (bound jobs gap) (unrefused jobs second))
 
 -- what the three functions promise for a table is the steps of which the claims speak
-abbrev pub ByTheSteps : List ℕ → Type 0
-ByTheSteps table = (room : List ℕ) (minute : ℕ)
-    → let jobs = jobsIn table in
-    (initTable (tableOf table) room ≡ initStep jobs room)
-    × (tickTable (tableOf table) minute room ≡ tickStep jobs minute room)
-    × (popTable (tableOf table) room ≡ popStep (jobs .count) room)
+abbrev pub ByTheSteps : Rules → List ℕ → Type 0
+ByTheSteps rules table = (room : List ℕ) (minute : ℕ)
+    → let jobs = jobsIn rules table in
+    (initTable (tableOf rules table) room ≡ initStep jobs room)
+    × (tickTable (tableOf rules table) minute room ≡ tickStep jobs minute room)
+    × (popTable (tableOf rules table) room ≡ popStep (jobs .count) room)
 
 -- so it is for a table that has an entry, as each does of which the claims speak
 abbrev pub TableSteps : Type 0
-TableSteps = (table : List ℕ) (e : ℕ) → e < jobsIn table .count → ByTheSteps table
+TableSteps = (rules : Rules) (table : List ℕ) (e : ℕ) → e < jobsIn rules table .count → ByTheSteps rules table
 
 -- and for every table that isn't refused
 abbrev pub TableStepsGood : Type 0
-TableStepsGood = (table : List ℕ) → tableOf table .refusal ≡ 0 → ByTheSteps table
+TableStepsGood = (rules : Rules) (table : List ℕ) → tableOf rules table .refusal ≡ 0 → ByTheSteps rules table
 
 -- the jobs of which the claims speak are due when the table's entries are
 abbrev pub TableDue : Type 0
-TableDue = (table : List ℕ) (e minute : ℕ) → e < jobsIn table .count → minute ≤ lastMinute
-    → dueIn (tableOf table) e minute ≡ cond (jobsIn table .matches e minute) Yes No
+TableDue = (rules : Rules) (table : List ℕ) (e minute : ℕ) → e < jobsIn rules table .count → minute ≤ lastMinute
+    → dueIn (tableOf rules table) e minute ≡ cond (jobsIn rules table .matches e minute) Yes No
 
 -- in a list from the fresh line of a table that isn't refused a call is refused only with 28 for too small a room or 14 for a minute off the calendar
 abbrev pub TableRefusedOnly : Type 0
-TableRefusedOnly = (table : List ℕ) (cs : List Call) → tableOf table .refusal ≡ 0 → Follows (jobsIn table) (fresh (jobsIn table)) cs → Expected (jobsIn table) cs
+TableRefusedOnly = (rules : Rules) (table : List ℕ) (cs : List Call)
+    → let jobs = jobsIn rules table in
+    tableOf rules table .refusal ≡ 0 → Follows jobs (fresh jobs) cs → Expected jobs cs
 
 -- the same claim for one buffer, of which each call is lent the first bytes
 abbrev pub TableFairInBuffer : Type 0
-TableFairInBuffer = (table : List ℕ) (e t : ℕ) (size : ℕ) (buffer : List ℕ) (first second : List Use)
-    → let jobs = jobsIn table in
-    CanFire table e
+TableFairInBuffer = (rules : Rules) (table : List ℕ) (e t : ℕ) (size : ℕ) (buffer : List ℕ) (first second : List Use)
+    → let jobs = jobsIn rules table in
+    CanFire rules table e
     → roomy (jobs .count) (take size buffer) ≡ true
     → t + bound jobs gap ≤ lastMinute
     → let calls = unrefused jobs (callsOn jobs (bufferAfterAll jobs (started jobs size buffer) first) second) in
@@ -92,9 +95,9 @@ TableFairInBuffer = (table : List ℕ) (e t : ℕ) (size : ℕ) (buffer : List �
 
 -- the claim with no hypothesis about calls: whatever went before, each minute is announced and one request follows
 abbrev pub TableFairSteady : Type 0
-TableFairSteady = (table : List ℕ) (e t size : ℕ) (buffer : List ℕ) (first : List Use)
-    → let jobs = jobsIn table in
-    CanFire table e
+TableFairSteady = (rules : Rules) (table : List ℕ) (e t size : ℕ) (buffer : List ℕ) (first : List Use)
+    → let jobs = jobsIn rules table in
+    CanFire rules table e
     → roomy (jobs .count) (take size buffer) ≡ true
     → t + bound jobs gap ≤ lastMinute
     → Names jobs e (upTo (bound jobs gap) (callsOn jobs (bufferAfterAll jobs (started jobs size buffer) first) (steady size (t + 1) (bound jobs gap))))

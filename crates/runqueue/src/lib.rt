@@ -12,6 +12,7 @@ ghost use Rattle.fifo.specs.SmallSteps.{canJoin, joined};
 ghost use Rattle.runqueue.specs.Joining.{isCalled, joining};
 ghost use Rattle.runqueue.specs.Calls.{initTable, tickTable, popTable};
 use calendar::Date;
+use crontab::Rules;
 use crontab::entry::Entry;
 use crontab::firing;
 use crontab::table::Table;
@@ -68,11 +69,11 @@ fn offer_all(t: Table, room: &mut [u8], called: Called) -> usize
 }
 
 // A fresh line of a table, whatever the room held: the boot jobs in file order. Answers how many wait.
-pub fn init(table: &[u8], room: &mut [u8]) -> Ticked
-    ensures answer { λ r. ⌜ r ≡ initTable (tableOf (now (table .entry))) (now (room .entry)) .answer ⌝ }
-    ensures room { λ _. ⌜ now (room .exit) ≡ initTable (tableOf (now (table .entry))) (now (room .entry)) .room ⌝ }
+pub fn init(table: &[u8], rules: Rules, room: &mut [u8]) -> Ticked
+    ensures answer { λ r. ⌜ r ≡ initTable (tableOf rules (now (table .entry))) (now (room .entry)) .answer ⌝ }
+    ensures room { λ _. ⌜ now (room .exit) ≡ initTable (tableOf rules (now (table .entry))) (now (room .entry)) .room ⌝ }
 {
-    let t = crontab::table::read(table);
+    let t = crontab::table::read(table, rules);
     let refusal = t.refusal;
     if refusal != 0 {
         return Ticked::Refused(refusal);
@@ -85,11 +86,11 @@ pub fn init(table: &[u8], room: &mut [u8]) -> Ticked
 }
 
 // Announces a minute: each time-based entry that matches it and doesn't wait joins in file order. Answers how many joined.
-pub fn tick(table: &[u8], room: &mut [u8], minute: u64) -> Ticked
-    ensures answer { λ r. ⌜ r ≡ tickTable (tableOf (now (table .entry))) minute (now (room .entry)) .answer ⌝ }
-    ensures room { λ _. ⌜ now (room .exit) ≡ tickTable (tableOf (now (table .entry))) minute (now (room .entry)) .room ⌝ }
+pub fn tick(table: &[u8], rules: Rules, room: &mut [u8], minute: u64) -> Ticked
+    ensures answer { λ r. ⌜ r ≡ tickTable (tableOf rules (now (table .entry))) minute (now (room .entry)) .answer ⌝ }
+    ensures room { λ _. ⌜ now (room .exit) ≡ tickTable (tableOf rules (now (table .entry))) minute (now (room .entry)) .room ⌝ }
 {
-    let t = crontab::table::read(table);
+    let t = crontab::table::read(table, rules);
     let refusal = t.refusal;
     if refusal != 0 {
         return Ticked::Refused(refusal);
@@ -105,11 +106,11 @@ pub fn tick(table: &[u8], room: &mut [u8], minute: u64) -> Ticked
 }
 
 // Requests the next job: removes and names the front entry, or says that nothing waits.
-pub fn pop(table: &[u8], room: &mut [u8]) -> Popped
-    ensures answer { λ r. ⌜ r ≡ popTable (tableOf (now (table .entry))) (now (room .entry)) .answer ⌝ }
-    ensures room { λ _. ⌜ now (room .exit) ≡ popTable (tableOf (now (table .entry))) (now (room .entry)) .room ⌝ }
+pub fn pop(table: &[u8], rules: Rules, room: &mut [u8]) -> Popped
+    ensures answer { λ r. ⌜ r ≡ popTable (tableOf rules (now (table .entry))) (now (room .entry)) .answer ⌝ }
+    ensures room { λ _. ⌜ now (room .exit) ≡ popTable (tableOf rules (now (table .entry))) (now (room .entry)) .room ⌝ }
 {
-    let verdict = crontab::table::check(table);
+    let verdict = crontab::table::check(table, rules);
     let refusal = verdict.refusal;
     if refusal != 0 {
         return Popped::Refused(refusal);

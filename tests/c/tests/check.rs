@@ -1,7 +1,7 @@
 //! `eremothyn check`: what it says of good and bad tables, and of files that it can't read.
 
 use c::{build_command, complaint, scratch, told, word};
-use second::table::{read, samples};
+use second::table::{read, samples, Kind};
 use std::ffi::OsStr;
 use std::fs;
 use std::io::Write;
@@ -56,7 +56,7 @@ const FAULTS: [(u64, &str, &str, &str); 9] = [
     (6, "1:1", "60 0 * * * x", "a number outside its limits: minute 0-59, hour 0-23, day 1-31, month 1-12, weekday 0-7"),
     (7, "1:3", "0 10-9 * * * x", "a range from high to low"),
     (8, "1:1", "*/0 0 * * * x", "a step of 0"),
-    (9, "1:10", "0 0 * * *", "no command after the time"),
+    (9, "1:10", "0 0 * * *", "no command after the time, or in a system table after the user"),
     (10, "1:1", "@noon x", "not one of @reboot, @yearly, @annually, @monthly, @weekly, @daily, @midnight and @hourly"),
     (11, "1:2", "\tname", "neither an entry nor a setting, which is name=value"),
 ];
@@ -98,6 +98,69 @@ fn a_good_table_is_counted_and_a_bad_one_is_refused_with_its_place() {
         let verdict = format!(":{place}: refused {number}: {words}\n");
         assert_eq!(says(&table), (verdict, Some(1)));
     }
+}
+
+/// With the option every file is a system table, wherever the option stands, and once is enough.
+#[test]
+fn system_tables_have_a_user_before_each_command() {
+    let check = Check::new("check-system");
+    check.write("user", "0 0 * * * demo\n");
+    check.write("system", "A=b\n0 0 * * * root demo\n@reboot u:g/l demo%x\n");
+    check.write("malformed", "# one\n0 0 * * * -u demo\n");
+    check.write("-s", "0 0 * * * root demo\n");
+    let no_command = "no command after the time, or in a system table after the user";
+    let malformed = "not a user column: user, user:group, user/class or user:group/class, each of 1 to 32 letters, digits, \
+        _, - and ., and - not first";
+    let rows: [(&[&str], String, i32); 13] = [
+        (&["user"], "user: 1 entries\n".into(), 0),
+        // A user is the first word of a user table's command.
+        (&["system"], "system: 2 entries\n".into(), 0),
+        (&["malformed"], "malformed: 1 entries\n".into(), 0),
+        (&["-s", "system"], "system: 2 entries\n".into(), 0),
+        (&["--system", "system"], "system: 2 entries\n".into(), 0),
+        (&["system", "-s"], "system: 2 entries\n".into(), 0),
+        (
+            &["-s", "--system", "-s", "system"],
+            "system: 2 entries\n".into(),
+            0,
+        ),
+        (
+            &["-s", "user"],
+            format!("user:1:15: refused 9: {no_command}\n"),
+            1,
+        ),
+        (
+            &["malformed", "--system"],
+            format!("malformed:2:11: refused 20: {malformed}\n"),
+            1,
+        ),
+        (
+            &["system", "-s", "user"],
+            format!("system: 2 entries\nuser:1:15: refused 9: {no_command}\n"),
+            1,
+        ),
+        (&["--", "-s"], "-s: 1 entries\n".into(), 0),
+        (
+            &["-s", "--", "-s", "user"],
+            format!("-s: 1 entries\nuser:1:15: refused 9: {no_command}\n"),
+            1,
+        ),
+        (
+            &["--", "user", "-s"],
+            "user: 1 entries\n-s: 1 entries\n".into(),
+            0,
+        ),
+    ];
+    for (arguments, text, status) in rows {
+        let output = check.run(arguments);
+        assert_eq!(told(&output), (text, Some(status)), "{arguments:?}");
+        assert!(output.stderr.is_empty(), "{arguments:?}");
+    }
+    let input = check.run_with(&["-s", "-"], b"@daily u c\n@daily c\n");
+    let line = format!("-:2:9: refused 9: {no_command}\n");
+    assert_eq!(told(&input), (line, Some(1)));
+    let (help, _) = told(&check.run(&["--help"]));
+    assert!(help.contains("\n  -s, --system      "), "{help}");
 }
 
 /// Names are printed as they were given; behind `--` they may look like options.
@@ -194,9 +257,13 @@ fn wrong_arguments_are_said() {
     let check = Check::new("check-misused");
     check.write("good", "");
     let hint = "See 'eremothyn check --help'.\n";
-    let rows: [(&[&str], &str); 6] = [
+    let rows: [(&[&str], &str); 10] = [
         (&[], "no file is named"),
         (&["--"], "no file is named"),
+        (&["-s"], "no file is named"),
+        (&["-ss", "good"], "unknown option '-ss'"),
+        (&["--s", "good"], "unknown option '--s'"),
+        (&["--system=1", "good"], "unknown option '--system=1'"),
         (&["-x", "good"], "unknown option '-x'"),
         (&["good", "-x"], "unknown option '-x'"),
         (&["--helpp"], "unknown option '--helpp'"),
@@ -216,17 +283,23 @@ fn wrong_arguments_are_said() {
 #[test]
 fn it_says_what_the_second_program_says() {
     let check = Check::new("check-random");
+    for (kind, option) in [(Kind::User, None), (Kind::System, Some("-s"))] {
+        compare_random(&check, kind, option);
+    }
+}
+
+fn compare_random(check: &Check, kind: Kind, option: Option<&str>) {
     let mut random = second::random::Random::seeded();
     let mut paths = Vec::new();
     let mut expected = Vec::new();
     for i in 0..1000 {
-        let good = samples::table(&mut random, i % 20);
+        let good = samples::table(&mut random, kind, i % 20);
         let table = match i % 2 {
             0 => good,
             _ => samples::mutated(&mut random, &good),
         };
         let path = check.write(&i.to_string(), &table);
-        expected.push(match read(&table) {
+        expected.push(match read(&table, kind) {
             Ok(read) => format!("{}: {} entries", word(&path), read.entries.len()),
             Err(fault) => format!(
                 "{}:{}:{}: refused {}: ",
@@ -238,6 +311,7 @@ fn it_says_what_the_second_program_says() {
         });
         paths.push(path);
     }
+    paths.extend(option.map(PathBuf::from));
     let (text, _) = told(&check.run(&paths));
     let lines: Vec<&str> = text.lines().collect();
     assert_eq!(lines.len(), expected.len());

@@ -4,7 +4,7 @@ use c::{build, complaint, root, run, scratch, told, word};
 use second::calendar::{date_of, minute_of};
 use second::command::split;
 use second::queue::Queue;
-use second::table::{calls::Calls, read, Part, Setting, Table};
+use second::table::{calls::Calls, read, Kind, Part, Setting, Table};
 use std::fs;
 
 const WEEKDAYS: [&str; 7] = ["Sun", "Mon", "Tue", "Wed", "Thu", "Fri", "Sat"];
@@ -17,28 +17,28 @@ fn date(minute: u64) -> String {
 }
 
 /// What the daemon's log says of a table, a pace and spans of minutes.
-fn log(bytes: &[u8], pace: u64, spans: &[(u64, u64)]) -> Vec<String> {
-    let table = read(bytes).expect("a good table");
+fn log(bytes: &[u8], kind: Kind, pace: u64, spans: &[(u64, u64)]) -> Vec<String> {
+    let table = read(bytes, kind).expect("a good table");
     let mut queue = Queue::fresh(&table);
     let first = spans[0].0;
-    let mut log = opening(bytes, &table, first);
+    let mut log = opening(bytes, kind, &table, first);
     log.push(format!(
         "{}  boot, {} wait",
         date(first),
         queue.waiting.len()
     ));
     for minute in spans.iter().flat_map(|&(first, last)| first..=last) {
-        log.extend(lived(&table, &mut queue, minute, pace));
+        log.extend(lived(bytes, &table, &mut queue, minute, pace));
     }
     log
 }
 
 /// The settings, and when each entry fires next.
-fn opening(bytes: &[u8], table: &Table, first: u64) -> Vec<String> {
-    let text = |part: Part| shown(&bytes[part.offset..part.offset + part.length]);
+fn opening(bytes: &[u8], kind: Kind, table: &Table, first: u64) -> Vec<String> {
+    let text = |part: Part| text(bytes, part);
     let setting =
         |(_, of): &(u64, Setting)| format!("setting   |{}| = |{}|", text(of.name), text(of.value));
-    let calls = Calls::of(bytes);
+    let calls = Calls::of(bytes, kind);
     let next = |entry: u64| match calls.next(entry, first) {
         Ok(minute) => format!("entry {entry:2}  next {}", date(minute)),
         Err(15) => format!("entry {entry:2}  fires at boot only"),
@@ -55,7 +55,7 @@ fn opening(bytes: &[u8], table: &Table, first: u64) -> Vec<String> {
 }
 
 /// One minute: who joins, and who is taken.
-fn lived(table: &Table, queue: &mut Queue, minute: u64, pace: u64) -> Vec<String> {
+fn lived(bytes: &[u8], table: &Table, queue: &mut Queue, minute: u64, pace: u64) -> Vec<String> {
     let at = date(minute);
     let mut log = Vec::new();
     let joined = queue.tick(table, minute).expect("a minute of the calendar");
@@ -69,9 +69,16 @@ fn lived(table: &Table, queue: &mut Queue, minute: u64, pace: u64) -> Vec<String
         let Some(entry) = queue.pop(table).expect("its line") else {
             break;
         };
-        let command = split(table.entries[entry as usize].command);
+        let taken = &table.entries[entry as usize];
+        let command = split(taken.command);
+        let parts = ["user", "group", "class"]
+            .into_iter()
+            .zip(taken.column.parts());
+        let runs_as: String = parts
+            .filter_map(|(name, part)| Some(format!("  {name} |{}|", text(bytes, part?))))
+            .collect();
         log.push(format!(
-            "{at}  start entry {entry:2}  |{}|",
+            "{at}  start entry {entry:2}  |{}|{runs_as}",
             shown(&command.shell)
         ));
         if let Some(input) = command.input {
@@ -79,6 +86,10 @@ fn lived(table: &Table, queue: &mut Queue, minute: u64, pace: u64) -> Vec<String
         }
     }
     log
+}
+
+fn text(bytes: &[u8], part: Part) -> String {
+    shown(&bytes[part.offset..part.offset + part.length])
 }
 
 fn shown(text: &[u8]) -> String {
@@ -102,12 +113,25 @@ fn the_log_is_the_second_programs() {
     let folder = scratch("daemon-log");
     let program = build(&["examples/daemon.c"], &folder);
     let evening = minute_of(2026, 11, 15, 21, 0).expect("a date");
-    let observatory = fs::read(root().join("examples/observatory.crontab")).expect("the crontab");
-    let tables: [&[u8]; 4] = [
-        &observatory,
-        b"* * * * * a\n@reboot b\n0 * * * * c\n",
-        b"a = \n0 0 30 2 * never\n'b c'=\"d\" \n0 0 1 1 * last\n* * * * * tab\there\\n%\xff%\n",
-        b"",
+    let [observatory, system] = ["observatory", "system"].map(|name| {
+        fs::read(root().join(format!("examples/{name}.crontab"))).expect("the crontab")
+    });
+    let tables: [(&[u8], Kind); 8] = [
+        (&observatory, Kind::User),
+        (b"* * * * * a\n@reboot b\n0 * * * * c\n", Kind::User),
+        (
+            b"a = \n0 0 30 2 * never\n'b c'=\"d\" \n0 0 1 1 * last\n* * * * * tab\there\\n%\xff%\n",
+            Kind::User,
+        ),
+        (b"", Kind::User),
+        (&system, Kind::System),
+        // Its users are the first words of its commands.
+        (&system, Kind::User),
+        (
+            b"@reboot u b\n* * * * * u:g a\n0 * * * * u/l c%\n*/2 * * * * u:g/l  d\n",
+            Kind::System,
+        ),
+        (b"A=b\n", Kind::System),
     ];
     let spans: [&[(u64, u64)]; 4] = [
         &[(0, 20), (evening, evening + 60)],
@@ -115,12 +139,14 @@ fn the_log_is_the_second_programs() {
         &[(4_223_371_600, 4_223_371_679)],
         &[(evening, evening), (0, 0), (5, 5)],
     ];
-    for table in tables {
+    for (table, kind) in tables {
         for spans in spans {
             for pace in [0, 1, 3, 999] {
                 let path = folder.join("table");
                 fs::write(&path, table).expect("the table is written");
-                let mut arguments = vec![word(&path).to_string(), pace.to_string()];
+                let option = (kind == Kind::System).then(|| "-s".to_string());
+                let mut arguments: Vec<String> = option.into_iter().collect();
+                arguments.extend([word(&path).to_string(), pace.to_string()]);
                 arguments.extend(
                     spans
                         .iter()
@@ -130,7 +156,7 @@ fn the_log_is_the_second_programs() {
                 let (text, status) = told(&output);
                 assert_eq!(status, Some(0), "{arguments:?}");
                 let lines: Vec<&str> = text.lines().collect();
-                assert_eq!(lines, log(table, pace, spans), "{arguments:?}");
+                assert_eq!(lines, log(table, kind, pace, spans), "{arguments:?}");
             }
         }
     }
@@ -161,9 +187,13 @@ fn refusals_and_wrong_arguments_are_said() {
     let path = folder.join("table");
     fs::write(&path, "# one\n0 0 * * mon/2 b\n").expect("the table is written");
     let fault = format!("{}:2:9: refused 5: ", word(&path));
-    // `~` is the table.
+    // As a system table it has the same fault; `~` is the table.
     let rows = [
         ("~, 1, 1970-01-01T00:00, 1970-01-01T00:00", 1, &fault[..]),
+        ("-s, ~, 1, 1970-01-01T00:00, 1970-01-01T00:00", 1, &fault),
+        ("~, -s, 1, 1970-01-01T00:00, 1970-01-01T00:00", 2, "usage: "),
+        ("-x, ~, 1, 1970-01-01T00:00, 1970-01-01T00:00", 2, "usage: "),
+        ("-s", 2, "usage: "),
         (
             "/nowhere, 1, 1970-01-01T00:00, 1970-01-01T00:00",
             2,

@@ -38,6 +38,30 @@ fn eremothyn_check_prints_what_is_shown() {
     assert!(shown().contains(&text), "the README doesn't show:\n{text}");
 }
 
+#[test]
+fn the_system_table_is_checked_and_run_as_shown() {
+    let _ = make(&["all"]);
+    let file = "examples/system.crontab";
+    let blocks = shown();
+    // A block is a command, and what it prints.
+    for (program, arguments) in [
+        ("target/c/eremothyn", format!("check -s {file}")),
+        (
+            "target/c/daemon",
+            format!("-s {file} 1 2026-11-15T21:29 2026-11-15T21:32"),
+        ),
+    ] {
+        let words: Vec<&str> = arguments.split(' ').collect();
+        let (text, status) = told(&run(root().join(program), &words));
+        assert_eq!(status, Some(0));
+        let block = format!("$ {program} {arguments}\n{text}");
+        assert!(
+            blocks.iter().any(|shown| shown.contains(&block)),
+            "the README doesn't show:\n{block}"
+        );
+    }
+}
+
 /// Every word of the code, the definitions and the proofs in a folder, and the names of the edits.
 fn words(folder: &Path, found: &mut HashSet<String>) {
     for entry in fs::read_dir(folder).expect("a folder") {

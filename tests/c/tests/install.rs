@@ -98,6 +98,13 @@ fn the_installed_command_runs_and_the_version_is_told() {
             Some(0)
         )
     );
+    let examples = format!("{}{PREFIX}/share/doc/eremothyn/examples", word(&folder));
+    let system = format!("{examples}/system.crontab");
+    let line = format!("{system}: 5 entries\n");
+    assert_eq!(
+        told(&run(&command, &["check", "--system", &system])),
+        (line, Some(0))
+    );
     let header = fs::read_to_string(root().join("include/eremothyn.h")).expect("the header");
     let version = flags(&folder, &["--modversion"]);
     assert!(header.contains(&format!("EREMOTHYN_VERSION \"{}\"\n", version[0])));
@@ -124,7 +131,7 @@ fn the_manual_has_all_of_the_header() {
         names
     };
     let functions = names("eremothyn_");
-    assert_eq!(functions.len(), 22);
+    assert_eq!(functions.len(), 28);
     for function in &functions {
         assert!(page.contains(&format!("{function}(")), "{function}");
         let found = fs::read_to_string(format!("{manual}/man3/{function}.3"))

@@ -1,10 +1,10 @@
 //! A table, and a line of it in one buffer, beside the second program's list. Each call is lent a copy of the buffer's
 //! first bytes, as many as the caller likes. The lent bytes end at guard pages, and the table's are read-only.
 
-use eremothyn::{Answer, Table};
+use eremothyn::{Answer, Table, USER_TABLE};
 use guard::{filled, Guarded};
 use second::queue::Queue;
-use second::table::{self, read, When};
+use second::table::{self, read, Kind, When};
 use std::fmt::Debug;
 
 /// Refusal: not a waiting line of this table, or too little room for one.
@@ -14,19 +14,27 @@ const NO_LINE: u64 = 28;
 pub struct Case<'a> {
     bytes: &'a [u8],
     lent: Guarded,
+    kind: u64,
     pub table: table::Table<'a>,
     /// The least room that the library takes for a line of the table.
     pub least: usize,
 }
 
 impl<'a> Case<'a> {
+    /// A user table.
     pub fn of(bytes: &'a [u8]) -> Case<'a> {
-        let table = read(bytes).expect("a good table");
+        Case::of_kind(bytes, USER_TABLE)
+    }
+
+    /// A table under any number as its kind.
+    pub fn of_kind(bytes: &'a [u8], kind: u64) -> Case<'a> {
+        let table = read(bytes, Kind::of(kind)).expect("a good table");
         let lent = Guarded::read_only(bytes);
-        let least = least_room(&lent, table.entries.len());
+        let least = least_room(Table::of(&lent).of_kind(kind), table.entries.len());
         Case {
             bytes,
             lent,
+            kind,
             table,
             least,
         }
@@ -51,16 +59,17 @@ impl<'a> Case<'a> {
 
     /// A call that is lent the table and a room.
     fn ask<T>(&self, room: &mut [u8], call: impl FnOnce(Table, &mut [u8]) -> T) -> T {
-        Guarded::lend(room, |room| call(Table::of(&self.lent), room))
+        let table = Table::of(&self.lent).of_kind(self.kind);
+        Guarded::lend(room, |room| call(table, room))
     }
 }
 
 /// The least room that a fresh line is accepted in. What is refused changes no byte.
-fn least_room(table: &[u8], entries: usize) -> usize {
+fn least_room(table: Table, entries: usize) -> usize {
     let most = 8 * entries + 64;
     let accepted = |length: &usize| {
         let mut room = filled(*length);
-        let answer = Guarded::lend(&mut room, |room| Table::of(table).queue_init(room));
+        let answer = Guarded::lend(&mut room, |room| table.queue_init(room));
         if answer.is_err() {
             assert_eq!(answer, Err(NO_LINE), "a room of {length} bytes");
             assert_eq!(room, filled(*length));
@@ -128,8 +137,9 @@ impl Compared {
         assert_eq!(
             answer,
             expected,
-            "{what:?} in {lent} bytes of room, {waiting:?} waiting, of \"{}\": library, second program",
-            case.bytes.escape_ascii()
+            "{what:?} in {lent} bytes of room, {waiting:?} waiting, of \"{}\" (kind {}): library, second program",
+            case.bytes.escape_ascii(),
+            case.kind
         );
         let stays = if answer.is_ok() { case.least } else { 0 };
         assert_eq!(
@@ -167,7 +177,7 @@ pub fn drain(case: &Case, room: &[u8]) -> Result<Vec<u64>, u64> {
 }
 
 /// Every call with a bad table: the table's refusal, whatever room and minute are, and no byte of the room changes.
-pub fn refused(table: &[u8], number: u64, room: &[u8], minute: u64) {
+pub fn refused(table: &[u8], kind: u64, number: u64, room: &[u8], minute: u64) {
     let lent = Guarded::read_only(table);
     let refused = |refusal: &dyn Fn(&mut [u8]) -> Option<u64>| {
         let mut after = room.to_vec();
@@ -175,7 +185,7 @@ pub fn refused(table: &[u8], number: u64, room: &[u8], minute: u64) {
         assert_eq!(Guarded::lend(&mut after, refusal), Some(number), "{shown}");
         assert_eq!(after, room, "{shown}");
     };
-    let lent = Table::of(&lent);
+    let lent = Table::of(&lent).of_kind(kind);
     refused(&|room| lent.queue_init(room).err());
     refused(&|room| lent.queue_tick(room, minute).err());
     refused(&|room| lent.queue_pop(room).err());

@@ -1,7 +1,7 @@
 //! Dates, tables and rooms for the comparisons.
 
 use second::random::Random;
-use second::table::samples;
+use second::table::{samples, Kind};
 
 /// Year, month, day, hour and minute of a date, each of which may be a little past its limits.
 pub fn date(random: &mut Random) -> [u64; 5] {
@@ -9,13 +9,39 @@ pub fn date(random: &mut Random) -> [u64; 5] {
     spans.map(|(first, count)| first + random.below(count))
 }
 
-/// A table of so many entries, each written as given.
-pub fn alike(entry: &str, entries: usize) -> Vec<u8> {
-    format!("{entry} a\n").repeat(entries).into_bytes()
+/// A number that means a kind; a system table has many.
+pub fn kind_number(random: &mut Random, kind: Kind) -> u64 {
+    match (kind, random.below(6)) {
+        (Kind::User, _) => 0,
+        (Kind::System, 0) => 1 << random.below(64),
+        (Kind::System, 1) => random.number() | 1,
+        (Kind::System, 2) => random.pick(&[2, 255, 1 << 32, u64::MAX]),
+        (Kind::System, _) => 1,
+    }
+}
+
+/// Either kind.
+pub fn any_kind(random: &mut Random) -> Kind {
+    random.pick(&Kind::BOTH)
+}
+
+/// A text that has `~` where a system table has a user column and a blank, and a user table nothing.
+pub fn of_kind(text: &str, kind: Kind) -> String {
+    let user = match kind {
+        Kind::User => "",
+        Kind::System => "u:g/l ",
+    };
+    text.replace('~', user)
+}
+
+/// A table of so many entries, each with the time given.
+pub fn alike(kind: Kind, time: &str, entries: usize) -> Vec<u8> {
+    let line = of_kind(&format!("{time} ~a\n"), kind);
+    line.repeat(entries).into_bytes()
 }
 
 /// A table of so many entries, some that boot, and some that fire often.
-pub fn busy_table(random: &mut Random, entries: u64) -> Vec<u8> {
+pub fn busy_table(random: &mut Random, kind: Kind, entries: u64) -> Vec<u8> {
     let often = [
         "* * * * *",
         "*/2 * * * *",
@@ -40,10 +66,10 @@ pub fn busy_table(random: &mut Random, entries: u64) -> Vec<u8> {
             _ => {}
         }
         let line = match random.below(8) {
-            0 => format!("{} a", samples::fields(random).join(" ")),
-            _ => format!("{} a%b", random.pick(&often)),
+            0 => format!("{} ~a", samples::fields(random).join(" ")),
+            _ => format!("{} ~a%b", random.pick(&often)),
         };
-        table.extend(line.bytes());
+        table.extend(of_kind(&line, kind).bytes());
         table.push(b'\n');
     }
     table

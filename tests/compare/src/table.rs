@@ -1,12 +1,12 @@
 //! A table lent to the library, and the same table read by the second program. Every call is compared with the second
 //! program's answer. The lent bytes end at guard pages, and the table's are read-only.
 
-use eremothyn::{Answer, Table};
+use eremothyn::{Answer, Table, SYSTEM_TABLE, USER_TABLE};
 use guard::{filled, Guarded};
 use second::random::Random;
 use second::schedule::samples;
 use second::table::calls::Calls;
-use second::table::{Fault, Setting};
+use second::table::{Fault, Kind, Setting};
 
 /// Entry and line numbers that no table has.
 const WILD: [u64; 9] = [
@@ -29,22 +29,43 @@ const STARTS: usize = 2;
 pub struct Compared<'a> {
     bytes: &'a [u8],
     lent: Guarded,
+    kind: u64,
     second: Calls<'a>,
 }
 
 impl<'a> Compared<'a> {
-    /// A table, with its three calls compared.
+    /// A user table.
     pub fn of(bytes: &'a [u8]) -> Compared<'a> {
-        let compared = Compared {
+        Compared::of_kind(bytes, USER_TABLE)
+    }
+
+    /// A system table.
+    pub fn system(bytes: &'a [u8]) -> Compared<'a> {
+        Compared::of_kind(bytes, SYSTEM_TABLE)
+    }
+
+    /// A table under any number as its kind, with its three calls compared, and with those of the same bytes as a table of the
+    /// other kind.
+    pub fn of_kind(bytes: &'a [u8], kind: u64) -> Compared<'a> {
+        let other = Kind::of(kind).other();
+        let mut compared = Compared {
             bytes,
             lent: Guarded::read_only(bytes),
-            second: Calls::of(bytes),
+            kind: other.number(),
+            second: Calls::of(bytes, other),
         };
-        let (table, second) = (compared.table(), &compared.second);
-        let _ = compared.agree("check", table.check(), second.check());
-        compared.agree("fault_line", table.fault_line(), second.fault_line());
-        compared.agree("fault_column", table.fault_column(), second.fault_column());
+        compared.judged();
+        compared.kind = kind;
+        compared.second = Calls::of(bytes, Kind::of(kind));
+        compared.judged();
         compared
+    }
+
+    fn judged(&self) {
+        let (table, second) = (self.table(), &self.second);
+        let _ = self.agree("check", table.check(), second.check());
+        self.agree("fault_line", table.fault_line(), second.fault_line());
+        self.agree("fault_column", table.fault_column(), second.fault_column());
     }
 
     /// Number, line and column of the table's refusal.
@@ -73,6 +94,18 @@ impl<'a> Compared<'a> {
         let library = self.table().stdin_length(entry);
         let second = self.second.stdin_length(entry);
         self.agree(("stdin_length", entry), library, second)
+    }
+
+    /// Offset and length of an entry's user, of its group and of its class.
+    pub fn user_column(&self, entry: u64) -> Result<[[u64; 2]; 3], u64> {
+        let second = self.second.user_column(entry);
+        let expected = match second {
+            Ok([[a, b], [c, d], [e, f]]) => [a, b, c, d, e, f].map(Ok),
+            Err(refusal) => [Err(refusal); 6],
+        };
+        let library = self.table().user_column(entry);
+        let _ = self.agree(("user_column", entry), library, expected);
+        second
     }
 
     pub fn setting(&self, line: u64) -> Result<Setting, u64> {
@@ -176,6 +209,7 @@ impl<'a> Compared<'a> {
                 let _ = self.next(entry, firing);
             }
         }
+        let _ = self.user_column(entry);
         let _ = self.stdin_length(entry);
         self.split_into_all(entry);
     }
@@ -185,6 +219,7 @@ impl<'a> Compared<'a> {
         let minute = samples::start(random);
         assert!(self.due(entry, minute).is_err());
         assert!(self.next(entry, minute).is_err());
+        assert!(self.user_column(entry).is_err());
         assert!(self.stdin_length(entry).is_err());
         assert!(self.split_command(entry, [20, 20]).is_err());
         assert!(self.split_command(entry, [0, 0]).is_err());
@@ -206,14 +241,17 @@ impl<'a> Compared<'a> {
     }
 
     fn table(&self) -> Table<'_> {
-        Table::of(&self.lent)
+        Table::of(&self.lent).of_kind(self.kind)
     }
 
     fn shown(&self) -> String {
         const MOST: usize = 2_000;
         let start = &self.bytes[..self.bytes.len().min(MOST)];
-        let bytes = self.bytes.len();
-        format!("the table \"{}\" ({bytes} bytes)", start.escape_ascii())
+        let (bytes, kind) = (self.bytes.len(), self.kind);
+        format!(
+            "the table \"{}\" ({bytes} bytes, kind {kind})",
+            start.escape_ascii()
+        )
     }
 }
 

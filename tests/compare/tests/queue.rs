@@ -1,14 +1,14 @@
 //! The run queue of the library against the second program's list.
 
 use compare::queue::{drain, refused, Case, Compared};
-use compare::samples::{alike, busy_table};
+use compare::samples::{alike, any_kind, busy_table, kind_number, of_kind};
 use eremothyn::Table;
 use guard::filled;
 use second::calendar::LAST_MINUTE;
 use second::queue::Queue;
 use second::random::Random;
 use second::schedule::samples::start;
-use second::table::{read, samples};
+use second::table::{samples, Kind};
 
 const OFF_CALENDAR: [u64; 6] = [
     LAST_MINUTE + 1,
@@ -19,57 +19,72 @@ const OFF_CALENDAR: [u64; 6] = [
     u64::MAX,
 ];
 
+/// Runs a test with a table in both kinds: `~` is a system table's user.
+fn in_both_kinds(table: &str, test: impl Fn(&Case)) {
+    for kind in Kind::BOTH {
+        let table = of_kind(table, kind);
+        test(&Case::of_kind(table.as_bytes(), kind.number()));
+    }
+}
+
 #[test]
 fn the_whole_run() {
-    let case = Case::of(b"* * * * * a\n@reboot b\n0 * * * * c\n");
+    in_both_kinds("* * * * * ~a\n@reboot ~b\n0 * * * * ~c\n", whole_run);
+}
+
+fn whole_run(case: &Case) {
     for length in [case.least, case.enough(), 1_000] {
-        let mut line = Compared::fresh(&case, length);
-        assert_eq!(line.pop(&case, length), Ok(Some(1)));
-        assert_eq!(line.tick(&case, length, 59), Ok(1));
-        assert_eq!(line.tick(&case, length, 60), Ok(1));
-        assert_eq!(line.pop(&case, length), Ok(Some(0)));
-        assert_eq!(line.pop(&case, length), Ok(Some(2)));
-        assert_eq!(line.pop(&case, length), Ok(None));
+        let mut line = Compared::fresh(case, length);
+        assert_eq!(line.pop(case, length), Ok(Some(1)));
+        assert_eq!(line.tick(case, length, 59), Ok(1));
+        assert_eq!(line.tick(case, length, 60), Ok(1));
+        assert_eq!(line.pop(case, length), Ok(Some(0)));
+        assert_eq!(line.pop(case, length), Ok(Some(2)));
+        assert_eq!(line.pop(case, length), Ok(None));
     }
 }
 
 #[test]
 fn a_waiting_entry_joins_no_second_time() {
-    let case = Case::of(b"@reboot a\n* * * * * b\n* * * * * c\n");
-    let room = case.enough();
-    let mut line = Compared::fresh(&case, room);
-    assert_eq!(line.tick(&case, room, 7), Ok(2));
-    for minute in [7, 8, 7, 6, 0, LAST_MINUTE] {
-        assert_eq!(line.tick(&case, room, minute), Ok(0));
-    }
-    assert_eq!(line.pop(&case, room), Ok(Some(0)));
-    assert_eq!(line.pop(&case, room), Ok(Some(1)));
-    // Those that were named may join again, behind those that wait, at the same minute too.
-    assert_eq!(line.tick(&case, room, 7), Ok(1));
-    assert_eq!(drain(&case, &line.room), Ok(vec![2, 1]));
+    in_both_kinds("@reboot ~a\n* * * * * ~b\n* * * * * ~c\n", |case| {
+        let room = case.enough();
+        let mut line = Compared::fresh(case, room);
+        assert_eq!(line.tick(case, room, 7), Ok(2));
+        for minute in [7, 8, 7, 6, 0, LAST_MINUTE] {
+            assert_eq!(line.tick(case, room, minute), Ok(0));
+        }
+        assert_eq!(line.pop(case, room), Ok(Some(0)));
+        assert_eq!(line.pop(case, room), Ok(Some(1)));
+        // Those that were named may join again, behind those that wait, at the same minute too.
+        assert_eq!(line.tick(case, room, 7), Ok(1));
+        assert_eq!(drain(case, &line.room), Ok(vec![2, 1]));
+    });
 }
 
 #[test]
 fn reboot_entries_wait_at_first_and_never_join() {
-    let case = Case::of(b"@reboot a\n0 0 * * * b\n@reboot c\n@reboot d\n");
-    let room = case.enough();
-    let mut line = Compared::fresh(&case, room);
-    assert_eq!(line.init(&case, room), Ok(3));
-    assert_eq!(drain(&case, &line.room), Ok(vec![0, 2, 3]));
-    for entry in [0, 2, 3] {
-        assert_eq!(line.pop(&case, room), Ok(Some(entry)));
-    }
-    assert_eq!(line.tick(&case, room, 0), Ok(1));
-    assert_eq!(line.tick(&case, room, 1_440), Ok(0));
-    assert_eq!(drain(&case, &line.room), Ok(vec![1]));
+    let table = "@reboot ~a\n0 0 * * * ~b\n@reboot ~c\n@reboot ~d\n";
+    in_both_kinds(table, |case| {
+        let room = case.enough();
+        let mut line = Compared::fresh(case, room);
+        assert_eq!(line.init(case, room), Ok(3));
+        assert_eq!(drain(case, &line.room), Ok(vec![0, 2, 3]));
+        for entry in [0, 2, 3] {
+            assert_eq!(line.pop(case, room), Ok(Some(entry)));
+        }
+        assert_eq!(line.tick(case, room, 0), Ok(1));
+        assert_eq!(line.tick(case, room, 1_440), Ok(0));
+        assert_eq!(drain(case, &line.room), Ok(vec![1]));
+    });
 }
 
 #[test]
 fn a_fresh_line_is_the_same_whatever_the_room_held() {
     let mut random = Random::seeded();
     for entries in 0..40 {
-        let table = busy_table(&mut random, entries);
-        let case = Case::of(&table);
+        let kind = any_kind(&mut random);
+        let table = busy_table(&mut random, kind, entries);
+        let case = Case::of_kind(&table, kind.number());
         let length = case.enough() + 10;
         let fills = [0, 0xff, 0x55, 0xaa].map(|byte| vec![byte; length]);
         let drawn = (0..length).map(|_| random.number() as u8).collect();
@@ -90,28 +105,35 @@ fn a_fresh_line_is_the_same_whatever_the_room_held() {
 #[test]
 fn refusals_in_their_order() {
     // The table first: also where the room is too short, no line, and the minute off the calendar.
-    let tables: [(&[u8], u64); 5] = [
-        (b"60 * * * * a", 6),
-        (b"* * * * *", 9),
-        (b"a", 11),
-        (b"* * * * * a\n\0", 3),
-        (&[b'\n'; 16_385], 1),
+    let tables: [(&[u8], u64, u64); 11] = [
+        (b"60 * * * * a", 0, 6),
+        (b"* * * * *", 0, 9),
+        (b"a", 0, 11),
+        (b"* * * * * a\n\0", 0, 3),
+        (&[b'\n'; 16_385], 0, 1),
+        (b"60 * * * * u a", 1, 6),
+        (b"* * * * * a", 1, 9),
+        (b"* * * * * a:", 1, 20),
+        (b"* * * * * a/b:c d", u64::MAX, 20),
+        (b"* * * * * u a\n\0", 2, 3),
+        (&[b'\n'; 16_385], 1 << 63, 1),
     ];
-    for (table, number) in tables {
+    for (table, kind, number) in tables {
         for length in [0, 1, 200] {
             for minute in [0, u64::MAX] {
-                refused(table, number, &filled(length), minute);
+                refused(table, kind, number, &filled(length), minute);
             }
         }
     }
     // Then 28, then 14.
-    let case = Case::of(b"* * * * * a\n@reboot b\n");
-    let mut line = Compared::fresh(&case, case.enough());
-    for minute in OFF_CALENDAR {
-        assert_eq!(line.tick(&case, case.least - 1, minute), Err(28));
-        assert_eq!(line.tick(&case, case.least, minute), Err(14));
-    }
-    line.assert_waiting(&case);
+    in_both_kinds("* * * * * ~a\n@reboot ~b\n", |case| {
+        let mut line = Compared::fresh(case, case.enough());
+        for minute in OFF_CALENDAR {
+            assert_eq!(line.tick(case, case.least - 1, minute), Err(28));
+            assert_eq!(line.tick(case, case.least, minute), Err(14));
+        }
+        line.assert_waiting(case);
+    });
 }
 
 /// A minute to announce, after the one before.
@@ -187,9 +209,11 @@ fn long_runs_with_one_table() {
         } else {
             random.below(12)
         };
-        let table = busy_table(&mut random, entries);
+        let kind = any_kind(&mut random);
+        let table = busy_table(&mut random, kind, entries);
         let calls = if entries > 100 { 300 } else { 500 };
-        long_run(&mut random, &[Case::of(&table)], calls);
+        let number = kind_number(&mut random, kind);
+        long_run(&mut random, &[Case::of_kind(&table, number)], calls);
     }
 }
 
@@ -197,23 +221,37 @@ fn long_runs_with_one_table() {
 fn long_runs_with_tables_that_change() {
     let mut random = Random::seeded();
     for _ in 0..300 {
+        // Of either kind: a line has only numbers.
         let tables = [(); 4].map(|_| {
+            let kind = any_kind(&mut random);
             let entries = random.below(9);
-            busy_table(&mut random, entries)
+            let table = busy_table(&mut random, kind, entries);
+            (table, kind_number(&mut random, kind))
         });
-        let cases = tables.each_ref().map(|table| Case::of(table));
+        let cases = tables
+            .each_ref()
+            .map(|(table, kind)| Case::of_kind(table, *kind));
         long_run(&mut random, &cases, 500);
     }
 }
 
 #[test]
 fn a_line_that_another_table_left() {
+    for kinds in [[0, 0], [0, 1], [1, 0], [1, 1]] {
+        a_line_left(kinds.map(Kind::of));
+    }
+}
+
+/// The table that leaves a line, and those that find it, are of these kinds.
+fn a_line_left([left, found]: [Kind; 2]) {
     let tables = [
-        alike("* * * * *", 5),
-        alike("@reboot", 3),
-        alike("@reboot", 0),
+        (alike(left, "* * * * *", 5), left),
+        (alike(found, "@reboot", 3), found),
+        (alike(found, "@reboot", 0), found),
     ];
-    let [five, three, none] = tables.each_ref().map(|table| Case::of(table));
+    let [five, three, none] = tables
+        .each_ref()
+        .map(|(table, kind)| Case::of_kind(table, kind.number()));
     let room = five.enough();
     let mut line = Compared::fresh(&five, room);
     assert_eq!(line.pop(&three, room), Ok(None));
@@ -266,11 +304,13 @@ fn a_rare_entry_is_named_within_the_bound() {
     let mut random = Random::seeded();
     for (fields, about) in rare {
         for place in [0, 1, 63, 126, 127] {
-            let mut lines = vec!["* * * * * often"; ENTRIES as usize];
-            let line = format!("{fields} rare");
+            let kind = any_kind(&mut random);
+            let often = of_kind("* * * * * ~often", kind);
+            let mut lines = vec![&often[..]; ENTRIES as usize];
+            let line = of_kind(&format!("{fields} ~rare"), kind);
             lines[place as usize] = &line;
             let table = lines.join("\n");
-            let case = Case::of(table.as_bytes());
+            let case = Case::of_kind(table.as_bytes(), kind.number());
             let firing = case.next(place, about - 1).expect("a firing");
 
             let room = case.enough();
@@ -315,10 +355,10 @@ fn the_longest_gap_and_the_bound_are_reached() {
 #[test]
 fn sample_tables_have_their_lines() {
     let mut random = Random::seeded();
-    for _ in 0..300 {
+    for kind in Kind::BOTH.repeat(200) {
         let count = random.below(8);
-        let table = samples::table(&mut random, count);
-        assert!(read(&table).is_ok());
-        long_run(&mut random, &[Case::of(&table)], 100);
+        let table = samples::table(&mut random, kind, count);
+        let number = kind_number(&mut random, kind);
+        long_run(&mut random, &[Case::of_kind(&table, number)], 100);
     }
 }

@@ -2,22 +2,40 @@
 
 use std::marker::PhantomData;
 
+/// What C says a table is: a user's, or the system's. Any other number is a system table, too.
+pub const USER_TABLE: u64 = 0;
+pub const SYSTEM_TABLE: u64 = 1;
+
 /// A table for a call.
 #[derive(Clone, Copy)]
 pub struct Table<'a> {
     start: *const u8,
     length: u64,
+    kind: u64,
     lent: PhantomData<&'a [u8]>,
 }
 
 impl<'a> Table<'a> {
+    /// A user table.
     #[inline]
     pub fn of(bytes: &'a [u8]) -> Table<'a> {
         // SAFETY: the bytes are borrowed for as long as the table lives.
         unsafe { Table::at(bytes.as_ptr(), bytes.len() as u64) }
     }
 
-    /// A table at any place, of any length.
+    /// A system table.
+    #[inline]
+    pub fn system(bytes: &'a [u8]) -> Table<'a> {
+        Table::of(bytes).of_kind(SYSTEM_TABLE)
+    }
+
+    /// The same bytes under any number as their kind.
+    #[inline]
+    pub fn of_kind(self, kind: u64) -> Table<'a> {
+        Table { kind, ..self }
+    }
+
+    /// A user table at any place, of any length.
     ///
     /// # Safety
     /// What a call touches of it may be read, and nobody writes to it.
@@ -26,6 +44,7 @@ impl<'a> Table<'a> {
         Table {
             start,
             length,
+            kind: USER_TABLE,
             lent: PhantomData,
         }
     }
@@ -35,14 +54,14 @@ impl<'a> Table<'a> {
 macro_rules! functions_of_a_table {
     ($($name:ident($($parameter:ident: $type:ty),*);)*) => {
         unsafe extern "C" {
-            $(fn $name(table: *const u8, table_length: u64, $($parameter: $type),*) -> u64;)*
+            $(fn $name(table: *const u8, table_length: u64, kind: u64, $($parameter: $type),*) -> u64;)*
         }
 
         /// Nothing is required of bytes or numbers; the pointers have as many bytes as the lengths beside them say.
         impl Table<'_> {
             $(#[inline]
             pub(crate) unsafe fn $name(self, $($parameter: $type),*) -> u64 {
-                unsafe { $name(self.start, self.length, $($parameter),*) }
+                unsafe { $name(self.start, self.length, self.kind, $($parameter),*) }
             })*
         }
     };
@@ -58,6 +77,12 @@ functions_of_a_table! {
         entry: u64, shell: *mut u8, shell_length: u64, input: *mut u8, input_length: u64
     );
     eremothyn_stdin_length(entry: u64);
+    eremothyn_user_offset(entry: u64);
+    eremothyn_user_length(entry: u64);
+    eremothyn_group_offset(entry: u64);
+    eremothyn_group_length(entry: u64);
+    eremothyn_class_offset(entry: u64);
+    eremothyn_class_length(entry: u64);
     eremothyn_setting_name_offset(line: u64);
     eremothyn_setting_name_length(line: u64);
     eremothyn_setting_value_offset(line: u64);

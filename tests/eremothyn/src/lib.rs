@@ -9,6 +9,6 @@ mod table;
 pub use calendar::{
     day, hour, minute_of_date, minute_of_hour, month, weekday, year, NOT_ON_CALENDAR,
 };
-pub use declared::Table;
+pub use declared::{Table, SYSTEM_TABLE, USER_TABLE};
 pub use run::Run;
 pub use second::answer::{Answer, REFUSED};

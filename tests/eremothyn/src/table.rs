@@ -1,4 +1,4 @@
-//! What a table says: its fault, its entries, their commands, its settings.
+//! What a table says: its fault, its entries, their commands and users, its settings.
 
 use crate::{Run, Table};
 use second::answer::{from_c, some_from_c, Answer};
@@ -49,6 +49,19 @@ impl Table<'_> {
     /// The length of an entry's input; none is "no input".
     pub fn stdin_length(self, entry: u64) -> Result<Option<u64>, u64> {
         some_from_c(unsafe { self.eremothyn_stdin_length(entry) })
+    }
+
+    /// Offset and length of an entry's user, of its group and of its class; 0 and 0 where it is absent.
+    pub fn user_column(self, entry: u64) -> [Answer; 6] {
+        let parts = [
+            Table::eremothyn_user_offset,
+            Table::eremothyn_user_length,
+            Table::eremothyn_group_offset,
+            Table::eremothyn_group_length,
+            Table::eremothyn_class_offset,
+            Table::eremothyn_class_length,
+        ];
+        parts.map(|part| from_c(unsafe { part(self, entry) }))
     }
 
     /// Name offset, name length, value offset and value length of a line's setting.

@@ -65,23 +65,27 @@ fn numbers(table: &Table) -> std::ops::Range<u64> {
 #[cfg(test)]
 mod tests {
     use super::*;
-    use crate::table::read;
+    use crate::table::{read, Kind};
 
     #[test]
     fn the_whole_run() {
-        let table = read(b"* * * * * a\n@reboot b\n0 * * * * c\n").expect("a good table");
-        let mut queue = Queue::fresh(&table);
-        assert_eq!(queue.pop(&table), Ok(Some(1)));
-        assert_eq!(queue.tick(&table, 59), Ok(1));
-        assert_eq!(queue.tick(&table, 60), Ok(1));
-        assert_eq!(queue.pop(&table), Ok(Some(0)));
-        assert_eq!(queue.pop(&table), Ok(Some(2)));
-        assert_eq!(queue.pop(&table), Ok(None));
+        let user = "* * * * * a\n@reboot b\n0 * * * * c\n";
+        let system = "* * * * * r a\n@reboot r:s b\n0 * * * * r/t c\n";
+        for (bytes, kind) in [(user, Kind::User), (system, Kind::System)] {
+            let table = read(bytes.as_bytes(), kind).expect("a good table");
+            let mut queue = Queue::fresh(&table);
+            assert_eq!(queue.pop(&table), Ok(Some(1)));
+            assert_eq!(queue.tick(&table, 59), Ok(1));
+            assert_eq!(queue.tick(&table, 60), Ok(1));
+            assert_eq!(queue.pop(&table), Ok(Some(0)));
+            assert_eq!(queue.pop(&table), Ok(Some(2)));
+            assert_eq!(queue.pop(&table), Ok(None));
+        }
     }
 
     #[test]
     fn lines_that_are_none_of_the_table() {
-        let table = read(b"* * * * * a\n@reboot b\n").expect("a good table");
+        let table = read(b"* * * * * a\n@reboot b\n", Kind::User).expect("a good table");
         let rows: [(&[u64], bool); 6] = [
             (&[], true),
             (&[1, 0], true),

@@ -4,6 +4,9 @@
 pub mod calls;
 pub mod documents;
 pub mod samples;
+mod user_column;
+
+pub use user_column::{Kind, UserColumn, NAME_BYTES};
 
 use crate::schedule::Schedule;
 
@@ -24,6 +27,7 @@ const NO_COMMAND: u64 = 9;
 const UNKNOWN_WORD: u64 = 10;
 const BAD_SETTING: u64 = 11;
 const TOO_MANY_ENTRIES: u64 = 12;
+const BAD_USER_COLUMN: u64 = 20;
 
 /// Why a table is refused, and where: line and column count from 1, and are 0 for the whole table.
 #[derive(Clone, Copy, Debug, PartialEq, Eq)]
@@ -43,6 +47,7 @@ pub struct Table<'a> {
 #[derive(Clone, Debug, PartialEq, Eq)]
 pub struct Entry<'a> {
     pub when: When,
+    pub column: UserColumn,
     pub command: &'a [u8],
 }
 
@@ -84,7 +89,7 @@ impl When {
 }
 
 /// Reads a table, up to its first fault.
-pub fn read(bytes: &[u8]) -> Result<Table<'_>, Fault> {
+pub fn read(bytes: &[u8], kind: Kind) -> Result<Table<'_>, Fault> {
     if bytes.len() > TABLE_BYTES {
         return Err(Fault {
             number: TABLE_TOO_LONG,
@@ -101,13 +106,16 @@ pub fn read(bytes: &[u8]) -> Result<Table<'_>, Fault> {
             line: number,
             column: at as u64 + 1,
         };
-        match meaning(line).map_err(fault)? {
+        match meaning(line, kind).map_err(fault)? {
             Line::Ignored => {}
             Line::Setting(setting) => table.settings.push((number, setting.later(offset))),
             Line::Entry(_) if table.entries.len() == ENTRIES => {
                 return Err(fault(Bad(TOO_MANY_ENTRIES, 0)));
             }
-            Line::Entry(entry) => table.entries.push(entry),
+            Line::Entry(entry) => table.entries.push(Entry {
+                column: entry.column.later(offset),
+                ..entry
+            }),
         }
         offset += line.len() + 1;
     }
@@ -117,9 +125,9 @@ pub fn read(bytes: &[u8]) -> Result<Table<'_>, Fault> {
 /// A refusal's number, and how many bytes of the line stand before its place.
 struct Bad(u64, usize);
 
+/// Offsets are in the line.
 enum Line<'a> {
     Ignored,
-    /// With offsets in the line.
     Setting(Setting),
     Entry(Entry<'a>),
 }
@@ -130,7 +138,7 @@ fn lines(bytes: &[u8]) -> impl Iterator<Item = &[u8]> {
         .map(|line| line.strip_suffix(b"\n").unwrap_or(line))
 }
 
-fn meaning(line: &[u8]) -> Result<Line<'_>, Bad> {
+fn meaning(line: &[u8], kind: Kind) -> Result<Line<'_>, Bad> {
     if line.len() > LINE_BYTES {
         return Err(Bad(LINE_TOO_LONG, LINE_BYTES));
     }
@@ -141,15 +149,24 @@ fn meaning(line: &[u8]) -> Result<Line<'_>, Bad> {
     let Some(first) = words.next() else {
         return Ok(Line::Ignored);
     };
-    match first.text[0] {
-        b'#' => Ok(Line::Ignored),
-        b'@' => at_entry(line, first, words).map(Line::Entry),
-        b'*' | b'0'..=b'9' => timed_entry(line, first, words).map(Line::Entry),
-        _ => match setting(line, first.at) {
-            Some(setting) => Ok(Line::Setting(setting)),
-            None => Err(Bad(BAD_SETTING, first.at)),
-        },
-    }
+    let when = match first.text[0] {
+        b'#' => return Ok(Line::Ignored),
+        b'@' => at_word(first)?,
+        b'*' | b'0'..=b'9' => {
+            let fields = [first].into_iter().chain(words.by_ref());
+            When::Times(schedule(line.len(), fields)?)
+        }
+        _ => {
+            let setting = setting(line, first.at).ok_or(Bad(BAD_SETTING, first.at))?;
+            return Ok(Line::Setting(setting));
+        }
+    };
+    let (column, command) = after_time(line, kind, words)?;
+    Ok(Line::Entry(Entry {
+        when,
+        column,
+        command,
+    }))
 }
 
 /// A run of bytes that aren't blank, and how many bytes of the line stand before it.
@@ -184,44 +201,38 @@ fn is_blank(byte: u8) -> bool {
     byte == b' ' || byte == b'\t'
 }
 
-/// What follows the words that are taken: it starts with the next one.
-fn command<'a>(line: &'a [u8], mut words: Words<'a>) -> Result<&'a [u8], Bad> {
-    match words.next() {
-        Some(word) => Ok(&line[word.at..]),
-        None => Err(Bad(NO_COMMAND, line.len())),
-    }
-}
-
-fn at_entry<'a>(line: &'a [u8], word: Word, words: Words<'a>) -> Result<Entry<'a>, Bad> {
-    let fields = match word.text {
-        b"@reboot" => None,
-        b"@yearly" | b"@annually" => Some("0 0 1 1 *"),
-        b"@monthly" => Some("0 0 1 * *"),
-        b"@weekly" => Some("0 0 * * 0"),
-        b"@daily" | b"@midnight" => Some("0 0 * * *"),
-        b"@hourly" => Some("0 * * * *"),
-        _ => return Err(Bad(UNKNOWN_WORD, word.at)),
-    };
-    let when = match fields {
-        None => When::Reboot,
-        Some(text) => {
-            let line = text.as_bytes();
-            When::Times(schedule(line.len(), Words { line, at: 0 })?)
+/// What follows the words of the time: in a system table a user column, and then the command, which starts with the next
+/// word.
+fn after_time<'a>(
+    line: &'a [u8],
+    kind: Kind,
+    mut words: Words<'a>,
+) -> Result<(UserColumn, &'a [u8]), Bad> {
+    let mut next = || words.next().ok_or(Bad(NO_COMMAND, line.len()));
+    let column = match kind {
+        Kind::User => UserColumn::default(),
+        Kind::System => {
+            let word = next()?;
+            UserColumn::of(word).ok_or(Bad(BAD_USER_COLUMN, word.at))?
         }
     };
-    let command = command(line, words)?;
-    Ok(Entry { when, command })
+    let command = next()?;
+    Ok((column, &line[command.at..]))
 }
 
-fn timed_entry<'a>(
-    line: &'a [u8],
-    first: Word<'a>,
-    mut words: Words<'a>,
-) -> Result<Entry<'a>, Bad> {
-    let fields = [first].into_iter().chain(words.by_ref());
-    let when = When::Times(schedule(line.len(), fields)?);
-    let command = command(line, words)?;
-    Ok(Entry { when, command })
+/// What an `@` word stands for.
+fn at_word(word: Word) -> Result<When, Bad> {
+    let fields = match word.text {
+        b"@reboot" => return Ok(When::Reboot),
+        b"@yearly" | b"@annually" => "0 0 1 1 *",
+        b"@monthly" => "0 0 1 * *",
+        b"@weekly" => "0 0 * * 0",
+        b"@daily" | b"@midnight" => "0 0 * * *",
+        b"@hourly" => "0 * * * *",
+        _ => return Err(Bad(UNKNOWN_WORD, word.at)),
+    };
+    let line = fields.as_bytes();
+    schedule(line.len(), Words { line, at: 0 }).map(When::Times)
 }
 
 /// A field's first and last value, and the names of its values from the first on.

@@ -21,7 +21,7 @@ offer-all-requires c κs =
     let k = c .before .before .before in
     let b = k .before .before .before in
     let t = b .before .before .before .read in
-    let few : t .result .count ≤ maxEntries = rw (t .ensures) (table-sound _ .few) in
+    let few : t .result .count ≤ maxEntries = rw (t .ensures) (table-sound _ _ .few) in
     (few, emptied-line (t .result) _ (k .clear .last .0) few (sym (b .has-room .ensures) ∙ k .before .before .if2 .taken) (k .clear .ensures .1))
 
 returns-2 : tie.Need-returns-2
@@ -31,7 +31,7 @@ returns-2 c =
     let b = d .before .before .before in
     let t = b .before .before .before .read .result in
     let r = sym (b .has-room .ensures) ∙ d .before .before .if2 .taken in
-    let few : t .count ≤ maxEntries = rw (b .before .before .before .read .ensures) (table-sound _ .few) in
+    let few : t .count ≤ maxEntries = rw (b .before .before .before .read .ensures) (table-sound _ _ .few) in
     rw (
       ← (b .before .before .before .read .ensures),
       init-good t _ (b .before .before .if1 .left),

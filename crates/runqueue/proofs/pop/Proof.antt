@@ -17,7 +17,7 @@ returns-2 c =
     let b = c .before .before .before .before in
     let e = b .before .check .ensures in
     let a = b .before .before .before .before .args in
-    rw (pop-good (tableOf (a .table .now)) (a .room .now) (rw e at (b .if1 .left))) (rw e at (c .before .before .pop .ensures))
+    rw (pop-good (tableOf (a .rules) (a .table .now)) (a .room .now) (rw e at (b .if1 .left))) (rw e at (c .before .before .pop .ensures))
 
 pub pop-spec : {M : Type 1} → statement M
 pop-spec = tie.close (tie.spec (λ c κs. search needs) returns (λ c κs. search needs) (λ c. search needs) returns-2)

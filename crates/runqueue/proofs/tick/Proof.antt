@@ -27,7 +27,7 @@ returns-2 c =
 offer-all-requires : tie.Need-offer-all-requires
 offer-all-requires c κs =
     let b = c .before .before .before .before .before in (
-      rw (b .before .before .before .read .ensures) (table-sound _ .few),
+      rw (b .before .before .before .read .ensures) (table-sound _ _ .few),
       sym (b .is-line .ensures) ∙ c .before .before .before .before .if2 .taken,
     )
 

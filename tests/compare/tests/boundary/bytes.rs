@@ -1,16 +1,16 @@
 //! Bytes of every kind: any at all, those that mean something, good tables, and good tables damaged.
 
 use second::random::Random;
-use second::table::documents::{ENTRIES, SETTINGS};
-use second::table::samples;
+use second::table::documents::{ENTRIES, SETTINGS, SYSTEM_ENTRIES};
+use second::table::{samples, Kind};
 
 /// So many bytes, each as likely as another.
 pub fn any(random: &mut Random, length: usize) -> Vec<u8> {
     (0..length).map(|_| random.number() as u8).collect()
 }
 
-/// A table of some lines or some bytes: good or not.
-pub fn table(random: &mut Random) -> Vec<u8> {
+/// A table of some lines or some bytes, of a kind: good or not.
+pub fn table(random: &mut Random, kind: Kind) -> Vec<u8> {
     let length = random.below(60);
     match random.below(16) {
         0 => any(random, length as usize),
@@ -20,33 +20,45 @@ pub fn table(random: &mut Random) -> Vec<u8> {
             [start.as_bytes(), &samples::noise(random, length)].concat()
         }
         6 => {
-            let (line, _, _) = samples::bad_line(random);
-            [good(random), line].join(&b'\n')
+            let (line, _, _) = samples::bad_line(random, kind);
+            [good(random, kind), line].join(&b'\n')
         }
-        7 => good(random),
+        7 => good(random, kind),
         _ => {
-            let table = good(random);
+            let table = good(random, kind);
             damaged(random, table)
         }
     }
 }
 
 /// How a line may start well.
-const STARTS: [&str; 7] = ["* ", "1 1 1 1 1 ", "a=", "\"", "@", "5,", "* * * * "];
+const STARTS: [&str; 10] = [
+    "* ",
+    "1 1 1 1 1 ",
+    "a=",
+    "\"",
+    "@",
+    "5,",
+    "* * * * ",
+    "@daily a:",
+    "@daily a/",
+    "* * * * * a:b/",
+];
 
 /// A good table, or one of lines that stand in the documents.
-fn good(random: &mut Random) -> Vec<u8> {
+fn good(random: &mut Random, kind: Kind) -> Vec<u8> {
     let lines = random.below(5);
     match random.below(3) {
         0 => {
             let line = |random: &mut Random| match random.below(4) {
                 0 => random.pick(&SETTINGS).0.as_bytes(),
+                _ if kind == Kind::System => random.pick(&SYSTEM_ENTRIES).0.as_bytes(),
                 _ => random.pick(&ENTRIES).0.as_bytes(),
             };
             let lines: Vec<&[u8]> = (0..lines).map(|_| line(random)).collect();
             lines.join(&b'\n')
         }
-        _ => samples::table(random, lines),
+        _ => samples::table(random, kind, lines),
     }
 }
 

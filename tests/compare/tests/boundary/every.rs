@@ -1,15 +1,26 @@
 //! Every function that is lent a table.
 
 use crate::{numbers, rooms};
+use compare::samples::kind_number;
 use compare::table::Compared;
 use second::random::Random;
+use second::table::Kind;
 
-/// Every call with a table, with numbers of every size, and with buffers and rooms about as long as is needed.
-pub fn every_call(random: &mut Random, table: &[u8]) {
-    let compared = Compared::of(table);
+/// Every call with a table, under any number as its kind, with numbers of every size, and with buffers and rooms about as
+/// long as is needed.
+pub fn every_call(random: &mut Random, table: &[u8], kind: u64) {
+    let compared = Compared::of_kind(table, kind);
     compared.everything(random);
     any_numbers(random, &compared);
-    rooms::every_call(random, table, compared.check());
+    rooms::every_call(random, table, kind, compared.check());
+}
+
+/// The same bytes as a table of either kind.
+pub fn every_call_in_both_kinds(random: &mut Random, table: &[u8]) {
+    for kind in Kind::BOTH {
+        let number = kind_number(random, kind);
+        every_call(random, table, number);
+    }
 }
 
 /// Every call that takes a number, with numbers that are seldom there.
@@ -21,6 +32,7 @@ fn any_numbers(random: &mut Random, compared: &Compared) {
         let _ = compared.due(entry, minute);
         let _ = compared.next(entry, minute);
         let _ = compared.stdin_length(entry);
+        let _ = compared.user_column(entry);
         let _ = compared.setting(numbers::number(random, count));
         let about = compared.needed(entry).map(|needed| {
             let length = needed as u64 + random.below(5);

@@ -1,22 +1,23 @@
 //! Tables at the limits and one past them.
 
 use crate::every::every_call;
+use compare::samples::of_kind;
 use compare::table::Compared;
 use second::random::Random;
-use second::table::{ENTRIES, LINE_BYTES, TABLE_BYTES};
+use second::table::{Kind, ENTRIES, LINE_BYTES, TABLE_BYTES};
 
 /// A table, and number, line and column of its refusal.
 type Row = (Vec<u8>, Option<[u64; 3]>);
 
 const TOO_LONG: Option<[u64; 3]> = Some([1, 0, 0]);
 
-/// How entries, settings, comments and blank lines start, and a byte that they go on with.
+/// How entries, settings, comments and blank lines start, and a byte that they go on with. `~` is a system table's user.
 const STARTS: [(&str, u8); 10] = [
-    ("* * * * * ", b'a'),
-    ("* * * * * a", b'%'),
-    ("1,2 3-4 */5 jan mon %", b'a'),
-    ("@reboot ", b'a'),
-    ("@daily ", b'\\'),
+    ("* * * * * ~", b'a'),
+    ("* * * * * ~a", b'%'),
+    ("1,2 3-4 */5 jan mon ~%", b'a'),
+    ("@reboot ~", b'a'),
+    ("@daily ~", b'\\'),
     ("a=", b'a'),
     ("a=b", b' '),
     ("'a'=", b'a'),
@@ -25,8 +26,8 @@ const STARTS: [(&str, u8); 10] = [
 ];
 
 /// A line that is filled up to a length.
-fn line((start, byte): (&str, u8), length: usize) -> Vec<u8> {
-    let mut line = start.as_bytes().to_vec();
+fn line(kind: Kind, (start, byte): (&str, u8), length: usize) -> Vec<u8> {
+    let mut line = of_kind(start, kind).into_bytes();
     line.resize(length, byte);
     line
 }
@@ -37,7 +38,7 @@ fn cycled(text: &[u8], total: usize) -> Vec<u8> {
 }
 
 /// Lines about as long as may be, alone and among others.
-fn long_lines() -> Vec<Row> {
+fn long_lines(kind: Kind) -> Vec<Row> {
     let mut rows = Vec::new();
     let mut add = |line: Vec<u8>| {
         let over = line.len() > LINE_BYTES;
@@ -48,20 +49,20 @@ fn long_lines() -> Vec<Row> {
     };
     for length in LINE_BYTES - 1..=LINE_BYTES + 1 {
         for start in STARTS {
-            add(line(start, length));
+            add(line(kind, start, length));
         }
         // A name up to the last byte.
-        add([&line(("", b'n'), length - 1)[..], b"="].concat());
+        add([&line(kind, ("", b'n'), length - 1)[..], b"="].concat());
     }
     rows
 }
 
 /// Tables about as long as may be.
-fn long_tables() -> Vec<Row> {
+fn long_tables(kind: Kind) -> Vec<Row> {
     let mut rows = Vec::new();
     for start in STARTS {
         let lines = |length: usize, total: usize| {
-            let line = [&line(start, length)[..], b"\n"].concat();
+            let line = [&line(kind, start, length)[..], b"\n"].concat();
             cycled(&line, total)
         };
         // 16 whole lines and one of 368 bytes
@@ -94,10 +95,11 @@ fn long_tables() -> Vec<Row> {
 }
 
 /// Tables with about as many entries as may be.
-fn many_entries() -> Vec<Row> {
+fn many_entries(kind: Kind) -> Vec<Row> {
     let mut rows = Vec::new();
     for start in ["* * * * *", "@reboot", "@daily", "0-59/7 0 29 2 *"] {
-        let entries = |count: usize| format!("{start} a%b\n").repeat(count).into_bytes();
+        let entry = of_kind(&format!("{start} ~a%b\n"), kind);
+        let entries = |count: usize| entry.repeat(count).into_bytes();
         rows.push((entries(ENTRIES), None));
         rows.push((entries(ENTRIES + 1), Some([12, 129, 1])));
         rows.push(([&entries(ENTRIES)[..], b"a=b"].concat(), None));
@@ -105,31 +107,35 @@ fn many_entries() -> Vec<Row> {
     rows
 }
 
-fn rows() -> Vec<Row> {
-    [long_lines(), long_tables(), many_entries()].concat()
+fn rows(kind: Kind) -> Vec<Row> {
+    [long_lines(kind), long_tables(kind), many_entries(kind)].concat()
 }
 
 #[test]
 fn tables_at_the_limits() {
     let mut random = Random::seeded();
-    for (table, fault) in rows() {
-        let shown = table[..table.len().min(50)].escape_ascii();
-        let found = Compared::of(&table).fault();
-        assert_eq!(found, fault, "{shown}, {} bytes", table.len());
-        every_call(&mut random, &table);
+    for kind in Kind::BOTH {
+        for (table, fault) in rows(kind) {
+            let shown = table[..table.len().min(50)].escape_ascii();
+            let found = Compared::of_kind(&table, kind.number()).fault();
+            assert_eq!(found, fault, "{kind:?} {shown}, {} bytes", table.len());
+            every_call(&mut random, &table, kind.number());
+        }
     }
 }
 
 #[test]
 fn tables_at_the_limits_with_one_byte_changed() {
     let mut random = Random::seeded();
-    for (mut table, _) in rows() {
-        for _ in 0..10 {
-            let at = random.below(table.len() as u64) as usize;
-            let byte = random.pick(b"\0\n \t%\\*@#='\"1a\xff");
-            let before = std::mem::replace(&mut table[at], byte);
-            Compared::of(&table).everything(&mut random);
-            table[at] = before;
+    for kind in Kind::BOTH {
+        for (mut table, _) in rows(kind) {
+            for _ in 0..10 {
+                let at = random.below(table.len() as u64) as usize;
+                let byte = random.pick(b"\0\n \t%\\*@#='\"1a\xff:/-");
+                let before = std::mem::replace(&mut table[at], byte);
+                Compared::of_kind(&table, kind.number()).everything(&mut random);
+                table[at] = before;
+            }
         }
     }
 }

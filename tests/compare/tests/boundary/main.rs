@@ -4,7 +4,6 @@
 
 mod bytes;
 mod every;
-mod kinds;
 mod lengths;
 mod limits;
 mod null;
@@ -12,3 +11,4 @@ mod numbers;
 mod raw;
 mod rooms;
 mod splitting;
+mod tables;

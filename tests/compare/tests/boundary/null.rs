@@ -1,8 +1,8 @@
 //! A null pointer with length 0 is an empty run of bytes like any other, for every pointer of every function.
 
-use crate::raw::{judged, queue_answers, split, table_answers, Place};
+use crate::raw::{judged, queue_answers, split, table_answers, Place, KINDS};
 use compare::queue::Case;
-use eremothyn::{Answer, REFUSED};
+use eremothyn::{Answer, Table, REFUSED};
 use guard::Guarded;
 use std::ptr;
 
@@ -19,27 +19,35 @@ fn for_each_empty(test: impl Fn(Place)) {
 
 #[test]
 fn no_table() {
-    let [a, b] = [NO_ENTRY, NO_SETTING];
     for_each_empty(|empty| {
-        let table = empty.table();
-        assert_eq!(judged(table), (Ok(0), 0, 0));
-        for number in [0, 1, u64::MAX] {
-            let answers = table_answers(table, number, number);
-            assert_eq!(answers, [a, a, a, b, b, b, b]);
-            let mut bytes = [7];
-            for buffer in [empty, Place::of_mut(&mut bytes)] {
-                assert_eq!(split(table, number, buffer, empty), NO_ENTRY);
-                assert_eq!(split(table, number, empty, buffer), NO_ENTRY);
+        for kind in KINDS {
+            let table = empty.table().of_kind(kind);
+            assert_eq!(judged(table), (Ok(0), 0, 0));
+            for number in [0, 1, u64::MAX] {
+                let answers = table_answers(table, number, number);
+                assert_eq!(answers[..9], [NO_ENTRY; 9]);
+                assert_eq!(answers[9..], [NO_SETTING; 4]);
+                let mut bytes = [7];
+                for buffer in [empty, Place::of_mut(&mut bytes)] {
+                    assert_eq!(split(table, number, buffer, empty), NO_ENTRY);
+                    assert_eq!(split(table, number, empty, buffer), NO_ENTRY);
+                }
+                assert_eq!(bytes, [7]);
             }
-            assert_eq!(bytes, [7]);
         }
     });
 }
 
 #[test]
 fn no_buffer() {
-    let table = Guarded::read_only(b"@daily a%b\n@daily a\n@daily a%\n@daily %\n@daily %b\n");
-    let table = Place::of(&table).table();
+    let user = b"@daily a%b\n@daily a\n@daily a%\n@daily %\n@daily %b\n";
+    let system = b"@daily u a%b\n@daily u a\n@daily u a%\n@daily u %\n@daily u %b\n";
+    let [user, system] = [&user[..], system].map(Guarded::read_only);
+    no_buffer_for(Place::of(&user).table());
+    no_buffer_for(Place::of(&system).table().of_kind(1));
+}
+
+fn no_buffer_for(table: Table) {
     // The answers with no buffer for the shell line, with none for the input, and with neither.
     let rows = [
         (0, [TOO_SHORT, TOO_SHORT, TOO_SHORT]),
@@ -62,17 +70,21 @@ fn no_buffer() {
 
 #[test]
 fn no_room() {
-    let entry = Guarded::read_only(b"@reboot a");
+    // An entry in both kinds.
+    let entry = Guarded::read_only(b"@reboot a b");
     let entry = Place::of(&entry).table();
     let least = Case::of(b"").least;
     for_each_empty(|empty| {
-        assert_eq!(queue_answers(entry, empty), [NO_LINE; 3]);
-        // A table without entries has a line, and whether that needs room is the library's own affair.
-        let mut room = vec![7; least];
-        let answers = queue_answers(empty.table(), Place::of_mut(&mut room));
-        assert_eq!(answers, [Ok(0), Ok(0), Ok(REFUSED)]);
-        if least > 0 {
-            assert_eq!(queue_answers(empty.table(), empty), [NO_LINE; 3]);
+        for kind in KINDS {
+            assert_eq!(queue_answers(entry.of_kind(kind), empty), [NO_LINE; 3]);
+            // A table without entries has a line, and whether that needs room is the library's own affair.
+            let table = empty.table().of_kind(kind);
+            let mut room = vec![7; least];
+            let answers = queue_answers(table, Place::of_mut(&mut room));
+            assert_eq!(answers, [Ok(0), Ok(0), Ok(REFUSED)]);
+            if least > 0 {
+                assert_eq!(queue_answers(table, empty), [NO_LINE; 3]);
+            }
         }
     });
 }

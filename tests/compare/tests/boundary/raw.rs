@@ -2,6 +2,9 @@
 
 use eremothyn::{Answer, Run, Table};
 
+/// Numbers of both kinds.
+pub const KINDS: [u64; 5] = [0, 1, 2, 1 << 32, u64::MAX];
+
 /// Where bytes start, and how many they are said to be.
 #[derive(Clone, Copy)]
 pub struct Place(pub *mut u8, pub u64);
@@ -31,12 +34,14 @@ pub fn number(answer: Result<Option<u64>, u64>) -> Answer {
     answer.map(|some| some.unwrap_or(eremothyn::REFUSED))
 }
 
-/// Due, next and the input's length of an entry; the four parts of a setting.
-pub fn table_answers(table: Table, entry: u64, line: u64) -> [Answer; 7] {
-    let [a, b, c, d] = table.setting(line);
+/// Due, next and the input's length of an entry; the six numbers of its user column; the four parts of a setting.
+pub fn table_answers(table: Table, entry: u64, line: u64) -> [Answer; 13] {
     let due = table.due(entry, 0);
     let next = table.next(entry, 0);
-    [due, next, number(table.stdin_length(entry)), a, b, c, d]
+    let input = number(table.stdin_length(entry));
+    let [a, b, c, d, e, f] = table.user_column(entry);
+    let [g, h, i, j] = table.setting(line);
+    [due, next, input, a, b, c, d, e, f, g, h, i, j]
 }
 
 /// Check, fault line and fault column.

@@ -2,22 +2,23 @@
 
 use crate::{bytes, numbers};
 use compare::queue::{judge, refused, Case, Compared};
-use compare::samples::{alike, busy_table, damage};
+use compare::samples::{alike, any_kind, busy_table, damage};
 use eremothyn::{Answer, Table};
 use guard::filled;
 use second::queue::Queue;
 use second::random::Random;
+use second::table::Kind;
 
 /// Every call of the run queue with a table, whose check answered so, in some room.
-pub fn every_call(random: &mut Random, table: &[u8], check: Answer) {
+pub fn every_call(random: &mut Random, table: &[u8], kind: u64, check: Answer) {
     let minute = numbers::minute(random);
     match check {
         Err(number) => {
             let length = random.below(100) as usize;
-            refused(table, number, &bytes::any(random, length), minute);
+            refused(table, kind, number, &bytes::any(random, length), minute);
         }
         Ok(_) => {
-            let case = Case::of(table);
+            let case = Case::of_kind(table, kind);
             for _ in 0..3 {
                 let length = near(random, case.least);
                 let _ = every_call_in(random, &case, length);
@@ -75,8 +76,9 @@ fn rooms_of_every_length() {
     let mut random = Random::seeded();
     let (mut lines, mut others) = (0, 0);
     for entries in [0, 1, 2, 3, 4, 5, 8, 13, 31, 64, 127, 128] {
-        let table = busy_table(&mut random, entries);
-        let case = Case::of(&table);
+        let kind = any_kind(&mut random);
+        let table = busy_table(&mut random, kind, entries);
+        let case = Case::of_kind(&table, kind.number());
         let times = if entries < 10 { 40 } else { 2 };
         for length in 0..=case.enough() + 9 {
             for _ in 0..times {
@@ -94,15 +96,18 @@ fn rooms_of_every_length() {
     );
 }
 
-/// The least room is one for the count of entries, whatever they are, and all of them can wait in it.
+/// The least room is one for the count of entries, whatever they are and of either kind, and all of them can wait in it.
 #[test]
 fn the_least_room_holds_all_entries() {
     let mut least = Vec::new();
     for entries in (0..=20).chain([63, 64, 65, 126, 127, 128]) {
-        let tables = [alike("* * * * *", entries), alike("@reboot", entries)];
-        let cases = tables.each_ref().map(|table| Case::of(table));
-        assert_eq!(cases[0].least, cases[1].least);
-        least.push(cases[0].least);
+        let tables = all_alike(entries);
+        let cases = tables
+            .each_ref()
+            .map(|(table, kind)| Case::of_kind(table, kind.number()));
+        let room = cases[0].least;
+        assert!(cases.iter().all(|case| case.least == room));
+        least.push(room);
         for case in &cases {
             let mut line = Compared::fresh(case, case.least);
             let _ = line.tick(case, case.least, 0);
@@ -113,12 +118,20 @@ fn the_least_room_holds_all_entries() {
     assert!(least.is_sorted(), "{least:?}");
 }
 
+/// Tables of both kinds with so many entries, which fire every minute or at boot.
+fn all_alike(entries: usize) -> [(Vec<u8>, Kind); 4] {
+    let [user, system] = Kind::BOTH
+        .map(|kind| ["* * * * *", "@reboot"].map(|time| (alike(kind, time, entries), kind)));
+    let ([a, b], [c, d]) = (user, system);
+    [a, b, c, d]
+}
+
 /// A line goes on in a shorter or longer part of its buffer, or is refused there and stays.
 #[test]
 fn a_line_lent_in_parts_of_every_length() {
     for entries in [0, 1, 2, 7, 20, 65, 128] {
-        for table in [alike("* * * * *", entries), alike("@reboot", entries)] {
-            let case = Case::of(&table);
+        for (table, kind) in all_alike(entries) {
+            let case = Case::of_kind(&table, kind.number());
             let most = case.enough() + 70;
             let about = case.least.saturating_sub(1)..=case.least + 1;
             for length in (0..=most).step_by(7).chain(about).chain([case.enough()]) {
@@ -137,13 +150,15 @@ fn a_line_lent_in_parts_of_every_length() {
 fn bytes_behind_what_a_fresh_line_writes_stay() {
     let mut random = Random::seeded();
     for entries in 0..40 {
-        let table = busy_table(&mut random, entries);
-        let case = Case::of(&table);
+        let kind = any_kind(&mut random);
+        let table = busy_table(&mut random, kind, entries);
+        let case = Case::of_kind(&table, kind.number());
         // A byte that is written is the same in both rooms, and no other is.
         let before = filled(case.enough());
         let rooms = [before.clone(), before.iter().map(|byte| !byte).collect()];
         let after = rooms.clone().map(|mut room: Vec<u8>| {
-            let answer = Table::of(&table).queue_init(&mut room[..]);
+            let table = Table::of(&table).of_kind(kind.number());
+            let answer = table.queue_init(&mut room[..]);
             assert!(answer.is_ok());
             room
         });
@@ -161,11 +176,12 @@ fn bytes_behind_what_a_fresh_line_writes_stay() {
 /// Rooms in which every two bytes are changed, in small tables.
 #[test]
 fn rooms_with_any_two_bytes() {
-    for table in [
-        &b"* * * * * a\n@reboot b\n"[..],
-        b"* * * * * a\n0 * * * * b\n@reboot c\n",
+    for (table, kind) in [
+        (&b"* * * * * a\n@reboot b\n"[..], 0),
+        (b"* * * * * a\n0 * * * * b\n@reboot c\n", 0),
+        (b"* * * * * u a\n@reboot u b\n", 1),
     ] {
-        let case = Case::of(table);
+        let case = Case::of_kind(table, kind);
         let mut line = Compared::fresh(&case, case.least);
         for minute in [None, Some(1), Some(0)] {
             if let Some(minute) = minute {

@@ -1,5 +1,6 @@
 //! Commands split into buffers of every length about what is needed.
 
+use compare::samples::{any_kind, of_kind};
 use compare::table::Compared;
 use second::random::Random;
 use second::table::LINE_BYTES;
@@ -27,9 +28,12 @@ fn split_into_every(compared: &Compared, entry: u64, before: usize, beyond: usiz
 fn short_commands_into_all_buffers() {
     let mut random = Random::seeded();
     for _ in 0..2_000 {
+        let kind = any_kind(&mut random);
         let length = 1 + random.below(14) as usize;
-        let table = [b"@daily ", &command(&mut random, length)[..]].concat();
-        split_into_every(&Compared::of(&table), 0, length, 2);
+        let start = of_kind("@daily ~", kind);
+        let table = [start.as_bytes(), &command(&mut random, length)].concat();
+        let compared = Compared::of_kind(&table, kind.number());
+        split_into_every(&compared, 0, length, 2);
     }
 }
 
@@ -37,7 +41,8 @@ fn short_commands_into_all_buffers() {
 fn long_commands_into_buffers_about_the_needed_length() {
     let mut random = Random::seeded();
     for _ in 0..500 {
-        let start = b"@reboot\t";
+        let kind = any_kind(&mut random);
+        let start = of_kind("@reboot\t~", kind);
         let length = LINE_BYTES - start.len() - random.below(3) as usize;
         let rare = random.below(2) == 0;
         let mut command = command(&mut random, length);
@@ -46,9 +51,9 @@ fn long_commands_into_buffers_about_the_needed_length() {
             command.fill(b'a');
             command[random.below(length as u64) as usize] = random.pick(b"%\\");
         }
-        let line = [start, &command[..]].concat();
-        let table = [&line[..], b"@daily a", &line].join(&b'\n');
-        let compared = Compared::of(&table);
+        let line = [start.as_bytes(), &command].concat();
+        let table = [&line[..], b"@daily a b", &line].join(&b'\n');
+        let compared = Compared::of_kind(&table, kind.number());
         for entry in [0, 2] {
             split_into_every(&compared, entry, 2, 2);
             // A command's length is always room enough.

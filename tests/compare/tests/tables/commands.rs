@@ -1,8 +1,10 @@
 //! Commands split into shell line and input, and the two buffers.
 
+use compare::samples::of_kind;
 use compare::table::Compared;
 use eremothyn::Table;
 use second::random::Random;
+use second::table::Kind;
 
 /// Every text of one to so many of these bytes.
 fn texts(bytes: &[u8], most: u32) -> impl Iterator<Item = Vec<u8>> + '_ {
@@ -22,22 +24,29 @@ fn texts(bytes: &[u8], most: u32) -> impl Iterator<Item = Vec<u8>> + '_ {
 #[test]
 fn percent_and_backslash_in_every_combination() {
     for text in texts(b"%\\ab ", 6) {
-        let line = [b"@daily x", &text[..]].concat();
-        let table = Compared::of(&line);
-        let _ = table.stdin_length(0);
-        table.split_into_all(0);
+        for (start, kind) in [("@daily x", 0), ("@daily u:g x", 1)] {
+            let line = [start.as_bytes(), &text].concat();
+            let table = Compared::of_kind(&line, kind);
+            let _ = table.stdin_length(0);
+            table.split_into_all(0);
+        }
     }
 }
 
 #[test]
 fn commands_that_are_percent_and_backslash_alone() {
     for text in texts(b"%\\", 10) {
-        for start in ["* * * * * ", "@reboot\t", " 1 1 1 1 1\t "] {
+        for (start, kind) in [
+            ("* * * * * ", 0),
+            ("@reboot\t", 0),
+            (" 1 1 1 1 1\t ", 0),
+            ("@reboot\tu/l\t ", 1),
+        ] {
             let table = [start.as_bytes(), &text, b"\n\\%%"].concat();
             // What follows is a line of its own, and no good one.
-            assert_eq!(Compared::of(&table).fault(), Some([11, 2, 1]));
+            assert_eq!(Compared::of_kind(&table, kind).fault(), Some([11, 2, 1]));
             let table = &table[..table.len() - 3];
-            let compared = Compared::of(table);
+            let compared = Compared::of_kind(table, kind);
             let _ = compared.stdin_length(0);
             compared.split_into_all(0);
         }
@@ -45,9 +54,9 @@ fn commands_that_are_percent_and_backslash_alone() {
 }
 
 /// The shell line and the input of a table's first entry.
-fn split(table: &str) -> [Vec<u8>; 2] {
+fn split(table: &str, kind: Kind) -> [Vec<u8>; 2] {
     let [mut shell, mut input] = [(); 2].map(|_| vec![b'~'; table.len()]);
-    let table = Table::of(table.as_bytes());
+    let table = Table::of(table.as_bytes()).of_kind(kind.number());
     let length = table.split_command(0, &mut shell[..], &mut input[..]);
     let lengths = [length, table.stdin_length(0).map(Option::unwrap_or_default)];
     for (buffer, length) in [&mut shell, &mut input].into_iter().zip(lengths) {
@@ -78,17 +87,19 @@ fn known_commands() {
         (r"a%\%\", "a", Some(r"%\")),
     ];
     for (command, shell, input) in rows {
-        let line = format!("* * * * * {command}");
-        let table = Compared::of(line.as_bytes());
-        let length = input.map(|input| input.len() as u64);
-        assert_eq!(table.stdin_length(0), Ok(length), "{command}");
-        let lengths = [shell.len(), input.unwrap_or_default().len()];
-        let answer = table.split_command(0, lengths);
-        assert_eq!(answer, Ok(shell.len() as u64), "{command}");
-        table.split_into_all(0);
+        for kind in Kind::BOTH {
+            let line = of_kind(&format!("* * * * * ~{command}"), kind);
+            let table = Compared::of_kind(line.as_bytes(), kind.number());
+            let length = input.map(|input| input.len() as u64);
+            assert_eq!(table.stdin_length(0), Ok(length), "{line}");
+            let lengths = [shell.len(), input.unwrap_or_default().len()];
+            let answer = table.split_command(0, lengths);
+            assert_eq!(answer, Ok(shell.len() as u64), "{line}");
+            table.split_into_all(0);
 
-        let input = input.unwrap_or_default();
-        assert_eq!(split(&line), [shell, input].map(str::as_bytes), "{command}");
+            let texts = [shell, input.unwrap_or_default()].map(str::as_bytes);
+            assert_eq!(split(&line, kind), texts, "{line}");
+        }
     }
 }
 
@@ -117,7 +128,13 @@ fn too_short_comes_last() {
 
 #[test]
 fn a_command_starts_after_the_blanks_and_keeps_its_own() {
-    for start in ["* * * * *", "@daily", "\t 1\t\t2  3 4 sun"] {
+    for (start, kind) in [
+        ("* * * * *", 0),
+        ("@daily", 0),
+        ("\t 1\t\t2  3 4 sun", 0),
+        ("* * * * * u", 1),
+        ("@daily\tu:g/l", 1),
+    ] {
         for blanks in [" ", "\t", "   \t "] {
             for command in [
                 "a",
@@ -130,7 +147,7 @@ fn a_command_starts_after_the_blanks_and_keeps_its_own() {
                 "=\"",
             ] {
                 let line = format!("{start}{blanks}{command}");
-                let table = Compared::of(line.as_bytes());
+                let table = Compared::of_kind(line.as_bytes(), kind);
                 let shell = command.find('%').unwrap_or(command.len());
                 assert_eq!(
                     table.split_command(0, [shell, 0]),
@@ -145,14 +162,15 @@ fn a_command_starts_after_the_blanks_and_keeps_its_own() {
 #[test]
 fn the_command_of_each_entry_is_its_own() {
     let mut random = Random::seeded();
-    for _ in 0..50 {
+    for kind in Kind::BOTH.repeat(25) {
         let mut table = Vec::new();
         for entry in 0..128 {
             let ignored: [&[u8]; 4] = [b"", b"\n", b"#%\n", b"a=%\\%\n"];
             table.extend(random.pick(&ignored));
-            table.extend(format!("@hourly {}%{entry}\n", "c".repeat(entry % 50)).bytes());
+            let line = format!("@hourly ~{}%{entry}\n", "c".repeat(entry % 50));
+            table.extend(of_kind(&line, kind).bytes());
         }
-        let compared = Compared::of(&table);
+        let compared = Compared::of_kind(&table, kind.number());
         assert_eq!(compared.check(), Ok(128));
         for entry in 0..128 {
             let shell = entry % 50;

@@ -26,10 +26,20 @@ fn with_field(which: usize, field: &str) -> String {
     format!("{} a", fields.join(" "))
 }
 
-/// The values of a field for which an entry is due.
+/// The values of a field for which an entry is due, which are the same in tables of both kinds.
 fn values(which: usize, field: &str) -> Result<Vec<u64>, u64> {
-    let line = with_field(which, field);
-    let table = Compared::of(line.as_bytes());
+    let user = with_field(which, field);
+    let system = format!("{user} b");
+    let [user, system] = [
+        Compared::of(user.as_bytes()),
+        Compared::system(system.as_bytes()),
+    ]
+    .map(|table| due_values(which, &table));
+    assert_eq!(user, system, "{field}");
+    user
+}
+
+fn due_values(which: usize, table: &Compared) -> Result<Vec<u64>, u64> {
     table.check()?;
     let minutes = minutes_of_values(which);
     let is_due = |minute: u64| table.due(0, minute).expect("a minute of the calendar") == 1;

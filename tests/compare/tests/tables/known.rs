@@ -5,13 +5,16 @@ use second::calendar::LAST_MINUTE;
 use second::random::Random;
 use second::table::documents;
 
-/// The next firing of a table's first entry.
+/// The next firing of a user table's first entry.
 fn next(table: &str, minute: u64) -> Result<u64, u64> {
     Compared::of(table.as_bytes()).next(0, minute)
 }
 
+/// Every call, with the table as one of either kind.
 fn everything(table: &[u8]) {
-    Compared::of(table).everything(&mut Random::new(4));
+    for compared in [Compared::of(table), Compared::system(table)] {
+        compared.everything(&mut Random::new(4));
+    }
 }
 
 #[test]
@@ -38,32 +41,44 @@ fn known_days() {
     }
     for (fields, minute, expected) in documents::KNOWN_DAYS {
         assert_eq!(next(&format!("{fields} a"), minute), expected, "{fields}");
+        let line = format!("{fields} u:g/l a");
+        let system = Compared::system(line.as_bytes());
+        assert_eq!(system.next(0, minute), expected, "{line}");
     }
 }
 
 #[test]
 fn due_is_no_for_reboot_and_refused_off_the_calendar() {
-    let table = Compared::of(b"@reboot a\n* * * * * b\n");
-    for minute in [0, 1, 15_863_040, LAST_MINUTE] {
-        assert_eq!(table.due(0, minute), Ok(0));
-        assert_eq!(table.due(1, minute), Ok(1));
-    }
-    for minute in [LAST_MINUTE + 1, 1 << 32, (1 << 32) + 1, 1 << 63, u64::MAX] {
-        assert_eq!(table.due(0, minute), Err(14));
-        assert_eq!(table.due(1, minute), Err(14));
-        assert_eq!(table.due(2, minute), Err(13));
+    for kind in [0, 1] {
+        // Good in both kinds.
+        let table = Compared::of_kind(b"@reboot a b\n* * * * * c d\n", kind);
+        for minute in [0, 1, 15_863_040, LAST_MINUTE] {
+            assert_eq!(table.due(0, minute), Ok(0));
+            assert_eq!(table.due(1, minute), Ok(1));
+        }
+        for minute in [LAST_MINUTE + 1, 1 << 32, (1 << 32) + 1, 1 << 63, u64::MAX] {
+            assert_eq!(table.due(0, minute), Err(14));
+            assert_eq!(table.due(1, minute), Err(14));
+            assert_eq!(table.due(2, minute), Err(13));
+        }
     }
 }
 
 #[test]
 fn numbers_of_entries_and_lines_are_never_cut_short() {
-    let table = Compared::of(b"a=b\n* * * * * c%d\ne=f");
+    for kind in [0, 1] {
+        never_cut_short(&Compared::of_kind(b"a=b\n* * * * * u c%d\ne=f", kind));
+    }
+}
+
+fn never_cut_short(table: &Compared) {
     for high in (1..64).map(|bit| 1_u64 << bit).chain([u64::MAX - 2]) {
         for low in 0..3 {
             let entry = high + low;
             assert_eq!(table.due(entry, 0), Err(13), "entry {entry}");
             assert_eq!(table.next(entry, 0), Err(13), "entry {entry}");
             assert_eq!(table.stdin_length(entry), Err(13), "entry {entry}");
+            assert_eq!(table.user_column(entry), Err(13), "entry {entry}");
             assert_eq!(table.split_command(entry, [9, 9]), Err(13));
             if entry > 3 {
                 assert_eq!(table.setting(entry), Err(19), "line {entry}");
@@ -91,6 +106,28 @@ fn the_documents_entries() {
             Err((15, _)) => assert_eq!(compared.next(0, 0), Err(15)),
             Err((number, column)) => {
                 assert_eq!(compared.fault(), Some([number, 3, column]), "{line}");
+            }
+        }
+    }
+}
+
+#[test]
+fn the_documents_system_entries() {
+    for (line, expected) in documents::SYSTEM_ENTRIES {
+        let before = "# comment\n\n@reboot root first\n";
+        let table = format!("{before}{line}\n");
+        let compared = Compared::system(table.as_bytes());
+        compared.everything(&mut Random::new(4));
+        match expected {
+            Ok((parts, command)) => {
+                let text = |[at, length]: [u64; 2]| &table[at as usize..(at + length) as usize];
+                let found = compared.user_column(1).expect(line).map(text);
+                assert_eq!(found, parts.map(Option::unwrap_or_default), "{line}");
+                let shell = command.find('%').unwrap_or(command.len());
+                assert_eq!(compared.split_command(1, [shell, 99]), Ok(shell as u64));
+            }
+            Err((number, column)) => {
+                assert_eq!(compared.fault(), Some([number, 4, column]), "{line}");
             }
         }
     }
@@ -252,6 +289,13 @@ fn bytes_that_are_no_blanks() {
             "#~",
             " ~* * * * * a",
             "5~ * * * * a",
+            "* * * * * ~ a",
+            "* * * * * a~ b",
+            "* * * * * a~b c",
+            "* * * * * a b~",
+            "@daily ~:a/b c",
+            "@daily a:~/b c",
+            "@daily a:b/~ c",
         ];
         for text in texts {
             let table = with(text);

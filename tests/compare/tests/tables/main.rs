@@ -6,3 +6,4 @@ mod known;
 mod random;
 mod refusals;
 mod settings;
+mod users;

@@ -1,40 +1,44 @@
-//! Random tables: good ones, ones with a bad line, and large ones.
+//! Random tables of both kinds: good ones, ones with a bad line, and large ones.
 
+use compare::samples::{any_kind, kind_number};
 use compare::table::Compared;
 use second::random::Random;
-use second::table::samples;
+use second::table::{samples, Kind};
 
-const SAMPLES: usize = 20_000;
+const SAMPLES: usize = 15_000;
 
 #[test]
 fn good_tables() {
     let mut random = Random::seeded();
-    for _ in 0..SAMPLES {
+    for kind in Kind::BOTH.repeat(SAMPLES) {
         let lines = random.below(6);
-        let table = samples::table(&mut random, lines);
-        let compared = Compared::of(&table);
+        let table = samples::table(&mut random, kind, lines);
+        let compared = Compared::of_kind(&table, kind_number(&mut random, kind));
         assert_eq!(compared.fault(), None);
         compared.everything(&mut random);
+        // The same bytes read as a table of the other kind.
+        let other = kind_number(&mut random, kind.other());
+        Compared::of_kind(&table, other).everything(&mut random);
     }
 }
 
 #[test]
 fn tables_with_one_bad_line() {
     let mut random = Random::seeded();
-    for _ in 0..SAMPLES {
+    for kind in Kind::BOTH.repeat(SAMPLES) {
         let mut table = Vec::new();
         let at = random.below(4);
         for _ in 0..at {
-            table.extend(samples::line(&mut random));
+            table.extend(samples::line(&mut random, kind));
             table.push(b'\n');
         }
-        let (line, number, column) = samples::bad_line(&mut random);
+        let (line, number, column) = samples::bad_line(&mut random, kind);
         table.extend(line);
         for _ in 0..random.below(3) {
             table.push(b'\n');
-            table.extend(samples::line(&mut random));
+            table.extend(samples::line(&mut random, kind));
         }
-        let compared = Compared::of(&table);
+        let compared = Compared::of_kind(&table, kind_number(&mut random, kind));
         assert_eq!(compared.fault(), Some([number, at + 1, column]));
         compared.everything(&mut random);
     }
@@ -45,6 +49,8 @@ fn tables_with_one_bad_line() {
 fn large_tables() {
     let mut random = Random::seeded();
     for _ in 0..300 {
+        let kind = any_kind(&mut random);
+        let number = kind_number(&mut random, kind);
         let mut table = Vec::new();
         let mut entries = 0;
         let most = 126 + random.below(4);
@@ -53,8 +59,8 @@ fn large_tables() {
             _ => 16_000 + random.below(500) as usize,
         };
         while table.len() < length {
-            let line = samples::line(&mut random);
-            let is_entry = Compared::of(&line).check() == Ok(1);
+            let line = samples::line(&mut random, kind);
+            let is_entry = Compared::of_kind(&line, number).check() == Ok(1);
             if is_entry && entries == most {
                 table.extend(b"# no entry\n");
                 continue;
@@ -64,6 +70,6 @@ fn large_tables() {
             table.push(b'\n');
         }
         table.truncate(length);
-        Compared::of(&table).everything(&mut random);
+        Compared::of_kind(&table, number).everything(&mut random);
     }
 }

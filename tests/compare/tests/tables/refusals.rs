@@ -1,12 +1,14 @@
-//! Every refusal of a table at every place where it can stand, and which of two comes first.
+//! Every refusal of a table of either kind at every place where it can stand, and which of two comes first.
 
+use compare::samples::of_kind;
 use compare::table::Compared;
 use second::random::Random;
 use second::table::samples::WORDS;
+use second::table::Kind;
 
 /// Refused, by number, line and column. Every call then refuses so.
-fn refused(table: &[u8], fault: [u64; 3]) {
-    let compared = Compared::of(table);
+fn refused(kind: Kind, table: &[u8], fault: [u64; 3]) {
+    let compared = Compared::of_kind(table, kind.number());
     let shown = table.escape_ascii();
     assert_eq!(compared.fault(), Some(fault), "{shown}");
     let number = fault[0];
@@ -14,14 +16,22 @@ fn refused(table: &[u8], fault: [u64; 3]) {
         assert_eq!(compared.due(any, any), Err(number));
         assert_eq!(compared.next(any, any), Err(number));
         assert_eq!(compared.stdin_length(any), Err(number));
+        assert_eq!(compared.user_column(any), Err(number));
         assert_eq!(compared.setting(any), Err(number));
         assert_eq!(compared.split_command(any, [0, 0]), Err(number));
         assert_eq!(compared.split_command(any, [9, 9]), Err(number));
     }
 }
 
-fn good(table: &[u8], entries: u64) {
-    let compared = Compared::of(table);
+/// Refused so in both kinds.
+fn refused_in_both(table: &[u8], fault: [u64; 3]) {
+    for kind in Kind::BOTH {
+        refused(kind, table, fault);
+    }
+}
+
+fn good(kind: Kind, table: &[u8], entries: u64) {
+    let compared = Compared::of_kind(table, kind.number());
     assert_eq!(compared.fault(), None);
     assert_eq!(compared.check(), Ok(entries));
 }
@@ -146,7 +156,63 @@ const BAD_SETTINGS: [&str; 26] = [
     "$ * * * * a",
 ];
 
-/// Bad lines of the other kinds.
+const BAD_COLUMNS: [&str; 24] = [
+    ":", "/", "-", "a:", "a/", ":a", "/a", "a::b", "a//b", "a:b:c", "a/b/c", "a/c:b", "a:b/c:d",
+    "a:/c", "a:b/", "-a", "a:-b", "a/-c", "a:b/-", "a%b", "a\r", "a=b", "\"a\"", "#a",
+];
+
+/// Bad user columns, at every length of time before them, with a command behind them or none.
+fn lines_with_bad_columns() -> Vec<Bad> {
+    let mut lines = Vec::new();
+    let long = |length: usize| "n".repeat(length);
+    let too_long = [
+        long(33),
+        format!("a:{}", long(33)),
+        format!("a/{}", long(33)),
+        format!("{}:{}/{}", long(32), long(32), long(33)),
+        format!("{}:{}/{}", long(32), long(33), long(32)),
+        format!("{}:{}/{}", long(33), long(32), long(32)),
+        long(300),
+    ];
+    for column in BAD_COLUMNS.map(str::to_string).into_iter().chain(too_long) {
+        for time in ["* * * * *", "\t1 2\t3 4 sun", " @reboot", "@daily"] {
+            for blanks in [" ", " \t "] {
+                for after in ["", " ", " a", "\ta%b", " a:b c", " -"] {
+                    let line = format!("{time}{blanks}{column}{after}");
+                    let place = time.len() + blanks.len() + 1;
+                    lines.push((line.into_bytes(), 20, place as u64));
+                }
+            }
+        }
+    }
+    lines
+}
+
+/// Users without a command.
+fn lines_with_no_command() -> Vec<Bad> {
+    let mut lines = Vec::new();
+    for column in ["a", "a:b", "a/c", "a:b/c", "cmd", &"n".repeat(32)] {
+        for time in ["* * * * *", "\t1 2\t3 4 sun", " @reboot", "@daily"] {
+            for end in ["", " ", "\t \t"] {
+                let line = format!("{time} {column}{end}");
+                let place = line.len() as u64 + 1;
+                lines.push((line.into_bytes(), 9, place));
+            }
+        }
+    }
+    lines
+}
+
+/// Every bad line of a table of a kind.
+fn bad_lines(kind: Kind) -> Vec<Bad> {
+    let of_both = [lines_with_bad_fields(), other_bad_lines()].concat();
+    match kind {
+        Kind::User => of_both,
+        Kind::System => [of_both, lines_with_bad_columns(), lines_with_no_command()].concat(),
+    }
+}
+
+/// Bad lines of other sorts, which are bad in tables of both kinds.
 fn other_bad_lines() -> Vec<Bad> {
     let long = |start: &str, byte: u8, length: usize| {
         let mut line = start.as_bytes().to_vec();
@@ -198,41 +264,46 @@ fn other_bad_lines() -> Vec<Bad> {
     lines
 }
 
-const GOOD_LINES: [&[u8]; 6] = [
-    b"# comment",
-    b"",
-    b"A = \"b\" ",
-    b"* * * * * a%b",
-    b"\t",
-    b"@reboot c",
+/// `~` is a system table's user.
+const GOOD_LINES: [&str; 6] = [
+    "# comment",
+    "",
+    "A = \"b\" ",
+    "* * * * * ~a%b",
+    "\t",
+    "@reboot ~c",
 ];
 
 #[test]
 fn every_bad_line_at_every_place_of_a_table() {
-    let bad_lines = [lines_with_bad_fields(), other_bad_lines()].concat();
-    for (line, number, column) in &bad_lines {
-        for at in 0..=GOOD_LINES.len() {
-            let mut lines = GOOD_LINES.to_vec();
-            lines.insert(at, line);
-            let mut table = lines.join(&b'\n');
-            let fault = [*number, at as u64 + 1, *column];
-            refused(&table, fault);
-            table.push(b'\n');
-            assert_eq!(Compared::of(&table).fault(), Some(fault));
+    for kind in Kind::BOTH {
+        let good_lines = GOOD_LINES.map(|line| of_kind(line, kind).into_bytes());
+        for (line, number, column) in bad_lines(kind) {
+            for at in 0..=good_lines.len() {
+                let mut lines = good_lines.to_vec();
+                lines.insert(at, line.clone());
+                let mut table = lines.join(&b'\n');
+                let fault = [number, at as u64 + 1, column];
+                refused(kind, &table, fault);
+                table.push(b'\n');
+                let compared = Compared::of_kind(&table, kind.number());
+                assert_eq!(compared.fault(), Some(fault));
+            }
         }
     }
 }
 
 #[test]
 fn the_first_of_two_bad_lines_counts() {
-    let bad_lines = [other_bad_lines(), lines_with_bad_fields()].concat();
+    let bad_lines = Kind::BOTH.map(bad_lines);
     let mut random = Random::seeded();
-    for _ in 0..20_000 {
+    for kind in Kind::BOTH.repeat(15_000) {
+        let bad_lines = &bad_lines[kind.number() as usize];
         let [first, second] =
             [(); 2].map(|_| &bad_lines[random.below(bad_lines.len() as u64) as usize]);
-        let between = random.pick(&GOOD_LINES);
-        let table = [b"a=b", &first.0[..], between, &second.0].join(&b'\n');
-        let fault = Compared::of(&table).fault();
+        let between = of_kind(random.pick(&GOOD_LINES), kind);
+        let table = [b"a=b", &first.0[..], between.as_bytes(), &second.0].join(&b'\n');
+        let fault = Compared::of_kind(&table, kind.number()).fault();
         assert_eq!(
             fault,
             Some([first.1, 2, first.2]),
@@ -252,11 +323,11 @@ fn the_first_of_two_bad_fields_counts() {
                     let mut words = ["1"; 5];
                     words[left] = bad_left;
                     words[right] = bad_right;
-                    // Without a command, too.
-                    for end in [" a", ""] {
+                    // Without a command, too, and before a bad user.
+                    for (end, kind) in [(" a", 0), ("", 0), (" a:", 1), (" a b", 1)] {
                         let line = format!("{}{end}", words.join(" "));
                         let column = 2 * left + offset + 1;
-                        let fault = Compared::of(line.as_bytes()).fault();
+                        let fault = Compared::of_kind(line.as_bytes(), kind).fault();
                         assert_eq!(fault, Some([*number, 1, column as u64]), "{line}");
                     }
                 }
@@ -267,23 +338,34 @@ fn the_first_of_two_bad_fields_counts() {
 
 #[test]
 fn a_long_line_comes_before_a_zero_byte_and_both_before_all_else() {
-    for start in ["60 ", "#", "@x ", "=", "* * * * * ", "1 1", " "] {
+    for start in [
+        "60 ",
+        "#",
+        "@x ",
+        "=",
+        "* * * * * ",
+        "1 1",
+        " ",
+        "@daily -",
+        "@daily u:",
+        "@daily u a",
+    ] {
         let mut line = start.as_bytes().to_vec();
         let zero_at = line.len() as u64 + 1;
         line.push(0);
-        refused(&line, [3, 1, zero_at]);
+        refused_in_both(&line, [3, 1, zero_at]);
         line.resize(1_000, b' ');
-        refused(&line, [3, 1, zero_at]);
+        refused_in_both(&line, [3, 1, zero_at]);
         line.push(b' ');
-        refused(&line, [2, 1, 1_001]);
+        refused_in_both(&line, [2, 1, 1_001]);
         line.insert(0, b'\n');
-        refused(&line, [2, 2, 1_001]);
+        refused_in_both(&line, [2, 2, 1_001]);
     }
 }
 
 #[test]
 fn a_zero_byte_at_every_place_of_every_kind_of_line() {
-    let lines: [&[u8]; 9] = [
+    let lines: [&[u8]; 11] = [
         b"# comment",
         b" \t ",
         b"A = \"b\" ",
@@ -293,31 +375,40 @@ fn a_zero_byte_at_every_place_of_every_kind_of_line() {
         b"60 60",
         b"@unknown a",
         b"a b",
+        b"@hourly u:g/l c%d",
+        b"* * * * * a/c:b",
     ];
     for line in lines {
         for at in 0..=line.len() {
             let mut with_zero = line.to_vec();
             with_zero.insert(at, 0);
             let table = [b"a=b\n", &with_zero[..], b"\n\0"].concat();
-            refused(&table, [3, 2, at as u64 + 1]);
+            refused_in_both(&table, [3, 2, at as u64 + 1]);
             // The first of two.
             let mut with_two = with_zero.clone();
             with_two.push(0);
-            refused(&with_two, [3, 1, at as u64 + 1]);
+            refused_in_both(&with_two, [3, 1, at as u64 + 1]);
         }
     }
 }
 
 #[test]
 fn the_129th_entry() {
-    let rows: [(&str, Option<[u64; 2]>); 14] = [
+    for kind in Kind::BOTH {
+        the_129th_entry_of(kind);
+    }
+}
+
+/// `~` is a system table's user.
+fn the_129th_entry_of(kind: Kind) {
+    let mut rows: Vec<(&str, Option<[u64; 2]>)> = vec![
         ("", None),
         ("#", None),
         ("A=b", None),
-        ("* * * * * a", Some([12, 1])),
-        ("  \t* * * * * a", Some([12, 1])),
-        ("@reboot a", Some([12, 1])),
-        ("@daily a", Some([12, 1])),
+        ("* * * * * ~a", Some([12, 1])),
+        ("  \t* * * * * ~a", Some([12, 1])),
+        ("@reboot ~a", Some([12, 1])),
+        ("@daily ~a", Some([12, 1])),
         ("60 * * * * a", Some([6, 1])),
         (" * * * * 8 a", Some([6, 10])),
         ("* * * * *", Some([9, 10])),
@@ -326,32 +417,45 @@ fn the_129th_entry() {
         (" @x a", Some([10, 2])),
         ("a", Some([11, 1])),
     ];
-    for entry in ["* * * * * a\n", "@reboot a\n", "1 1 1 1 1 a%\n\n#\nA=b\n"] {
+    if kind == Kind::System {
+        rows.push(("* * * * * -u a", Some([20, 11])));
+        rows.push(("@reboot u: a", Some([20, 9])));
+        rows.push(("@reboot u", Some([9, 10])));
+    }
+    for entry in [
+        "* * * * * ~a\n",
+        "@reboot ~a\n",
+        "1 1 1 1 1 ~a%\n\n#\nA=b\n",
+    ] {
+        let entry = of_kind(entry, kind);
         let lines = entry.matches('\n').count() as u64 * 128;
         let table = entry.repeat(128);
-        good(table.as_bytes(), 128);
-        good(table.trim_end().as_bytes(), 128);
-        for (line, fault) in rows {
+        good(kind, table.as_bytes(), 128);
+        good(kind, table.trim_end().as_bytes(), 128);
+        for (line, fault) in &rows {
+            let line = of_kind(line, kind);
             for end in ["", "\n", "\n60\n", "\n\0"] {
                 let table = format!("{table}{line}{end}");
-                match fault {
+                match *fault {
                     Some([number, column]) => {
-                        refused(table.as_bytes(), [number, lines + 1, column]);
+                        refused(kind, table.as_bytes(), [number, lines + 1, column]);
                     }
-                    None if end.len() < 2 => good(table.as_bytes(), 128),
+                    None if end.len() < 2 => good(kind, table.as_bytes(), 128),
                     None => {
                         let next = lines + 2;
                         let number = if end == "\n60\n" { 6 } else { 3 };
-                        refused(table.as_bytes(), [number, next, 1]);
+                        refused(kind, table.as_bytes(), [number, next, 1]);
                     }
                 }
             }
         }
         // A fault before the 129th.
-        let before = format!("60\n{table}* * * * * a\n");
-        refused(before.as_bytes(), [6, 1, 1]);
+        let before = format!("60\n{table}{entry}");
+        refused(kind, before.as_bytes(), [6, 1, 1]);
     }
-    let table = "@reboot a\n".repeat(127) + "A=b\n";
-    good(table.as_bytes(), 127);
-    Compared::of("@reboot a\n".repeat(128).as_bytes()).everything(&mut Random::new(4));
+    let entry = of_kind("@reboot ~a\n", kind);
+    let table = entry.repeat(127) + "A=b\n";
+    good(kind, table.as_bytes(), 127);
+    let table = entry.repeat(128);
+    Compared::of_kind(table.as_bytes(), kind.number()).everything(&mut Random::new(4));
 }

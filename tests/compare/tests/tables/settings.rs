@@ -2,9 +2,11 @@
 
 use compare::table::Compared;
 
-/// Name and value of a line, with where they start in the table.
+/// Name and value of a line, with where they start in the table, which is good in both kinds or bad in both.
 fn shown(table: &str, line: u64) -> Result<[(usize, &str); 2], u64> {
-    let setting = Compared::of(table.as_bytes()).setting(line)?;
+    let settings = [0, 1].map(|kind| Compared::of_kind(table.as_bytes(), kind).setting(line));
+    assert_eq!(settings[0], settings[1], "{table}");
+    let setting = settings[0]?;
     let part =
         |part: second::table::Part| (part.offset, &table[part.offset..part.offset + part.length]);
     Ok([part(setting.name), part(setting.value)])
@@ -42,8 +44,8 @@ fn known_settings() {
         ("%=\\%", (0, "%"), (2, "\\%")),
     ];
     for (line, name, value) in rows {
-        for before in ["", "\n", "#\n@daily a\n  \nC=d\n"] {
-            for end in ["", "\n", "\nE=f", "\n* * * * * g\n"] {
+        for before in ["", "\n", "#\n@daily a b\n  \nC=d\n"] {
+            for end in ["", "\n", "\nE=f", "\n* * * * * g h\n"] {
                 let table = format!("{before}{line}{end}");
                 let number = before.matches('\n').count() as u64 + 1;
                 let later = |(at, text)| (before.len() + at, text);
@@ -56,7 +58,7 @@ fn known_settings() {
 
 #[test]
 fn lines_that_are_no_settings() {
-    let table = "A=b\n# C=d\n\n* * * * * E=f\n@daily G=h\n \t\nI=j";
+    let table = "A=b\n# C=d\n\n* * * * * e E=f\n@daily g G=h\n \t\nI=j";
     let is_setting = |line: u64| shown(table, line).is_ok();
     let found: Vec<u64> = (0..20).filter(|&line| is_setting(line)).collect();
     assert_eq!(found, [1, 7]);
@@ -98,13 +100,15 @@ fn short_lines_of_the_bytes_that_settings_are_made_of() {
         lines = lines.iter().flat_map(longer).collect();
         for line in &lines {
             let table = [b"x=y\n", &line[..], b"\nz='\"'\n"].concat();
-            let compared = Compared::of(&table);
-            for number in 1..=3 {
-                let _ = compared.setting(number);
-            }
-            if let Some(fault) = compared.fault() {
-                let blanks = line.iter().take_while(|&&byte| byte == b' ').count();
-                assert_eq!(fault, [11, 2, blanks as u64 + 1]);
+            for kind in [0, 1] {
+                let compared = Compared::of_kind(&table, kind);
+                for number in 1..=3 {
+                    let _ = compared.setting(number);
+                }
+                if let Some(fault) = compared.fault() {
+                    let blanks = line.iter().take_while(|&&byte| byte == b' ').count();
+                    assert_eq!(fault, [11, 2, blanks as u64 + 1]);
+                }
             }
         }
     }
@@ -118,9 +122,11 @@ fn every_line_of_a_long_table() {
             _ => "\n".into(),
         })
         .collect();
-    let compared = Compared::of(table.as_bytes());
-    for line in 0..2_003 {
-        let expected = line % 3 == 0 && (1..=2_000).contains(&line);
-        assert_eq!(compared.setting(line).is_ok(), expected, "line {line}");
+    for kind in [0, 1] {
+        let compared = Compared::of_kind(table.as_bytes(), kind);
+        for line in 0..2_003 {
+            let expected = line % 3 == 0 && (1..=2_000).contains(&line);
+            assert_eq!(compared.setting(line).is_ok(), expected, "line {line}");
+        }
     }
 }

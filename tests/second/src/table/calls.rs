@@ -1,6 +1,6 @@
 //! The paper's "What comes back": the calls with a table, each with its refusals in their order.
 
-use super::{read, Fault, Setting, Table, When};
+use super::{read, Entry, Fault, Kind, Setting, Table, When};
 use crate::answer::Answer;
 use crate::calendar::LAST_MINUTE;
 use crate::command::{split, Command};
@@ -17,8 +17,10 @@ pub struct Calls<'a> {
 }
 
 impl<'a> Calls<'a> {
-    pub fn of(bytes: &'a [u8]) -> Calls<'a> {
-        Calls { table: read(bytes) }
+    pub fn of(bytes: &'a [u8], kind: Kind) -> Calls<'a> {
+        Calls {
+            table: read(bytes, kind),
+        }
     }
 
     /// How many entries there are.
@@ -35,7 +37,7 @@ impl<'a> Calls<'a> {
     }
 
     pub fn due(&self, entry: u64, minute: u64) -> Answer {
-        let (when, _) = self.entry(entry)?;
+        let when = self.entry(entry)?.when;
         if minute > LAST_MINUTE {
             return Err(NOT_ON_CALENDAR);
         }
@@ -43,8 +45,7 @@ impl<'a> Calls<'a> {
     }
 
     pub fn next(&self, entry: u64, minute: u64) -> Answer {
-        let (when, _) = self.entry(entry)?;
-        match when {
+        match self.entry(entry)?.when {
             _ if minute > LAST_MINUTE => Err(NOT_ON_CALENDAR),
             When::Reboot => Err(NEXT_OF_REBOOT),
             When::Times(schedule) => schedule.next_after(minute),
@@ -53,7 +54,7 @@ impl<'a> Calls<'a> {
 
     /// An entry's command, split.
     pub fn command(&self, entry: u64) -> Result<Command, u64> {
-        self.entry(entry).map(|(_, command)| split(command))
+        self.entry(entry).map(|entry| split(entry.command))
     }
 
     /// Writes an entry's shell line and input to the front of two buffers, and answers the shell line's length.
@@ -74,6 +75,16 @@ impl<'a> Calls<'a> {
         Ok(command.input.map(|input| input.len() as u64))
     }
 
+    /// Offset and length of an entry's user, of its group and of its class: 0 and 0 where it is absent.
+    pub fn user_column(&self, entry: u64) -> Result<[[u64; 2]; 3], u64> {
+        let parts = self.entry(entry)?.column.parts();
+        Ok(parts.map(|part| {
+            part.map_or([0, 0], |part| {
+                [part.offset, part.length].map(|number| number as u64)
+            })
+        }))
+    }
+
     pub fn setting(&self, line: u64) -> Result<Setting, u64> {
         self.good()?.setting(line).ok_or(NO_SETTING)
     }
@@ -82,12 +93,11 @@ impl<'a> Calls<'a> {
         self.table.as_ref().map_err(|fault| fault.number)
     }
 
-    fn entry(&self, entry: u64) -> Result<(When, &'a [u8]), u64> {
+    fn entry(&self, entry: u64) -> Result<&Entry<'a>, u64> {
         let entries = &self.good()?.entries;
         if entry >= entries.len() as u64 {
             return Err(NO_ENTRY);
         }
-        let found = &entries[entry as usize];
-        Ok((found.when, found.command))
+        Ok(&entries[entry as usize])
     }
 }

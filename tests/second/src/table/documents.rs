@@ -92,6 +92,71 @@ pub const ENTRIES: [Example; 37] = [
     ),
 ];
 
+/// A line of a system table: the user, group and class of its entry and its command, or else its refusal with the column.
+pub type SystemExample = (
+    &'static str,
+    Result<([Option<&'static str>; 3], &'static str), (u64, u64)>,
+);
+
+/// Source 000's lines as a system table has them, and the forms and cases of ticket 2026-04.
+pub const SYSTEM_ENTRIES: [SystemExample; 26] = [
+    // 000
+    (
+        " 59 12 * * * simon /usr/bin/test.sh > /dev/null 2>&1",
+        Ok((
+            [Some("simon"), None, None],
+            "/usr/bin/test.sh > /dev/null 2>&1",
+        )),
+    ),
+    ("* * * * *  [UserName] Command_to_execute", Err((20, 12))),
+    (
+        " 5 0 * * *       $HOME/bin/daily.job >> $HOME/tmp/out 2>&1",
+        Err((20, 18)),
+    ),
+    // The first word of a user table's command is taken for the user, where it can be one.
+    (
+        " 0 21 * * * demo.sh 1>/dev/null 2>&1",
+        Ok(([Some("demo.sh"), None, None], "1>/dev/null 2>&1")),
+    ),
+    (" 30 07,09,13,15 * * * demo.sh", Err((9, 30))),
+    (
+        "@reboot Run once, at startup.",
+        Ok(([Some("Run"), None, None], "once, at startup.")),
+    ),
+    ("@annually (sames as @yearly)", Err((20, 11))),
+    // The forms.
+    ("* * * * * u c", Ok(([Some("u"), None, None], "c"))),
+    ("* * * * * u:g c", Ok(([Some("u"), Some("g"), None], "c"))),
+    ("* * * * * u/l c", Ok(([Some("u"), None, Some("l")], "c"))),
+    (
+        "@daily\t u:g/l\t c d ",
+        Ok(([Some("u"), Some("g"), Some("l")], "c d ")),
+    ),
+    ("@reboot 0.-_:_-:/.9- c", Err((20, 9))),
+    (
+        "@reboot 0.-_:_-/.9- c%d",
+        Ok(([Some("0.-_"), Some("_-"), Some(".9-")], "c%d")),
+    ),
+    (
+        "@hourly 12345678901234567890123456789012 c",
+        Ok(([Some("12345678901234567890123456789012"), None, None], "c")),
+    ),
+    ("@hourly 123456789012345678901234567890123 c", Err((20, 9))),
+    // Nothing else.
+    ("* * * * * u/l:g c", Err((20, 11))),
+    ("* * * * * u: c", Err((20, 11))),
+    ("* * * * * :g c", Err((20, 11))),
+    ("* * * * * u:/l c", Err((20, 11))),
+    ("* * * * * -u c", Err((20, 11))),
+    ("* * * * * u:g/-l c", Err((20, 11))),
+    // After the fields and before 9.
+    ("60 * * * * -u", Err((6, 1))),
+    ("* * * * * -u", Err((20, 11))),
+    ("* * * * * cmd", Err((9, 14))),
+    ("* * * * * ", Err((9, 11))),
+    ("@never -u", Err((10, 1))),
+];
+
 /// A setting, its name and its value.
 pub const SETTINGS: [(&str, &str, &str); 6] = [
     ("CRON_TZ=Japan ", "CRON_TZ", "Japan"),

@@ -1,6 +1,6 @@
-//! Tables for the comparisons: good ones, bad lines with their place, and tables with some bytes changed.
+//! Tables of both kinds for the comparisons: good ones, bad lines with their place, and tables with some bytes changed.
 
-use super::{read, When};
+use super::{read, Kind, When, NAME_BYTES};
 use crate::random::Random;
 use crate::schedule::Schedule;
 
@@ -152,13 +152,52 @@ const BAD_FORMS: [&str; 33] = [
     "0x5",
 ];
 
+/// What a name in a user column starts with, and what it goes on with.
+const NAME_STARTS: &[u8] = b"abcxyzABCXYZ0189_.";
+const NAME_REST: &[u8] = b"abcxyzABCXYZ0189_.--";
+
+/// No name has these, of which many stand beside those that it has.
+const NO_NAME: &[u8] = b"!\"#$%&'()*+,;<=>?@[\\]^`{|}~\x01\x0b\x0c\r\x1f\x7f\x80\xaa\xc3\xe9\xff";
+
+const BAD_USER_COLUMNS: [&str; 29] = [
+    ":",
+    "/",
+    "-",
+    "::",
+    ":/",
+    "/:",
+    "//",
+    "a:",
+    "a/",
+    ":a",
+    "/a",
+    "a::b",
+    "a//b",
+    "a:b:c",
+    "a/b/c",
+    "a/c:b",
+    "a:b/c:d",
+    "a:b/c/d",
+    "a:/c",
+    "a:b/",
+    ":b/c",
+    "-a",
+    "--",
+    "a:-b",
+    "a/-c",
+    "a:b/-c",
+    "[UserName]",
+    "$HOME/bin",
+    "caf\u{e9}",
+];
+
 /// The bytes that mean something somewhere, and some that never do.
 const BYTES: &[u8] =
-    b"   \t\t\n\n\n\r\0%%\\\\\"'=#**@,,--//0123456789+.abcJANsunFri_\x01\x0b\x0c\x7f\x80\xff";
+    b"   \t\t\n\n\n\r\0%%\\\\\"'=#**@,,--//::0123456789+.abcJANsunFri_\x01\x0b\x0c\x7f\x80\xff";
 
 /// A good table of so many lines, with a newline at its end or without.
-pub fn table(random: &mut Random, lines: u64) -> Vec<u8> {
-    let lines: Vec<Vec<u8>> = (0..lines).map(|_| line(random)).collect();
+pub fn table(random: &mut Random, kind: Kind, lines: u64) -> Vec<u8> {
+    let lines: Vec<Vec<u8>> = (0..lines).map(|_| line(random, kind)).collect();
     let mut bytes = lines.join(&b'\n');
     if random.below(4) > 0 {
         bytes.push(b'\n');
@@ -167,7 +206,7 @@ pub fn table(random: &mut Random, lines: u64) -> Vec<u8> {
 }
 
 /// A good line: an entry more often than not.
-pub fn line(random: &mut Random) -> Vec<u8> {
+pub fn line(random: &mut Random, kind: Kind) -> Vec<u8> {
     let mut line = match random.below(3) {
         0 => random.pick(&BLANKS).into(),
         _ => Vec::new(),
@@ -178,14 +217,14 @@ pub fn line(random: &mut Random) -> Vec<u8> {
         2 => {
             line.extend(random.pick(&WORDS).bytes());
             line.extend(random.pick(&BLANKS).bytes());
-            line.extend(command(random));
+            line.extend(after_time(random, kind));
         }
         _ => {
             for field in fields(random) {
                 line.extend(field.bytes());
                 line.extend(random.pick(&BLANKS).bytes());
             }
-            line.extend(command(random));
+            line.extend(after_time(random, kind));
         }
     }
     line
@@ -254,6 +293,92 @@ fn digits(random: &mut Random, number: u64) -> String {
     }
 }
 
+/// What follows the time and its blanks: in a system table a user column, and a command.
+fn after_time(random: &mut Random, kind: Kind) -> Vec<u8> {
+    let mut text = Vec::new();
+    if kind == Kind::System {
+        text.extend(user_column(random).bytes());
+        text.extend(random.pick(&BLANKS).bytes());
+    }
+    text.extend(command(random));
+    text
+}
+
+/// A good user column.
+pub fn user_column(random: &mut Random) -> String {
+    let mut column = name(random);
+    for mark in [":", "/"] {
+        if random.below(2) == 0 {
+            column += mark;
+            column += &name(random);
+        }
+    }
+    column
+}
+
+/// A name of one to as many bytes as may be.
+fn name(random: &mut Random) -> String {
+    let length = match random.below(6) {
+        0 => NAME_BYTES,
+        1 => 1 + random.below(NAME_BYTES as u64) as usize,
+        _ => 1 + random.below(6) as usize,
+    };
+    name_of(random, length)
+}
+
+fn name_of(random: &mut Random, length: usize) -> String {
+    let rest = (1..length)
+        .map(|_| random.pick(NAME_REST))
+        .collect::<Vec<u8>>();
+    let bytes = [&[random.pick(NAME_STARTS)], &rest[..]].concat();
+    bytes.into_iter().map(char::from).collect()
+}
+
+/// A malformed user column.
+pub fn bad_user_column(random: &mut Random) -> Vec<u8> {
+    if random.below(3) == 0 {
+        return random.pick(&BAD_USER_COLUMNS).into();
+    }
+    // One of the names that it has isn't one.
+    let marks = random.pick(&["", ":", "/", ":/"]);
+    let bad = random.below(marks.len() as u64 + 1) as usize;
+    let mut column = Vec::new();
+    for part in 0..=marks.len() {
+        if part > 0 {
+            column.push(marks.as_bytes()[part - 1]);
+        }
+        match part == bad {
+            true => column.extend(bad_name(random)),
+            false => column.extend(name(random).bytes()),
+        }
+    }
+    // Nothing at all is no column.
+    match column.is_empty() {
+        true => b"-".to_vec(),
+        false => column,
+    }
+}
+
+fn bad_name(random: &mut Random) -> Vec<u8> {
+    let mut bytes = name(random).into_bytes();
+    match random.below(5) {
+        0 => Vec::new(),
+        1 => {
+            let length = NAME_BYTES + 1 + random.below(3) as usize;
+            name_of(random, length).into_bytes()
+        }
+        2 => {
+            bytes[0] = b'-';
+            bytes
+        }
+        _ => {
+            let at = random.below(bytes.len() as u64) as usize;
+            bytes[at] = random.pick(NO_NAME);
+            bytes
+        }
+    }
+}
+
 fn command(random: &mut Random) -> Vec<u8> {
     match random.below(3) {
         0 => {
@@ -269,12 +394,12 @@ fn command(random: &mut Random) -> Vec<u8> {
 /// A bad line, the number of its refusal, and its column.
 pub type BadLine = (Vec<u8>, u64, u64);
 
-pub fn bad_line(random: &mut Random) -> BadLine {
-    match random.below(8) {
-        0 => long_line(random),
-        1 => line_with_zero(random),
-        2 => cut_line(random, 4),
-        3 => cut_line(random, 9),
+pub fn bad_line(random: &mut Random, kind: Kind) -> BadLine {
+    match random.below(10) {
+        0 => long_line(random, kind),
+        1 => line_with_zero(random, kind),
+        2 => cut_line(random, kind, 4),
+        3 => cut_line(random, kind, 9),
         4 => {
             let rest = random.pick(&["", " ", " a", "\tb"]);
             let text = random.pick(&UNKNOWN_WORDS).to_string() + rest;
@@ -284,6 +409,7 @@ pub fn bad_line(random: &mut Random) -> BadLine {
             let setting = random.pick(&BAD_SETTINGS);
             indented(random, setting, 11, 0)
         }
+        6 | 7 if kind == Kind::System => line_with_bad_user_column(random),
         _ => line_with_bad_field(random),
     }
 }
@@ -295,32 +421,51 @@ fn indented(random: &mut Random, text: &[u8], number: u64, before: usize) -> Bad
     ([indent.as_bytes(), text].concat(), number, column)
 }
 
-fn long_line(random: &mut Random) -> BadLine {
-    let mut line = line(random);
+fn long_line(random: &mut Random, kind: Kind) -> BadLine {
+    let mut line = line(random, kind);
     let length = 1_001 + random.below(3) as usize;
     line.resize(length, random.pick(b"a\0 #5"));
     (line, 2, 1_001)
 }
 
-fn line_with_zero(random: &mut Random) -> BadLine {
-    let mut line = line(random);
+fn line_with_zero(random: &mut Random, kind: Kind) -> BadLine {
+    let mut line = line(random, kind);
     let before = random.below(line.len() as u64 + 1);
     line.insert(before as usize, 0);
     (line, 3, before + 1)
 }
 
-/// An entry that ends too early: with fewer than five fields (4), or without a command (9).
-fn cut_line(random: &mut Random, number: u64) -> BadLine {
-    let count = match number {
-        4 => 1 + random.below(4) as usize,
-        _ => 5,
+/// An entry that ends too early: with fewer than five fields (4), or without a command (9), perhaps after its user.
+fn cut_line(random: &mut Random, kind: Kind, number: u64) -> BadLine {
+    let mut text = match number {
+        4 => {
+            let count = 1 + random.below(4) as usize;
+            fields(random)[..count].join(random.pick(&BLANKS))
+        }
+        _ => time(random),
     };
-    let mut text = match random.below(2) {
-        0 if number == 9 => random.pick(&WORDS).into(),
-        _ => fields(random)[..count].join(random.pick(&BLANKS)),
-    };
+    if number == 9 && kind == Kind::System && random.below(3) > 0 {
+        text += random.pick(&BLANKS);
+        text += &user_column(random);
+    }
     text += random.pick(&["", " ", "\t "]);
     indented(random, text.as_bytes(), number, text.len())
+}
+
+/// Five good fields, or an `@` word.
+fn time(random: &mut Random) -> String {
+    match random.below(2) {
+        0 => random.pick(&WORDS).into(),
+        _ => fields(random).join(random.pick(&BLANKS)),
+    }
+}
+
+/// What comes after the column doesn't count.
+fn line_with_bad_user_column(random: &mut Random) -> BadLine {
+    let before = time(random) + random.pick(&BLANKS);
+    let rest = random.pick(&["", " ", " a", "\ta%b", " root a"]);
+    let text = [before.as_bytes(), &bad_user_column(random), rest.as_bytes()].concat();
+    indented(random, &text, 20, before.len())
 }
 
 fn line_with_bad_field(random: &mut Random) -> BadLine {
@@ -402,7 +547,7 @@ pub fn noise(random: &mut Random, length: u64) -> Vec<u8> {
 /// The schedule of an entry with these five fields.
 pub fn schedule_of(fields: &str) -> Schedule {
     let line = format!("{fields} a");
-    let table = read(line.as_bytes()).expect("a good table");
+    let table = read(line.as_bytes(), Kind::User).expect("a good table");
     match table.entries[0].when {
         When::Times(schedule) => schedule,
         When::Reboot => panic!("{fields} has no times"),

@@ -6,10 +6,11 @@ use std::iter;
 
 fn sets(fields: &str) -> Schedule {
     let line = format!("{fields} a");
-    match read(line.as_bytes()).expect(fields).entries[..] {
+    match read(line.as_bytes(), Kind::User).expect(fields).entries[..] {
         [Entry {
             when: When::Times(schedule),
             command: b"a",
+            ..
         }] => schedule,
         _ => panic!("{fields}"),
     }
@@ -112,7 +113,112 @@ fn refusals_have_their_places() {
         (entries(128) + " @reboot", fault(9, 129, 9)),
     ];
     for (table, expected) in rows {
-        assert_eq!(read(table.as_bytes()).err(), expected, "{table}");
+        assert_eq!(
+            read(table.as_bytes(), Kind::User).err(),
+            expected,
+            "{table}"
+        );
+    }
+}
+
+#[test]
+fn any_number_but_0_is_a_system_table() {
+    assert_eq!(Kind::of(0), Kind::User);
+    for number in [1, 2, 1 << 8, 1 << 32, 1 << 63, u64::MAX] {
+        assert_eq!(Kind::of(number), Kind::System);
+    }
+    assert_eq!(Kind::BOTH.map(Kind::number), [0, 1]);
+    assert_eq!(Kind::BOTH.map(Kind::other), [Kind::System, Kind::User]);
+}
+
+#[test]
+fn system_entries_have_their_parts() {
+    for (line, expected) in documents::SYSTEM_ENTRIES {
+        // The same behind other lines: places count in the table.
+        for before in ["", "A=b\n\n@reboot r a\n"] {
+            let table = format!("{before}{line}\n");
+            let lines = before.matches('\n').count() as u64;
+            let found = match read(table.as_bytes(), Kind::System) {
+                Ok(read) => {
+                    let entry = read.entries.last().expect("an entry").clone();
+                    let text = |part: Part| &table[part.offset..part.offset + part.length];
+                    let parts = entry.column.parts().map(|part| part.map(text));
+                    Ok((parts.map(|part| part.map(str::to_string)), entry.command))
+                }
+                Err(fault) => {
+                    assert_eq!(fault.line, lines + 1, "{table}");
+                    Err((fault.number, fault.column))
+                }
+            };
+            let expected = expected.map(|(parts, command)| {
+                let parts = parts.map(|part| part.map(str::to_string));
+                (parts, command.as_bytes())
+            });
+            assert_eq!(found, expected, "{table}");
+        }
+    }
+}
+
+/// Where the parts of a column stand; an absent one is at 0, with length 0.
+#[test]
+fn parts_are_shown_by_their_places() {
+    let table = b"\n5 * * * * ab:c/def x\n\t@daily  a/b\tc\n@reboot a b";
+    let system = Calls::of(table, Kind::System);
+    assert_eq!(system.user_column(0), Ok([[11, 2], [14, 1], [16, 3]]));
+    assert_eq!(system.user_column(1), Ok([[31, 1], [0, 0], [33, 1]]));
+    assert_eq!(system.user_column(2), Ok([[45, 1], [0, 0], [0, 0]]));
+    let user = Calls::of(table, Kind::User);
+    for entry in 0..3 {
+        assert_eq!(user.user_column(entry), Ok([[0, 0]; 3]));
+    }
+    let shells = [&system, &user].map(|calls| calls.command(2).map(|command| command.shell));
+    assert_eq!(shells, [Ok(b"b".to_vec()), Ok(b"a b".to_vec())]);
+    let refused = Calls::of(b"* * * * * -", Kind::System);
+    for entry in [3, 1 << 16, 1 << 32, u64::MAX] {
+        assert_eq!(system.user_column(entry), Err(13));
+        assert_eq!(user.user_column(entry), Err(13));
+        assert_eq!(refused.user_column(entry), Err(20));
+    }
+}
+
+/// Every byte as the first, the only and the last of a name, and in the midst of it.
+#[test]
+fn names_have_letters_digits_and_three_marks() {
+    for byte in 1..=255_u8 {
+        let of_a_name = matches!(byte, b'a'..=b'z' | b'A'..=b'Z' | b'0'..=b'9' | b'_' | b'.');
+        for (column, is_good) in [
+            (vec![byte], of_a_name),
+            (vec![byte, b'a'], of_a_name),
+            (vec![b'a', byte], of_a_name || byte == b'-'),
+            (
+                vec![b'a', byte, b'b'],
+                of_a_name || matches!(byte, b'-' | b':' | b'/'),
+            ),
+            (
+                vec![b'a', b'/', b'b', byte, b'c'],
+                of_a_name || byte == b'-',
+            ),
+        ] {
+            if b" \t\n".contains(&byte) {
+                continue;
+            }
+            let line = [b"@daily ", &column[..], b" x"].concat();
+            let expected = if is_good { None } else { fault(20, 1, 8) };
+            let found = read(&line, Kind::System).err();
+            assert_eq!(found, expected, "{}", line.escape_ascii());
+        }
+    }
+}
+
+/// A table without entries is the same in both kinds.
+#[test]
+fn only_entries_differ() {
+    let tables: [&[u8]; 5] = [b"", b"A=b\n# c\n", b"a", b"@x", b"60"];
+    for table in tables {
+        let [user, system] = Kind::BOTH.map(|kind| read(table, kind));
+        assert_eq!(user.as_ref().err(), system.as_ref().err());
+        let settings = [user, system].map(|table| table.map(|table| table.settings).ok());
+        assert_eq!(settings[0], settings[1]);
     }
 }
 
@@ -130,20 +236,21 @@ fn settings_have_their_parts() {
     ];
     for (line, name, value) in rows.into_iter().chain(documents::SETTINGS) {
         let text = format!("\n{line}\n# {line}");
-        let table = read(text.as_bytes()).expect(line);
+        let table = read(text.as_bytes(), Kind::User).expect(line);
         let setting = table.setting(2).expect(line);
         let part = |part: Part| &text[part.offset..part.offset + part.length];
         assert_eq!((part(setting.name), part(setting.value)), (name, value));
         assert!(table.setting(1).is_none() && table.setting(3).is_none());
     }
-    let empty = read(b"A= \t\n").expect("a setting").setting(1);
+    let empty = read(b"A= \t\n", Kind::System).expect("a setting");
+    let empty = empty.setting(1);
     assert_eq!(empty.map(|setting| setting.value.offset), Some(4));
 }
 
 #[test]
 fn the_documents_examples() {
     for (line, expected) in documents::ENTRIES {
-        let calls = Calls::of(line.as_bytes());
+        let calls = Calls::of(line.as_bytes(), Kind::User);
         let found = match (calls.next(0, 0), expected) {
             (Err(number), _) => Err((number, calls.fault_column())),
             (Ok(first), Ok(firings)) => {
@@ -160,16 +267,16 @@ fn the_documents_examples() {
 #[test]
 fn samples_are_what_they_say() {
     let mut random = Random::seeded();
-    for _ in 0..20_000 {
-        let mut table = samples::table(&mut random, 3);
+    for kind in [Kind::User, Kind::System].repeat(15_000) {
+        let mut table = samples::table(&mut random, kind, 3);
         let shown = String::from_utf8_lossy(&table).into_owned();
-        assert!(read(&table).is_ok(), "{shown}");
+        assert!(read(&table, kind).is_ok(), "{kind:?} {shown}");
         table.extend(b"\n");
         let lines = lines(&table).count() as u64;
-        let (line, number, column) = samples::bad_line(&mut random);
+        let (line, number, column) = samples::bad_line(&mut random, kind);
         table.extend(&line);
         let shown = String::from_utf8_lossy(&table).into_owned();
-        let found = read(&table).err();
-        assert_eq!(found, fault(number, lines + 1, column), "{shown}");
+        let found = read(&table, kind).err();
+        assert_eq!(found, fault(number, lines + 1, column), "{kind:?} {shown}");
     }
 }

@@ -19,11 +19,15 @@ returns-3 c = rw (c .before .before .enum-told3 .given .1, c .before .is-blank3 
 
 returns-4 : tie.Need-returns-4
 unfolding ofClass
-returns-4 c = rw (c .before .class .given .1)
+returns-4 c = rw (c .before .enum-told4 .given .1) (c .is-account .ensures)
 
 returns-5 : tie.Need-returns-5
 unfolding ofClass
-returns-5 c = rw (c .enum-told4 .given .1)
+returns-5 c = rw (c .before .class .given .1)
+
+returns-6 : tie.Need-returns-6
+unfolding ofClass
+returns-6 c = rw (c .enum-told5 .given .1)
 
 pub is-in-spec : {M : Type 1} → statement M
 is-in-spec =
@@ -37,9 +41,12 @@ is-in-spec =
     (λ c κs. search needs)
     (λ c κs. search needs)
     (λ c. search needs)
+    (λ c κs. search needs)
+    (λ c. search needs)
     (λ c. search needs)
     returns
     returns-2
     returns-3
     returns-4
-    returns-5)
+    returns-5
+    returns-6)

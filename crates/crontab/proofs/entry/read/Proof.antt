@@ -5,16 +5,10 @@ use borrow.Author.Needs.{needs}
 use Rattle.crontab.proofs.entry.read.Statement.{statement}
 use Rattle.crontab.proofs.entry.read.Tie as tie
 
--- src/entry.rt:54:11
--- src/entry.rt:55:22
--- src/entry.rt:55:38
--- src/entry.rt:56:23
--- src/entry.rt:50:1
 returns : tie.Need-returns
 unfolding entryAt afterTime
-returns c = rw (← (c .before .before .before .before .time .ensures), c .before .before .when .given .1) (c .with-command .ensures)
+returns c = rw (← (c .before .before .before .before .time .ensures), c .before .before .when .given .1) (c .after-time .ensures)
 
--- src/entry.rt:50:1
 returns-2 : tie.Need-returns-2
 unfolding entryAt afterTime
 returns-2 c = rw (← (c .before .before .before .time .ensures), c .before .fault .given .1)
@@ -22,10 +16,4 @@ returns-2 c = rw (← (c .before .before .before .time .ensures), c .before .fau
 pub read-spec : {M : Type 1} → statement M
 read-spec =
     tie.close
-    (tie.spec
-    (λ c κs. search needs)
-    (λ c. search needs)
-    (λ c κs. search needs)
-    (λ c. search needs)
-    returns
-    returns-2)
+    (tie.spec (λ c κs. search needs) (λ c. search needs) (λ c κs. search needs) (λ c. search needs) returns returns-2)

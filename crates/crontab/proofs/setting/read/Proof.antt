@@ -17,10 +17,10 @@ use Rattle.crontab.proofs.setting.read.Statement.{statement}
 use Rattle.crontab.proofs.setting.read.Tie as tie
 
 abbrev Inv-loop : tie.InvT-loop
-Inv-loop s line found₀ c₀ found c = (settingFrom found line (itemsAt s c) ≡ settingIn (itemsOf s) line) × Reached s c
+Inv-loop s rules line found₀ c₀ found c = (settingFrom found line (itemsAt rules s c) ≡ settingIn (itemsOf rules s) line) × Reached s c
 
 abbrev μ-loop : tie.MeasureT-loop
-μ-loop s line found₀ c₀ found c = length s + 1 - c .at
+μ-loop s rules line found₀ c₀ found c = length s + 1 - c .at
 
 returns : tie.Need-returns Inv-loop μ-loop
 unfolding itemsOf settingIn settingFrom
@@ -28,7 +28,7 @@ returns c = c .refused .ensures ∙ rw (lt-ltb _ _ (c .before .if1 .taken))
 
 loop-holds : tie.Need-loop-holds Inv-loop μ-loop
 unfolding settingIn
-loop-holds c = (rw (items-start _ (c .before .if1 .left), c .refused2 .ensures), start-reached _ (c .before .if1 .left))
+loop-holds c = (rw (items-start _ _ (c .before .if1 .left), c .refused2 .ensures), start-reached _ (c .before .if1 .left))
 
 advance-requires : tie.Need-advance-requires Inv-loop μ-loop
 advance-requires c κs = (c .before .before .loop .inv .1, c .if2 .taken)
@@ -59,7 +59,7 @@ loop-again-3 c = let step = c .before .before .before .advance .ensures in
 
 returns-3 : tie.Need-returns-3 Inv-loop μ-loop
 unfolding settingFrom
-returns-3 c = rw (items-end _ (c .before .before .loop .c) (c .if2 .left)) at (c .before .before .loop .inv .0)
+returns-3 c = rw (items-end _ _ (c .before .before .loop .c) (c .if2 .left)) at (c .before .before .loop .inv .0)
 
 pub read-spec : {M : Type 1} → statement M
 read-spec =

@@ -8,13 +8,13 @@ use Rattle.crontab.proofs.setting.value.Statement.{statement}
 use Rattle.crontab.proofs.setting.value.Tie as tie
 
 sub-result : tie.Need-sub-result
-sub-result c = rw (c .before .read .ensures) (setting-inside _ _ .value .order)
+sub-result c = rw (c .before .read .ensures) (setting-inside _ _ _ .value .order)
 
 part-result-start : tie.Need-part-result-start
-part-result-start c = let i = setting-inside (c .before .before .before .args .s .now) (c .before .before .before .args .line) .value in rw (c .before .read .ensures) (omega (arith, i .order, i .within))
+part-result-start c = let i = setting-inside (c .before .before .before .args .rules) (c .before .before .before .args .s .now) (c .before .before .before .args .line) .value in rw (c .before .read .ensures) (omega (arith, i .order, i .within))
 
 part-result-end : tie.Need-part-result-end
-part-result-end c = rw (c .before .read .ensures) (setting-inside _ _ .value .within)
+part-result-end c = rw (c .before .read .ensures) (setting-inside _ _ _ .value .within)
 
 returns : tie.Need-returns
 unfolding between

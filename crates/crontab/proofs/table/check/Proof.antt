@@ -16,17 +16,17 @@ use Rattle.crontab.proofs.table.check.Statement.{statement}
 use Rattle.crontab.proofs.table.check.Tie as tie
 
 abbrev Inv-loop : tie.InvT-loop
-Inv-loop s c₀ c = (verdictFrom (c .count) (itemsAt s c) ≡ verdictOf (tableOf s)) × Reached s c
+Inv-loop s rules c₀ c = (verdictFrom (c .count) (itemsAt rules s c) ≡ verdictOf (tableOf rules s)) × Reached s c
 
 abbrev μ-loop : tie.MeasureT-loop
-μ-loop s c₀ c = length s + 1 - c .at
+μ-loop s rules c₀ c = length s + 1 - c .at
 
 returns : tie.Need-returns Inv-loop μ-loop
 unfolding itemsOf verdictFrom
-returns c = sym (sym (table-verdict _) ∙ rw (lt-ltb _ _ (c .if1 .taken)))
+returns c = sym (sym (table-verdict _ _) ∙ rw (lt-ltb _ _ (c .if1 .taken)))
 
 loop-holds : tie.Need-loop-holds Inv-loop μ-loop
-loop-holds c = (rw (items-start _ (c .if1 .left)) (table-verdict _), start-reached _ (c .if1 .left))
+loop-holds c = (rw (items-start _ _ (c .if1 .left)) (table-verdict _ _), start-reached _ (c .if1 .left))
 
 advance-requires : tie.Need-advance-requires Inv-loop μ-loop
 advance-requires c κs = (c .before .before .loop .inv .1, c .if2 .taken)
@@ -57,7 +57,7 @@ loop-again-3 c = let step = c .before .before .before .advance .ensures in
 
 returns-3 : tie.Need-returns-3 Inv-loop μ-loop
 unfolding verdictFrom
-returns-3 c = rw (items-end _ (c .before .before .loop .c) (c .if2 .left)) at (c .before .before .loop .inv .0)
+returns-3 c = rw (items-end _ _ (c .before .before .loop .c) (c .if2 .left)) at (c .before .before .loop .inv .0)
 
 pub check-spec : {M : Type 1} → statement M
 check-spec =

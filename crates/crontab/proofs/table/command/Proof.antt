@@ -14,15 +14,15 @@ unfolding commandIn
 returns c = rw (← (c .before .before .before .find-entry .ensures), c .before .enum-told .given .1)
 
 sub-result-2 : tie.Need-sub-result-2
-sub-result-2 c = let e = entry-sound _ _ (sym (c .before .before .before .before .before .find-entry .ensures) ∙ c .before .before .before .found .given .1) in
+sub-result-2 c = let e = entry-sound _ _ _ (sym (c .before .before .before .before .before .find-entry .ensures) ∙ c .before .before .before .found .given .1) in
     omega (arith, e .some)
 
 part-result-start-2 : tie.Need-part-result-start-2
-part-result-start-2 c = let e = entry-sound _ _ (sym (c .before .before .before .before .before .find-entry .ensures) ∙ c .before .before .before .found .given .1) in
+part-result-start-2 c = let e = entry-sound _ _ _ (sym (c .before .before .before .before .before .find-entry .ensures) ∙ c .before .before .before .found .given .1) in
     omega (arith, e .some, e .within)
 
 part-result-end-2 : tie.Need-part-result-end-2
-part-result-end-2 c = let e = entry-sound _ _ (sym (c .before .before .before .before .before .find-entry .ensures) ∙ c .before .before .before .found .given .1) in
+part-result-end-2 c = let e = entry-sound _ _ _ (sym (c .before .before .before .before .before .find-entry .ensures) ∙ c .before .before .before .found .given .1) in
     e .within
 
 returns-2 : tie.Need-returns-2

@@ -17,17 +17,17 @@ use Rattle.crontab.proofs.table.find_entry.Statement.{statement}
 use Rattle.crontab.proofs.table.find_entry.Tie as tie
 
 abbrev Inv-loop : tie.InvT-loop
-Inv-loop s entry found₀ c₀ found c = (entryFrom found (c .count) entry (itemsAt s c) ≡ entryIn (tableOf s) entry) × Reached s c
+Inv-loop s rules entry found₀ c₀ found c = (entryFrom found (c .count) entry (itemsAt rules s c) ≡ entryIn (tableOf rules s) entry) × Reached s c
 
 abbrev μ-loop : tie.MeasureT-loop
-μ-loop s entry found₀ c₀ found c = length s + 1 - c .at
+μ-loop s rules entry found₀ c₀ found c = length s + 1 - c .at
 
 returns : tie.Need-returns Inv-loop μ-loop
 unfolding itemsOf entryFrom
-returns c = sym (table-entry _ _ ∙ rw (lt-ltb maxTable _ (c .if1 .taken)))
+returns c = sym (table-entry _ _ _ ∙ rw (lt-ltb maxTable _ (c .if1 .taken)))
 
 loop-holds : tie.Need-loop-holds Inv-loop μ-loop
-loop-holds c = (rw (items-start _ (c .if1 .left)) (sym (table-entry _ _)), start-reached _ (c .if1 .left))
+loop-holds c = (rw (items-start _ _ (c .if1 .left)) (sym (table-entry _ _ _)), start-reached _ (c .if1 .left))
 
 advance-requires : tie.Need-advance-requires Inv-loop μ-loop
 advance-requires c κs = (c .before .before .loop .inv .1, c .if2 .taken)
@@ -58,7 +58,7 @@ loop-again-3 c = let step = c .before .before .before .advance .ensures in
 
 returns-3 : tie.Need-returns-3 Inv-loop μ-loop
 unfolding entryFrom
-returns-3 c = rw (items-end _ (c .before .before .loop .c) (c .if2 .left)) at (c .before .before .loop .inv .0)
+returns-3 c = rw (items-end _ _ (c .before .before .loop .c) (c .if2 .left)) at (c .before .before .loop .inv .0)
 
 pub find-entry-spec : {M : Type 1} → statement M
 find-entry-spec =

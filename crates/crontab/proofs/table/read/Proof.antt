@@ -22,10 +22,10 @@ use Rattle.crontab.proofs.table.read.Statement.{statement}
 use Rattle.crontab.proofs.table.read.Tie as tie
 
 abbrev Inv-loop : tie.InvT-loop
-Inv-loop s entries₀ c₀ entries c = (withItems (good (c .count) entries) (itemsAt s c) ≡ tableOf s) × Reached s c × (length entries ≡ maxEntries)
+Inv-loop s rules entries₀ c₀ entries c = (withItems (good (c .count) entries) (itemsAt rules s c) ≡ tableOf rules s) × Reached s c × (length entries ≡ maxEntries)
 
 abbrev μ-loop : tie.MeasureT-loop
-μ-loop s entries₀ c₀ entries c = length s + 1 - c .at
+μ-loop s rules entries₀ c₀ entries c = length s + 1 - c .at
 
 returns : tie.Need-returns Inv-loop μ-loop
 unfolding itemsOf tableOf withItems
@@ -33,7 +33,7 @@ returns c = c .refused .ensures ∙ rw (lt-ltb _ _ (c .before .if1 .taken))
 
 loop-holds : tie.Need-loop-holds Inv-loop μ-loop
 unfolding tableOf emptyTable refusedTable noEntries
-loop-holds c = (rw (items-start _ (c .if1 .left)), start-reached _ (c .if1 .left), refl)
+loop-holds c = (rw (items-start _ _ (c .if1 .left)), start-reached _ (c .if1 .left), refl)
 
 advance-requires : tie.Need-advance-requires Inv-loop μ-loop
 advance-requires c κs = (c .before .before .loop .inv .1, c .if2 .taken)
@@ -70,7 +70,7 @@ loop-again-3 c = let step = c .before .before .before .advance .ensures in
 
 returns-3 : tie.Need-returns-3 Inv-loop μ-loop
 unfolding withItems
-returns-3 c = rw (items-end _ (c .before .before .loop .c) (c .if2 .left)) at (c .before .before .loop .inv .0)
+returns-3 c = rw (items-end _ _ (c .before .before .loop .c) (c .if2 .left)) at (c .before .before .loop .inv .0)
 
 pub read-spec : {M : Type 1} → statement M
 read-spec =

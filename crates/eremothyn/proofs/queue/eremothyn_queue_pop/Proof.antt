@@ -8,8 +8,9 @@ use Rattle.eremothyn.proofs.queue.eremothyn_queue_pop.Tie as tie
 
 returns : tie.Need-returns
 returns c =
-    (c .popped-number .ensures ∙ ap popNumber (c .before .before .before .pop .ensures .0), c .before .before .before .pop .ensures .1)
+    let e = c .before .before .before .before .before .rules-of .ensures in
+    rw (← e) (c .popped-number .ensures ∙ ap popNumber (c .before .before .before .pop .ensures .0), c .before .before .before .pop .ensures .1)
 
 pub eremothyn-queue-pop-spec : {M : Type 1} → statement M
 eremothyn-queue-pop-spec =
-    tie.close (tie.spec (λ c κs. search needs) (λ c κs. search needs) (λ c. search needs) returns)
+    tie.close (tie.spec (λ c κs. search needs) (λ c κs. search needs) (λ c κs. search needs) (λ c. search needs) returns)

@@ -7,7 +7,7 @@ use Rattle.eremothyn.proofs.tables.eremothyn_check.Tie as tie
 
 returns : tie.Need-returns
 unfolding verdictOf checkNumber
-returns c = rw (c .before .check .ensures) at (c .answer .ensures)
+returns c = rw (c .before .check .ensures, c .before .before .rules-of .ensures) at (c .answer .ensures)
 
 pub eremothyn-check-spec : {M : Type 1} → statement M
-eremothyn-check-spec = tie.close (tie.spec (λ c κs. tt) (λ c κs. tt) returns)
+eremothyn-check-spec = tie.close (tie.spec (λ c κs. tt) (λ c κs. tt) (λ c κs. tt) returns)
