@@ -1,5 +1,6 @@
 pub mod Words
 pub mod Users
+pub mod Owners
 pub mod Times
 pub mod Proper
 pub mod Lines

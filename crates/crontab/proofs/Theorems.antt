@@ -2,6 +2,7 @@
 --   table-sound, table-short: a table that is read; a good one is as long as it may be
 --   entry-sound, entry-told: an entry that is found, and the answer to a number
 --   owner-inside, owner-short: where an owner's parts stand
+--   behind-time: an owner is read from the column that was judged, the one behind the time
 --   setting-inside, setting-short: where name and value stand
 --   due-told, next-told: what is said of an entry, refused or not
 --   next-in-gap: a next firing that is told is at most 21,036,960 minutes ahead
@@ -54,6 +55,7 @@ use Rattle.crontab.specs.Firings.{byWhen, firesAt, dueOf, told, nextOf, 
 use Rattle.crontab.proofs.Proper.{Inside}
 use Rattle.crontab.proofs.Sound.{Sound, SoundItems, items-sound}
 use Rattle.crontab.proofs.Tables.{entryFrom, table-entry}
+pub use Rattle.crontab.proofs.Owners.{behind-time}
 
 -- ---- a table
 

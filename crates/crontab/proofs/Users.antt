@@ -10,22 +10,19 @@ use native.Mathlib.Omega.{arith}
 use lib.ListN.{length, getD}
 use lib.Dec.{eqb, leb, ltb}
 use borrow.Author.Tests.{ltb-true}
-use Rattle.bytes.specs.declared.class.Class.the-variants.{Blank, Solid, Account}
+use Rattle.bytes.specs.declared.class.Class.the-variants.{Solid, Account}
 use Rattle.bytes.specs.Runs.{skipped}
 use Rattle.bytes.proofs.Runs.{skipped-within, skipped-end}
 use Rattle.crontab.specs.declared.Part.{Part}
 use Rattle.crontab.specs.declared.assignment.Text.{Text}
 use Rattle.crontab.specs.declared.assignment.Text.the-variants as text
-use Rattle.crontab.specs.declared.time.Time.{Time}
-use Rattle.crontab.specs.declared.time.Time.the-variants as time
 use Rattle.crontab.specs.declared.user.Owner.{Owner}
 use Rattle.crontab.specs.declared.user.Column.{Column}
 use Rattle.crontab.specs.declared.user.Column.the-variants.{Named, Malformed}
 use Rattle.crontab.specs.Limits.{maxAccount}
 use Rattle.field.specs.Elements.{dash, slash}
 use Rattle.crontab.specs.Users.{colon, absent, accountAt, accountAfter, andThen, ended, columnAt}
-use Rattle.crontab.specs.Entries.{timeAt}
-use Rattle.crontab.specs.Owners.{namedOwner, ownerAfter, lineOwner}
+use Rattle.crontab.specs.Owners.{namedOwner, lineOwner}
 
 module _ (s : List ℕ) where
   abbrev TextWithin : Text → Type 0
@@ -98,9 +95,5 @@ module _ (s : List ℕ) where
   owner-in Malformed h = record { user = omega arith; group = omega arith; class = omega arith }
 
   pub owner-within : OwnerWithin (lineOwner s)
-  unfolding lineOwner ownerAfter
-  owner-within = go (timeAt s (skipped Blank s 0))
-    where
-      go : (t : Time) → OwnerWithin (ownerAfter s t)
-      go (time.Read when next) = owner-in (columnAt s next) (column-within next)
-      go (time.Refused fault) = record { user = omega arith; group = omega arith; class = omega arith }
+  unfolding lineOwner
+  owner-within = owner-in (columnAt s _) (column-within _)

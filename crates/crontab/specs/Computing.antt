@@ -11,7 +11,7 @@ use Rattle.crontab.specs.Entries.{timeAt, withCommand, afterOwner, withU
 use Rattle.crontab.specs.Lines.{onto, linesOf, startsEntry, contentFrom, contentOf, readLine}
 use Rattle.crontab.specs.Items.{afterLine, itemsFrom, itemsOf}
 use Rattle.crontab.specs.Tables.{noEntries, refusedTable, emptyTable, withEntry, withItems, tableOf, entryIn, commandIn}
-use Rattle.crontab.specs.Owners.{namedOwner, ownerAfter, lineOwner, shifted, ownerFrom, ownerOf, ownerAnswer}
+use Rattle.crontab.specs.Owners.{namedOwner, behind, timeRuns, lineOwner, shifted, ownerFrom, ownerOf, ownerAnswer}
 use Rattle.crontab.specs.Settings.{refusedSetting, settingFrom, settingIn}
 
 unfoldable pub reading : Unit {0}
@@ -19,5 +19,5 @@ unfolding field.reading isAccount skipped trimmed between quotedAt nonEmpty name
     fieldAt after fieldsAt same meanings known wordFor chosen wordIn wordOf afterWord wordAt accountAt accountAfter andThen ended columnAt
     timeAt withCommand afterOwner withUser afterTime entryAt onto linesOf startsEntry contentFrom contentOf readLine afterLine itemsFrom
     itemsOf noEntries refusedTable emptyTable withEntry withItems tableOf entryIn commandIn refusedSetting settingFrom settingIn
-    namedOwner ownerAfter lineOwner shifted ownerFrom ownerOf ownerAnswer
+    namedOwner behind timeRuns lineOwner shifted ownerFrom ownerOf ownerAnswer
 reading = tt

@@ -30,7 +30,7 @@ pub struct Entry {
 }
 
 // The time that starts at a place.
-pub(crate) fn time(s: &[u8], at: usize) -> Time
+fn time(s: &[u8], at: usize) -> Time
     requires { ⌜ length (now s) ≤ maxLine ⌝ }
     ensures { λ r. ⌜ r ≡ timeAt (now (s .entry)) at ⌝ }
 {

@@ -5,6 +5,7 @@ pub mod Naming
 pub mod Steps
 pub mod Runs
 pub mod Lists
+pub mod Alone
 pub mod Fields
 pub mod Refusals
 pub mod Accepted

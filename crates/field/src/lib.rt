@@ -114,5 +114,18 @@ pub fn read(s: &[u8], column: u32, limits: Limits) -> Answer
         let start = Answer::Values { set: 0, star: true };
         return values::judge(limits, column, start, element);
     }
+    // Most fields are one number.
+    if let Number::Value(n) = number::read(s) {
+        let start = Answer::Values {
+            set: 0,
+            star: false,
+        };
+        let element = Element::Range {
+            low: n,
+            high: n,
+            step: 1,
+        };
+        return values::judge(limits, column, start, element);
+    }
     list::read(s, column, limits)
 }
