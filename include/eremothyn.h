@@ -8,7 +8,7 @@
  * and any bytes may be passed: what has no answer is refused. A refusal is EREMOTHYN_REFUSED plus its number; no other
  * answer is above EREMOTHYN_REFUSED. A refused call changes no byte. A table's bytes are never changed. Runs of bytes that
  * are lent to one call must not overlap. A pointer may be NULL where its length is 0. No call keeps a pointer or takes memory
- * from the heap; some 30 KB of stack are enough. Threads may share a table; a buffer or a room is lent to one call at a time.
+ * from the heap; some 12 KB of stack are enough. Threads may share a table; a buffer or a room is lent to one call at a time.
  *
  *     uint64_t minute = eremothyn_minute_of_date(2000, 2, 29, 0, 0);
  *     if (EREMOTHYN_IS_REFUSED(minute))
@@ -25,15 +25,15 @@ extern "C" {
 #endif
 
 /* The middle number counts the change requests that have landed. */
-#define EREMOTHYN_VERSION "1.4.0"
+#define EREMOTHYN_VERSION "1.5.0"
 
 /* The last minute of the calendar, 9999-12-31 23:59. */
 #define EREMOTHYN_LAST_MINUTE UINT64_C(4223371679)
 
 /* What a table may have: bytes, bytes in a line without its newline, entries, bytes in a name of the user column. */
-#define EREMOTHYN_MAX_TABLE 16384
+#define EREMOTHYN_MAX_TABLE 49152
 #define EREMOTHYN_MAX_LINE 1000
-#define EREMOTHYN_MAX_ENTRIES 128
+#define EREMOTHYN_MAX_ENTRIES 512
 #define EREMOTHYN_MAX_NAME 32
 
 /*
@@ -58,7 +58,7 @@ extern "C" {
  * Refusals of a table. 1 comes first, then the first bad line decides: on it 2, then 3, in comments too, then the line is
  * read from left to right, and 12 comes last. Lines and columns count from 1.
  */
-#define EREMOTHYN_TABLE_TOO_LONG UINT64_C(1)    /* over 16,384 bytes; line 0, column 0 */
+#define EREMOTHYN_TABLE_TOO_LONG UINT64_C(1)    /* over 49,152 bytes; line 0, column 0 */
 #define EREMOTHYN_LINE_TOO_LONG UINT64_C(2)     /* over 1,000 bytes without its newline; column 1,001 */
 #define EREMOTHYN_NUL_BYTE UINT64_C(3)          /* byte 0 in a line; its column */
 #define EREMOTHYN_TOO_FEW_FIELDS UINT64_C(4)    /* fewer than five fields; the column after the line's last byte */
@@ -69,7 +69,7 @@ extern "C" {
 #define EREMOTHYN_NO_COMMAND UINT64_C(9)        /* no command; the column after the line's last byte */
 #define EREMOTHYN_UNKNOWN_WORD UINT64_C(10)     /* unknown @ word; the @ */
 #define EREMOTHYN_BAD_SETTING UINT64_C(11)      /* setting not of the form; the first non-blank byte */
-#define EREMOTHYN_TOO_MANY_ENTRIES UINT64_C(12) /* the 129th entry; column 1 */
+#define EREMOTHYN_TOO_MANY_ENTRIES UINT64_C(12) /* the 513th entry; column 1 */
 #define EREMOTHYN_USER_MALFORMED UINT64_C(20)   /* user column not of the form, in a system table; its first byte */
 
 /* Refusals of one entry, one minute, one setting and one queue of waiting jobs. */
@@ -86,7 +86,7 @@ extern "C" {
 static inline const char *eremothyn_words(uint64_t refusal)
 {
     switch (refusal) {
-    case EREMOTHYN_TABLE_TOO_LONG: return "the table has more than 16384 bytes";
+    case EREMOTHYN_TABLE_TOO_LONG: return "the table has more than 49152 bytes";
     case EREMOTHYN_LINE_TOO_LONG: return "the line has more than 1000 bytes";
     case EREMOTHYN_NUL_BYTE: return "the line has a byte 0";
     case EREMOTHYN_TOO_FEW_FIELDS: return "fewer than five time fields";
@@ -100,7 +100,7 @@ static inline const char *eremothyn_words(uint64_t refusal)
     case EREMOTHYN_UNKNOWN_WORD:
         return "not one of @reboot, @yearly, @annually, @monthly, @weekly, @daily, @midnight and @hourly";
     case EREMOTHYN_BAD_SETTING: return "neither an entry nor a setting, which is name=value";
-    case EREMOTHYN_TOO_MANY_ENTRIES: return "more than 128 entries";
+    case EREMOTHYN_TOO_MANY_ENTRIES: return "more than 512 entries";
     case EREMOTHYN_NO_SUCH_ENTRY: return "the table has no entry of this number";
     case EREMOTHYN_NOT_ON_CALENDAR: return "no such minute or date from 1970-01-01 00:00 to 9999-12-31 23:59";
     case EREMOTHYN_AT_BOOT_ONLY: return "fires at boot only";

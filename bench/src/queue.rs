@@ -1,11 +1,13 @@
-//! An announcement and a request with a full table, of 16,384 bytes and 128 entries. Both programs read the table at
-//! every call, and start each call from the same line.
+//! An announcement and a request with a full table, of 49,152 bytes and 512 entries. Both programs read the table at
+//! every call, and start each call from the same line. Then both calls beside reading the table alone.
 
-use crate::measure::{nanoseconds, print_pair, print_pair_head};
+use crate::measure::{in_turn, nanoseconds, print_pair, print_pair_head, round};
 use crate::table::entries_alone;
 use eremothyn::Table;
 use second::queue::Queue;
 use second::table::{read, Kind, ENTRIES, TABLE_BYTES};
+use std::hint::black_box;
+use std::time::Instant;
 
 const CALLS: usize = 200;
 
@@ -55,6 +57,35 @@ pub fn run() {
     row("pop, all wait", &waiting, pop, second_pop);
     row("pop, nothing waits", &empty, pop, second_pop);
     println!("times as long as the second program");
+
+    print_pair_head(
+        "queue, the same beside reading the table, microseconds a call",
+        "reading",
+    );
+    beside_reading("tick, all wait", &table, &waiting, |line| {
+        library_tick(&table, line, ALL_DUE).is_ok()
+    });
+    beside_reading("tick, all join", &table, &empty, |line| {
+        library_tick(&table, line, ALL_DUE).is_ok()
+    });
+    beside_reading("pop, all wait", &table, &waiting, |line| pop(line).is_ok());
+    println!("times as long as reading; goals: a tick where all wait at most 1.3, a pop 1.1");
+}
+
+fn beside_reading(what: &str, table: &[u8], line: &Line, call: impl Fn(&mut Line) -> bool) {
+    let tables = vec![table; CALLS];
+    // Each call gets a line of its own, made before the clock starts.
+    let calls = || {
+        let mut lines = vec![line.clone(); CALLS];
+        let start = Instant::now();
+        for line in &mut lines {
+            assert!(black_box(call(line)));
+        }
+        start.elapsed().as_nanos() as f64 / CALLS as f64
+    };
+    let reading = || round(&tables, |table| Table::of(table).check());
+    let times = in_turn(&[&calls, &reading]);
+    print_pair(what, [times[0] / 1e3, times[1] / 1e3], times[0] / times[1]);
 }
 
 fn row<T: PartialEq + std::fmt::Debug>(
@@ -82,7 +113,7 @@ fn second_tick(table: &[u8], line: &mut Line, minute: u64) -> Result<u64, u64> {
         .tick(&read(table, Kind::User).expect(GOOD), minute)
 }
 
-/// Entries that are all due at the same minutes, in 128 bytes each.
+/// Entries that are all due at the same minutes, in 96 bytes each.
 fn full() -> Vec<u8> {
     let fields = [
         "*/10 * * * *",

@@ -1,7 +1,8 @@
-//! Reading a full table, of 16,384 bytes and 128 entries, as the library and the second program do it: the same bytes,
-//! the same count of entries. A system table stands beside the same entries as a user table.
+//! Reading a full table, of 49,152 bytes and 512 entries, as the library and the second program do it: the same bytes,
+//! the same count of entries. A system table stands beside the same entries as a user table, and a table of a quarter of both
+//! limits beside the full one: a byte of either should cost the same.
 
-use crate::measure::{nanoseconds, print_pair, print_pair_head};
+use crate::measure::{in_turn, nanoseconds, print_pair, print_pair_head, round};
 use eremothyn::Table;
 use second::table::{self, Kind, ENTRIES, TABLE_BYTES};
 
@@ -26,6 +27,25 @@ pub fn run() {
         Kind::System,
     );
     println!("times as long as the second program; goal: at most {GOAL}");
+
+    let title = "table, a full one and a quarter of it, ns a byte";
+    print_pair_head(title, "quarter");
+    by_the_byte("as people write it", &WRITTEN);
+    by_the_byte("lists in every field", &LISTS);
+    println!("times as long a byte as the quarter; goal: at most 1");
+}
+
+fn by_the_byte(which: &str, lines: &[&str]) {
+    let full = filled(lines, ENTRIES, TABLE_BYTES);
+    let quarter = filled(lines, ENTRIES / 4, TABLE_BYTES / 4);
+    let check = |bytes: &[u8]| library(bytes, Kind::User);
+    let inputs = [&full, &quarter].map(|table| vec![&table[..]; READS]);
+    let times = in_turn(&[&|| round(&inputs[0], check), &|| round(&inputs[1], check)]);
+    let [full, quarter] = [
+        times[0] / full.len() as f64,
+        times[1] / quarter.len() as f64,
+    ];
+    print_pair(which, [full, quarter], full / quarter);
 }
 
 fn compare(which: &str, bytes: &[u8], kind: Kind) {
@@ -78,29 +98,34 @@ const LISTS: [&str; 2] = [
 fn with_user(line: &str) -> String {
     let time = if line.starts_with('@') { 1 } else { 5 };
     let mut words: Vec<&str> = line.splitn(time + 1, ' ').collect();
-    words.insert(time, "observer:dome/batch");
+    words.insert(time, "u:g/c");
     words.join(" ")
 }
 
-/// All entries in turn, with settings and comments between them, filled up with comments.
+/// A table as full as may be.
 fn full(lines: &[&str]) -> Vec<u8> {
+    filled(lines, ENTRIES, TABLE_BYTES)
+}
+
+/// So many entries in turn, with settings and comments between them, filled up with comments to so many bytes.
+fn filled(lines: &[&str], entries: usize, bytes: usize) -> Vec<u8> {
     let mut table = b"SHELL=/bin/sh\nMAILTO = \"paul\"\n".to_vec();
-    for (number, line) in lines.iter().cycle().take(ENTRIES).enumerate() {
+    for (number, line) in lines.iter().cycle().take(entries).enumerate() {
         if number % 4 == 0 {
             table.extend(format!("# {number}: what this job is for\n").bytes());
         }
         table.extend(line.bytes());
         table.push(b'\n');
     }
-    while table.len() < TABLE_BYTES {
-        let rest = TABLE_BYTES - table.len();
+    while table.len() < bytes {
+        let rest = bytes - table.len();
         let comment = rest.min(80) - 1;
         table.extend(format!("{:<comment$}\n", "#").bytes());
     }
     table
 }
 
-/// As many entries as may be, in a full table: each line is filled up to 128 bytes.
+/// As many entries as may be, in a full table: each line is filled up to 96 bytes.
 pub fn entries_alone(lines: &[impl AsRef<str>]) -> Vec<u8> {
     let width = TABLE_BYTES / ENTRIES - 1;
     let lines = lines.iter().cycle().take(ENTRIES);

@@ -4,4 +4,5 @@ pub mod Classes
 pub mod Runs
 pub mod Laid
 pub mod Sets
+pub mod Marks
 pub mod Examples

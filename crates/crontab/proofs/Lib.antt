@@ -9,4 +9,5 @@ pub mod Sound
 pub mod Tables
 pub mod Walks
 pub mod Firings
+pub mod Choices
 pub mod Theorems

@@ -3,7 +3,7 @@
 use mathlib.Core.Path.{_≡_, _∙_}
 use mathlib.Core.Bool.{cond}
 use mathlib.Core.List.{List}
-use Prim.Native.Nat.{ℕ, _<_}
+use Prim.Native.Nat.{ℕ, _+_, _<_}
 use native.Mathlib.Omega.{arith}
 use lib.ListN.{set}
 use lib.Dec.{eqb}
@@ -31,6 +31,18 @@ module _ {rules : Rules} {s : List ℕ} {c : Cursor} {r : Step} (step : StepIs r
 
     count : r .next .count ≡ counted x (c .count)
     count = step .counts ∙ rw is
+
+  pub count-entry : {e : Entry} → r .item ≡ item.Entry e → r .next .count ≡ c .count + 1
+  unfolding counted
+  count-entry is = count is
+
+  pub count-setting : {name value : Part} → r .item ≡ item.Setting name value → r .next .count ≡ c .count
+  unfolding counted
+  count-setting is = count is
+
+  pub count-nothing : r .item ≡ item.Nothing → r .next .count ≡ c .count
+  unfolding counted
+  count-nothing is = count is
 
   pub verdict-entry : {e : Entry} → r .item ≡ item.Entry e → verdictFrom (r .next .count) (itemsAt rules s (r .next)) ≡ verdictFrom (c .count) (itemsAt rules s c)
   unfolding given counted verdictFrom

@@ -179,9 +179,9 @@ tables-read : Hold fault
     -- the first bad line, and no entry
     ∷ (text "@reboot b\n\n60 * * * * a\nA\n", 6 ∷ 3 ∷ 1 ∷ 0 ∷ [])
     -- as many entries as there may be, and one more, which a bad line follows; a bad line has its own refusal there too
-    ∷ (text "A=b\n#\n" ++ times maxEntries (text "@reboot x\n"), 0 ∷ 0 ∷ 0 ∷ 128 ∷ [])
-    ∷ (times (maxEntries + 1) (text "@reboot x\n") ++ text "A\n", 12 ∷ 129 ∷ 1 ∷ 0 ∷ [])
-    ∷ (times maxEntries (text "@reboot x\n") ++ text "60\n", 6 ∷ 129 ∷ 1 ∷ 0 ∷ [])
+    ∷ (text "A=b\n#\n" ++ times maxEntries (text "@reboot x\n"), 0 ∷ 0 ∷ 0 ∷ 512 ∷ [])
+    ∷ (times (maxEntries + 1) (text "@reboot x\n") ++ text "A\n", 12 ∷ 513 ∷ 1 ∷ 0 ∷ [])
+    ∷ (times maxEntries (text "@reboot x\n") ++ text "60\n", 6 ∷ 513 ∷ 1 ∷ 0 ∷ [])
     -- as many bytes as there may be, and one more
     ∷ (replicate maxTable 10, 0 ∷ 0 ∷ 0 ∷ 0 ∷ [])
     ∷ (replicate (maxTable + 1) 10, 1 ∷ 0 ∷ 0 ∷ 0 ∷ [])

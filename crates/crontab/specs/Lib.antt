@@ -11,6 +11,7 @@ pub mod Tables
 pub mod Owners
 pub mod Settings
 pub mod Firings
+pub mod Choices
 pub mod Steps
 pub mod Computing
 pub mod Examples

@@ -3,7 +3,7 @@
 use Prim.Native.Nat.{ℕ}
 
 abbrev pub maxTable : ℕ
-maxTable = 16384
+maxTable = 49152
 
 -- without its newline
 abbrev pub maxLine : ℕ
@@ -14,4 +14,4 @@ abbrev pub maxAccount : ℕ
 maxAccount = 32
 
 abbrev pub maxEntries : ℕ
-maxEntries = 128
+maxEntries = 512

@@ -1,5 +1,6 @@
 // A table of paper 01, from its bytes to its entries and settings, or its one refusal.
 mod assignment;
+pub mod chosen;
 pub mod entry;
 pub mod firing;
 mod item;
@@ -11,11 +12,11 @@ pub mod time;
 pub mod user;
 mod word;
 
-pub const MAX_TABLE: usize = 16384;
+pub const MAX_TABLE: usize = 49152;
 
 pub const MAX_LINE: usize = 1000;
 
-pub const MAX_ENTRIES: usize = 128;
+pub const MAX_ENTRIES: usize = 512;
 
 // A user, a group or a class.
 pub const MAX_ACCOUNT: usize = 32;

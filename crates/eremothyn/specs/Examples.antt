@@ -3,10 +3,11 @@
 -- Assumes nothing.
 use mathlib.Core.Path.{_≡_, refl}
 use mathlib.Core.List.{List, [], _∷_}
-use Prim.Native.Nat.{ℕ}
+use Prim.Native.Nat.{ℕ, _+_}
 use lib.ListN.{replicate}
 use Rattle.bytes.specs.Texts.{text}
 use Rattle.bytes.specs.Rows.{Hold}
+use Rattle.crontab.specs.Limits.{maxTable}
 use Rattle.crontab.specs.Items.{itemsOf}
 use Rattle.crontab.specs.Tables.{tableOf}
 use Rattle.crontab.specs.Owners.{ownerIn}
@@ -122,7 +123,7 @@ due : Hold dueOn
     ∷ ((pair, 0, 4223371680), 4294967310)
     ∷ ((pair, 2, 4223371680), 4294967309)
     ∷ ((text "60", 2, 60), 4294967302)
-    ∷ ((replicate 16385 10, 2, 60), 4294967297)
+    ∷ ((replicate (maxTable + 1) 10, 2, 60), 4294967297)
     ∷ [])
 unfolding answering
 due = refl
@@ -223,7 +224,7 @@ last-minute = refl
 refused-run :
     (run (text "60") (replicate 7 7) (init ∷ tick 4223371680 ∷ pop ∷ []) ≡ 4294967302 ∷ 4294967302 ∷ 4294967302 ∷ [])
     × (run (text "60") [] (init ∷ tick 4223371680 ∷ pop ∷ []) ≡ 4294967302 ∷ 4294967302 ∷ 4294967302 ∷ [])
-    × (run (replicate 16385 10) (replicate 2 0) (init ∷ tick 4223371680 ∷ pop ∷ []) ≡ 4294967297 ∷ 4294967297 ∷ 4294967297 ∷ [])
+    × (run (replicate (maxTable + 1) 10) (replicate 2 0) (init ∷ tick 4223371680 ∷ pop ∷ []) ≡ 4294967297 ∷ 4294967297 ∷ 4294967297 ∷ [])
     × (run (text "@reboot x") (replicate 3 0) (init ∷ tick 4223371680 ∷ pop ∷ []) ≡ 4294967324 ∷ 4294967324 ∷ 4294967324 ∷ [])
     × (run (text "@reboot x") (replicate 4 0) (tick 4223371680 ∷ pop ∷ []) ≡ 4294967310 ∷ 4294967296 ∷ [])
 unfolding run answering

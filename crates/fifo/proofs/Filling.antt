@@ -1,20 +1,23 @@
 -- A line that grows entry by entry, as a loop over the entries makes it: those below i that pass a test have joined.
 -- Assumes nothing.
 use mathlib.Core.Path.{_≡_, refl, sym, ap, _∙_}
-use mathlib.Core.Bool.{Bool, true, false, not, cond, _&&_, and-comm, and-eq-true-iff, or-false}
+use mathlib.Core.Bool.{Bool, true, false, not, cond, _&&_, and-true, and-eq-true-iff, or-false}
 use mathlib.Core.List.{List, [], _∷_, _++_, append-assoc, append-nil}
 use Prim.Native.Nat.{ℕ, suc, _+_, _≤_, _<_}
 use native.Mathlib.Numerals.{add-one}
 use native.Mathlib.Omega.{arith}
 use lib.Dec.{leb, ltb}
 use lib.ListN.{length, length-append}
-use borrow.Author.Tests.{not-true, leb-true, le-leb, lt-leb, lt-ltb, le-ltb}
-use Rattle.fifo.specs.declared.Ticked.the-variants.{Joined, Refused}
+use borrow.Author.Tests.{not-true, le-leb, lt-leb, lt-ltb, le-ltb}
+use Rattle.bytes.specs.Marks.{marked}
+use Rattle.fifo.specs.declared.Ticked.{Ticked}
+use Rattle.fifo.specs.declared.Ticked.the-variants.{Refused}
 use Rattle.fifo.specs.WaitingLine.{standsIn, entriesOf, pick}
 use Rattle.fifo.specs.Layout.{isLine, lineOf, laid, lineSize, roomy, limit}
-use Rattle.fifo.specs.Steps.{Jobs, fresh, initStep, joins, joiners, ticked, tickStep}
-use Rattle.fifo.specs.SmallSteps.{cleared, canPush, pushed, canJoin, joined}
-use Rattle.fifo.proofs.WaitingLines.{stands-append, stands-pick, entries-length, entries-snoc, entries-pick}
+use Rattle.fifo.specs.Refusals.{notALine, offCalendar}
+use Rattle.fifo.specs.Steps.{Jobs, Step, fresh, initStep, joins, joiners, ticked, tickStep}
+use Rattle.fifo.specs.SmallSteps.{canPush, pushed, callees, initMarked, tickMarked}
+use Rattle.fifo.proofs.WaitingLines.{stands-append, stands-pick, pick-same, entries-length, entries-snoc, entries-pick}
 use Rattle.fifo.proofs.Rooms.{is-line}
 use Rattle.fifo.proofs.Laid.{isLine-laid, lineOf-laid, laid-laid}
 
@@ -90,20 +93,13 @@ module _ (l room : List ℕ) (p : ℕ → Bool) where
         let step = push-laid n (l ++ pick p i) room i h r (filled-entries i (omega arith)) k (waits-before i ∙ new i q) in
         (step .0, rw (add-one i, q, ← append-assoc) (step .1))
 
-    -- so it does where the test is only that it doesn't wait
-    pub filled-join : (i : ℕ) → i < n → p i ≡ not (standsIn i l) → (canJoin i (filled i) ≡ p i) × (joined i (filled i) ≡ filled (i + 1))
-    unfolding canJoin joined
-    filled-join i k q = rw (filled-waits i (omega arith), q) (go (standsIn i l) refl)
+    -- a turn of a loop over the entries: one that passes joins, any other is passed over
+    pub filled-next : (i : ℕ) → i < n → ((p i && canPush (filled i)) ≡ p i) × (cond (p i) (pushed i (filled i)) (filled i) ≡ filled (i + 1))
+    filled-next i k = go (p i) refl
       where
-        go : (b : Bool) → standsIn i l ≡ b → ((not b && canPush (filled i)) ≡ not b) × (cond b (filled i) (pushed i (filled i)) ≡ filled (i + 1))
-        go true w = (refl, filled-pass i (q ∙ rw w))
-        go false w = filled-push i k (q ∙ rw w)
-
-    -- and so it does where it is offered only if it is due
-    pub filled-offer : (i : ℕ) (due : Bool) → i < n → p i ≡ (due && not (standsIn i l))
-        → ((due && canJoin i (filled i)) ≡ p i) × (cond due (joined i (filled i)) (filled i) ≡ filled (i + 1))
-    filled-offer i true k q = filled-join i k q
-    filled-offer i false k q = (sym q, filled-pass i q)
+        go : (b : Bool) → p i ≡ b → ((b && canPush (filled i)) ≡ b) × (cond b (pushed i (filled i)) (filled i) ≡ filled (i + 1))
+        go true q = filled-push i k q
+        go false q = (refl, filled-pass i q)
 
 -- how many have joined
 pub length-pick : (p : ℕ → Bool) (i : ℕ) → length (pick p (i + 1)) ≡ length (pick p i) + cond (p i) 1 0
@@ -153,19 +149,32 @@ module _ (l room₀ : List ℕ) (p : ℕ → Bool) (n : ℕ) where
       }
 
 -- A turn of the loop: an entry that is called joins unless it waits.
-module _ (n : ℕ) (room : List ℕ) (called : ℕ → Bool) where
-  abbrev joinsNow : ℕ → Bool
-  joinsNow e = not (standsIn e (lineOf room)) && called e
+module _ (n : ℕ) (room called : List ℕ) where
+  abbrev pub joinsNow : ℕ → Bool
+  joinsNow e = marked called e && not (standsIn e (lineOf room))
 
   now-new : (e : ℕ) → joinsNow e ≡ true → standsIn e (lineOf room) ≡ false
-  now-new e q = not-true (standsIn e (lineOf room)) (and-eq-true-iff (not (standsIn e (lineOf room))) (called e) .0 q .0)
+  now-new e q = not-true (standsIn e (lineOf room)) (and-eq-true-iff (marked called e) (not (standsIn e (lineOf room))) .0 q .1)
 
-  pub offer-next : (i : ℕ) → n < limit → isLine n room ≡ true → i < n
+  pub join-next : (i : ℕ) → n < limit → isLine n room ≡ true → i < n
       → let at = filled (lineOf room) room joinsNow in
-      ((called i && canJoin i (at i)) ≡ joinsNow i) × (cond (called i) (joined i (at i)) (at i) ≡ at (i + 1))
-  offer-next i h q k =
+      ((joinsNow i && canPush (at i)) ≡ joinsNow i) × (cond (joinsNow i) (pushed i (at i)) (at i) ≡ at (i + 1))
+  join-next i h q k =
       let line = is-line n room q in
-      filled-offer (lineOf room) room joinsNow n h (line .roomy-is) (line .entries-is) now-new i (called i) k (and-comm (not (standsIn i (lineOf room))) (called i))
+      filled-next (lineOf room) room joinsNow n h (line .roomy-is) (line .entries-is) now-new i k
+
+-- a room that was cleared holds the empty line, and what is laid there is as in the room before
+module _ (n : ℕ) (room x : List ℕ) (few : n < limit) (r : roomy n room ≡ true) (e : x ≡ laid [] room) where
+  pub emptied-line : isLine n x ≡ true
+  unfolding entriesOf
+  emptied-line = rw e (isLine-laid n [] room few refl r)
+
+  pub emptied : lineOf x ≡ []
+  unfolding entriesOf
+  emptied = rw e (lineOf-laid n [] room few refl)
+
+  pub laid-emptied : (l : List ℕ) → laid l x ≡ laid l room
+  laid-emptied l = ap (laid l) e ∙ laid-laid l [] room (omega arith)
 
 -- ---- a fresh line and an announced minute end in their steps
 
@@ -174,35 +183,30 @@ pub joins-new : (jobs : Jobs) (minute : ℕ) (l : List ℕ) (e : ℕ) → joins 
 unfolding joins
 joins-new jobs minute l e q = not-true (standsIn e l) (and-eq-true-iff (not (jobs .boot e) && jobs .matches e minute) (not (standsIn e l)) .0 q .1)
 
-module _ (jobs : Jobs) (room : List ℕ) where
-  pub init-start : roomy (jobs .count) room ≡ true → (roomy 0 room ≡ true) × (cleared room ≡ laid [] room)
-  unfolding cleared roomy
-  init-start r =
-      let enough : lineSize (jobs .count) ≤ length room = leb-true (lineSize (jobs .count)) (length room) r in
-      let some : leb (lineSize 0) (length room) ≡ true = le-leb (lineSize 0) (length room) (omega arith) in
-      (some, rw some)
-
-  pub init-done : roomy (jobs .count) room ≡ true
-      → (Joined (length (pick (jobs .boot) (jobs .count))) ≡ initStep jobs room .answer) × (filled [] room (jobs .boot) (jobs .count) ≡ initStep jobs room .room)
-  unfolding initStep fresh
-  init-done r = (rw r, rw r)
-
-  pub init-refused : roomy (jobs .count) room ≡ false → (Refused 28 ≡ initStep jobs room .answer) × (room ≡ initStep jobs room .room)
-  unfolding initStep
-  init-refused r = (rw r, rw r)
+-- where the set has just those jobs of which the step speaks
+module _ (jobs : Jobs) (called room : List ℕ) where
+  pub init-marked : ((e : ℕ) → e < jobs .count → marked called e ≡ jobs .boot e) → initMarked (jobs .count) called room ≡ initStep jobs room
+  unfolding initMarked initStep callees fresh standsIn
+  init-marked h = rw (pick-same (λ e. marked called e && true) (jobs .boot) (jobs .count) (λ e k. and-true (marked called e) ∙ h e k))
 
   module _ (minute : ℕ) where
-    pub tick-done : isLine (jobs .count) room ≡ true → minute ≤ jobs .last
-        → let p = joins jobs minute (lineOf room) in
-        (Joined (length (pick p (jobs .count))) ≡ tickStep jobs minute room .answer) × (filled (lineOf room) room p (jobs .count) ≡ tickStep jobs minute room .room)
-    unfolding tickStep ticked joiners
-    tick-done q k = let on = le-leb minute (jobs .last) k in (rw (q, on), rw (q, on))
+    pub tick-marked : ((e : ℕ) → e < jobs .count → marked called e ≡ (not (jobs .boot e) && jobs .matches e minute)) → minute ≤ jobs .last
+        → tickMarked (jobs .count) called room ≡ tickStep jobs minute room
+    unfolding tickMarked tickStep ticked joiners callees joins
+    tick-marked h on = let l = lineOf room in
+        rw (le-leb minute (jobs .last) on, pick-same (λ e. marked called e && not (standsIn e l)) (joins jobs minute l) (jobs .count) same)
+      where
+        same : (e : ℕ) → e < jobs .count → (marked called e && not (standsIn e (lineOf room))) ≡ joins jobs minute (lineOf room) e
+        same e k = rw (h e k)
 
-    pub tick-late : isLine (jobs .count) room ≡ true → jobs .last < minute
-        → (Refused 14 ≡ tickStep jobs minute room .answer) × (room ≡ tickStep jobs minute room .room)
+    -- off the calendar it is refused, as a room that holds no line is before
+    pub tick-late : jobs .last < minute
+        → tickStep jobs minute room ≡ record { answer = Refused (cond (isLine (jobs .count) room) offCalendar notALine); room = room }
     unfolding tickStep
-    tick-late q k = let off = lt-leb minute (jobs .last) k in (rw (q, off), rw (q, off))
-
-    pub tick-refused : isLine (jobs .count) room ≡ false → (Refused 28 ≡ tickStep jobs minute room .answer) × (room ≡ tickStep jobs minute room .room)
-    unfolding tickStep
-    tick-refused q = (rw q, rw q)
+    tick-late off = rw (lt-leb minute (jobs .last) off) (go (isLine (jobs .count) room))
+      where
+        go : (b : Bool)
+            → _≡_ {A = Step Ticked} (cond b (record { answer = Refused offCalendar; room = room }) (record { answer = Refused notALine; room = room }))
+            (record { answer = Refused (cond b offCalendar notALine); room = room })
+        go true = refl
+        go false = refl

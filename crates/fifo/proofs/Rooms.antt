@@ -8,15 +8,15 @@ use native.Mathlib.Omega.{arith}
 use lib.Dec.{leb, ltb}
 use lib.ListN.{length, getD, drop}
 use lib.Seq.{paste}
-use borrow.Author.Tests.{leb-true, lt-ltb, le-ltb, le-leb, lt-leb}
+use borrow.Author.Tests.{leb-true, lt-ltb, le-ltb}
 use Rattle.fifo.specs.declared.Popped.the-variants.{Entry, Nothing, Refused}
-use Rattle.fifo.specs.WaitingLine.{standsIn, entriesOf}
+use Rattle.fifo.specs.WaitingLine.{entriesOf}
 use Rattle.fifo.specs.Layout.{numbers, lineOf, laid, lineSize, roomy, isLine, limit}
 use Rattle.fifo.specs.Steps.{front, popped, popStep}
-use Rattle.fifo.specs.SmallSteps.{stored, canPush, pushed, canJoin, joined, cleared}
+use Rattle.fifo.specs.SmallSteps.{stored, canPush, pushed}
 use Rattle.fifo.proofs.Numbers.{Bytes, line-length, line-short, line-at}
 use Rattle.fifo.proofs.Laid.{roomy-half, laid-same}
-use Rattle.fifo.proofs.Stores.{laid-push, laid-pop, laid-clear}
+use Rattle.fifo.proofs.Stores.{laid-push, laid-pop}
 
 -- ---- what a line of n entries is
 
@@ -46,16 +46,6 @@ is-line n s e =
 pub laid-line : (n : ℕ) (s : List ℕ) → Bytes s → isLine n s ≡ true → laid (lineOf s) s ≡ s
 laid-line n s f e = let i = is-line n s e in laid-same s f (omega (arith, i .size-is)) (i .counted-is)
 
--- ---- clear
-
-pub clear-short : (s : List ℕ) → length s < 2 → (false ≡ roomy 0 s) × (s ≡ cleared s)
-unfolding cleared roomy
-clear-short s h = let e : leb 2 (length s) ≡ false = lt-leb _ _ h in (sym e, rw e)
-
-pub clear-done : (s : List ℕ) → 2 ≤ length s → (true ≡ roomy 0 s) × (stored 0 0 s ≡ cleared s)
-unfolding cleared roomy
-clear-done s h = let e : leb 2 (length s) ≡ true = le-leb _ _ h in (sym e, rw e (laid-clear s h))
-
 -- ---- push
 
 module _ (s : List ℕ) (e k : ℕ) (q : k ≡ length (lineOf s)) where
@@ -79,17 +69,6 @@ module _ (s : List ℕ) (e k : ℕ) (q : k ≡ length (lineOf s)) where
       let r : roomy (suc (length (lineOf s))) s ≡ true = sym (roomy-half _ s) ∙ lt-ltb (suc (length (lineOf s))) (length s / 2) (omega arith) in
       let t : ltb (suc (length (lineOf s))) limit ≡ true = lt-ltb (suc (length (lineOf s))) limit (omega arith) in
       (rw (r, t), rw (r, t) (laid-push s e k f q h))
-
--- ---- join
-
-module _ (s : List ℕ) (e : ℕ) where
-  pub join-waits : standsIn e (lineOf s) ≡ true → (false ≡ canJoin e s) × (s ≡ joined e s)
-  unfolding canJoin joined
-  join-waits q = (rw q, rw q)
-
-  pub join-push : standsIn e (lineOf s) ≡ false → (canPush s ≡ canJoin e s) × (pushed e s ≡ joined e s)
-  unfolding canJoin joined
-  join-push q = (rw q, rw q)
 
 -- ---- pop
 

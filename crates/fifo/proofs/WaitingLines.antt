@@ -134,10 +134,10 @@ entries-length (suc n) l e =
 -- ---- who is picked
 
 -- tests that agree pick the same
-pub pick-same : (p q : ℕ → Bool) → ((e : ℕ) → p e ≡ q e) → (n : ℕ) → pick p n ≡ pick q n
+pub pick-same : (p q : ℕ → Bool) (n : ℕ) → ((e : ℕ) → e < n → p e ≡ q e) → pick p n ≡ pick q n
 unfolding pick
-pick-same p q h zero = refl
-pick-same p q h (suc n) = rw (pick-same p q h n, h n)
+pick-same p q zero h = refl
+pick-same p q (suc n) h = rw (pick-same p q n (λ e k. h e (omega arith)), h n (omega arith))
 
 -- no more than there are
 pub pick-length : (p : ℕ → Bool) (n : ℕ) → length (pick p n) ≤ n

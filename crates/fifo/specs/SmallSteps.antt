@@ -1,13 +1,19 @@
--- The small steps that a fresh line, an announced minute and a request are made of: a number stored, one entry more, the empty line.
+-- The small steps that a fresh line, an announced minute and a request are made of: a number stored, one entry more, those who are called.
 -- Only the contracts of the functions that take them cite these; what a reader must believe is in Steps.
 -- Assumes nothing.
+use mathlib.Core.Path.{_≡_}
 use Prim.Native.Nat.{ℕ, suc, _+_, _*_, _/_, _%_}
 use mathlib.Core.Bool.{Bool, not, cond, _&&_}
 use mathlib.Core.List.{List, [], _∷_, _++_}
 use lib.Dec.{ltb}
 use lib.ListN.{length, set}
-use Rattle.fifo.specs.WaitingLine.{standsIn}
-use Rattle.fifo.specs.Layout.{lineOf, laid, roomy, limit}
+use Rattle.bytes.specs.Marks.{marked}
+use Rattle.fifo.specs.declared.Ticked.{Ticked}
+use Rattle.fifo.specs.declared.Ticked.the-variants.{Joined, Refused as NotTicked}
+use Rattle.fifo.specs.WaitingLine.{standsIn, pick}
+use Rattle.fifo.specs.Layout.{lineOf, laid, roomy, isLine, limit}
+use Rattle.fifo.specs.Refusals.{notALine}
+use Rattle.fifo.specs.Steps.{Step}
 
 -- the bytes with the number x at place i
 unfoldable pub stored : ℕ → ℕ → List ℕ → List ℕ
@@ -20,13 +26,26 @@ canPush room = roomy (suc (length (lineOf room))) room && ltb (suc (length (line
 unfoldable pub pushed : ℕ → List ℕ → List ℕ
 pushed e room = cond (canPush room) (laid (lineOf room ++ e ∷ []) room) room
 
--- an entry that waits doesn't join again
-unfoldable pub canJoin : ℕ → List ℕ → Bool
-canJoin e room = not (standsIn e (lineOf room)) && canPush room
+-- ---- who is called, by a set in words of 64 bits
 
-unfoldable pub joined : ℕ → List ℕ → List ℕ
-joined e room = cond (standsIn e (lineOf room)) room (pushed e room)
+-- a set has just those who stand in a line
+abbrev pub Marks : List ℕ → List ℕ → Type 0
+Marks seen l = (e : ℕ) → marked seen e ≡ standsIn e l
 
--- the empty line, where the count has room
-unfoldable pub cleared : List ℕ → List ℕ
-cleared room = cond (roomy 0 room) (laid [] room) room
+-- those of n entries that are called and don't wait, in file order
+unfoldable pub callees : ℕ → List ℕ → List ℕ → List ℕ
+callees n called l = pick (λ e. marked called e && not (standsIn e l)) n
+
+-- a fresh line of them, and an announcement at which they join
+unfoldable pub initMarked : ℕ → List ℕ → List ℕ → Step Ticked
+initMarked n called room =
+    cond (roomy n room)
+    (record { answer = Joined (length (callees n called [])); room = laid (callees n called []) room })
+    (record { answer = NotTicked notALine; room = room })
+
+unfoldable pub tickMarked : ℕ → List ℕ → List ℕ → Step Ticked
+tickMarked n called room =
+    let l = lineOf room in
+    cond (isLine n room)
+    (record { answer = Joined (length (callees n called l)); room = laid (l ++ callees n called l) room })
+    (record { answer = NotTicked notALine; room = room })

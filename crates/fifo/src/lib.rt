@@ -1,13 +1,16 @@
 // A run queue (paper 01: a waiting line) in lent bytes: entry numbers below n, none twice, the front first. It knows no table.
 // The room's layout has its names in specs/Layout; every function says what each byte of the room is at exit.
 ghost use mathlib.Core.Path.{_≡_};
+ghost use mathlib.Core.Bool.{true, cond, _&&_};
+ghost use mathlib.Core.List.{[], _++_};
 ghost use Prim.Native.Nat.{_+_, _/_, _≤_, _<_};
 ghost use lib.ListN.{length, getD, drop};
 ghost use lib.Seq.{paste};
-ghost use Rattle.fifo.specs.WaitingLine.{standsIn, entriesOf};
+ghost use Rattle.fifo.specs.WaitingLine.{entriesOf};
 ghost use Rattle.fifo.specs.Layout.{numbers, lineOf, laid, roomy, isLine};
 ghost use Rattle.fifo.specs.Steps.{popped, popStep};
-ghost use Rattle.fifo.specs.SmallSteps.{stored, canPush, pushed, canJoin, joined, cleared};
+ghost use Rattle.fifo.specs.SmallSteps.{stored, canPush, pushed, Marks, callees, initMarked, tickMarked};
+use bytes::mark;
 
 // The refusal of a room that holds no line of so many entries, or can't hold them all.
 pub const NOT_A_LINE: u8 = 28;
@@ -42,7 +45,7 @@ fn number(room: &[u8], i: usize) -> u16
 }
 
 // How many entries wait.
-pub fn len(room: &[u8]) -> usize
+fn len(room: &[u8]) -> usize
     ensures { λ r. ⌜ r ≡ length (lineOf (now (room .entry))) ⌝ }
 {
     if room.len() < 2 {
@@ -56,23 +59,8 @@ pub fn len(room: &[u8]) -> usize
     most
 }
 
-// Whether entry e waits.
-pub fn waits(room: &[u8], e: u16) -> bool
-    ensures { λ r. ⌜ r ≡ standsIn e (lineOf (now (room .entry))) ⌝ }
-{
-    let count = len(room);
-    let mut i = 0;
-    while i < count {
-        if number(room, i + 1) == e {
-            return true;
-        }
-        i += 1;
-    }
-    false
-}
-
 // Whether the room can hold n entries.
-pub fn has_room(room: &[u8], n: usize) -> bool
+fn has_room(room: &[u8], n: usize) -> bool
     ensures { λ r. ⌜ r ≡ roomy n (now (room .entry)) ⌝ }
 {
     n < room.len() / 2
@@ -81,34 +69,46 @@ pub fn has_room(room: &[u8], n: usize) -> bool
 // A bit for each number of 16 bits, in words of 64.
 const WORDS: usize = 1024;
 
-// Whether the entries that wait are below n, none twice. A bit marks each that was passed.
-fn are_entries(room: &[u8], n: usize) -> bool
-    ensures { λ r. ⌜ r ≡ entriesOf n (lineOf (now (room .entry))) ⌝ }
+// Whether the entries that wait are below n, none twice. Each that was passed is put into an empty set.
+fn mark_entries(room: &[u8], n: usize, seen: &mut [u64; WORDS]) -> bool
+    requires { ⌜ Marks (now seen) [] × (length (now seen) ≡ 1024) ⌝ }
+    ensures answer { λ r. ⌜ r ≡ entriesOf n (lineOf (now (room .entry))) ⌝ }
+    ensures seen { λ r. ⌜ (r ≡ true → Marks (now (seen .exit)) (lineOf (now (room .entry)))) ⌝ }
 {
     let count = len(room);
-    let mut seen = [0u64; WORDS];
     let mut i = 0;
     while i < count {
-        let e = number(room, i + 1);
-        if n <= e as usize {
+        let e = number(room, i + 1) as usize;
+        if n <= e {
             return false;
         }
-        let at = (e / 64) as usize;
-        let word = seen[at];
-        if (word >> (e % 64)) % 2 == 1 {
+        if mark::has(seen, e) {
             return false;
         }
-        seen[at] = word | (1 << (e % 64));
+        mark::add(seen, e);
         i += 1;
     }
     true
+}
+
+// Whether the room holds a line of a table of n entries. If so, the empty set then has those who wait.
+fn mark_line(room: &[u8], n: usize, seen: &mut [u64; WORDS]) -> bool
+    requires { ⌜ Marks (now seen) [] × (length (now seen) ≡ 1024) ⌝ }
+    ensures answer { λ r. ⌜ r ≡ isLine n (now (room .entry)) ⌝ }
+    ensures seen { λ r. ⌜ (r ≡ true → Marks (now (seen .exit)) (lineOf (now (room .entry)))) ⌝ }
+{
+    if has_room(room, n) & (number(room, 0) as usize <= n) {
+        return mark_entries(room, n, seen);
+    }
+    false
 }
 
 // Whether the room holds a line of a table of n entries.
 pub fn is_line(room: &[u8], n: usize) -> bool
     ensures { λ r. ⌜ r ≡ isLine n (now (room .entry)) ⌝ }
 {
-    has_room(room, n) & (number(room, 0) as usize <= n) & are_entries(room, n)
+    let mut seen = [0u64; WORDS];
+    mark_line(room, n, &mut seen)
 }
 
 // Puts a number into the two bytes at place i.
@@ -121,16 +121,12 @@ fn store(room: &mut [u8], i: usize, x: u16)
     room[at + 1] = (x / 256 % 256) as u8;
 }
 
-// Makes the line empty: no, and nothing written, where there is no room for its count.
-pub fn clear(room: &mut [u8]) -> bool
-    ensures answer { λ r. ⌜ r ≡ roomy 0 (now (room .entry)) ⌝ }
-    ensures room { λ _. ⌜ now (room .exit) ≡ cleared (now (room .entry)) ⌝ }
+// Makes the line empty.
+fn clear(room: &mut [u8])
+    requires { ⌜ 2 ≤ length (now room) ⌝ }
+    ensures { λ _. ⌜ now (room .exit) ≡ laid [] (now (room .entry)) ⌝ }
 {
-    if room.len() < 2 {
-        return false;
-    }
     store(room, 0, 0);
-    true
 }
 
 // The count has 16 bits.
@@ -153,15 +149,60 @@ fn push(room: &mut [u8], e: u16) -> bool
     true
 }
 
-// Entry e joins at the back, unless it waits: no, and nothing written, where it waits or there is no room for it.
-pub fn join(room: &mut [u8], e: u16) -> bool
-    ensures answer { λ r. ⌜ r ≡ canJoin e (now (room .entry)) ⌝ }
-    ensures room { λ _. ⌜ now (room .exit) ≡ joined e (now (room .entry)) ⌝ }
+// Entry e joins at the back, or is passed over: how many joined, 1 or 0.
+fn offer(room: &mut [u8], e: u16, joins: bool) -> usize
+    ensures answer { λ r. ⌜ r ≡ cond (joins && canPush (now (room .entry))) 1 0 ⌝ }
+    ensures room { λ _. ⌜ now (room .exit) ≡ cond joins (pushed e (now (room .entry))) (now (room .entry)) ⌝ }
+    ensures small { λ r. ⌜ r ≤ 1 ⌝ }
 {
-    if waits(room, e) {
-        return false;
+    if joins {
+        if push(room, e) {
+            return 1;
+        }
+        return 0;
     }
-    push(room, e)
+    0
+}
+
+// The entries below n that are called and don't wait join in file order. Answers how many joined.
+fn join(room: &mut [u8], n: u16, called: &[u64], waiting: &[u64; WORDS]) -> usize
+    requires { ⌜ (isLine n (now room) ≡ true) × Marks (now waiting) (lineOf (now room)) ⌝ }
+    ensures answer { λ r. ⌜ r ≡ length (callees n (now (called .entry)) (lineOf (now (room .entry)))) ⌝ }
+    ensures room { λ _. ⌜ now (room .exit) ≡ laid (lineOf (now (room .entry)) ++ callees n (now (called .entry)) (lineOf (now (room .entry)))) (now (room .entry)) ⌝ }
+{
+    let mut count = 0;
+    let mut i: u16 = 0;
+    while i < n {
+        let e = i as usize;
+        count += offer(room, i, mark::has(called, e) & !mark::has(waiting, e));
+        i += 1;
+    }
+    count
+}
+
+// A fresh line of a table of n entries, whatever the room held: those that are called, in file order. Answers how many wait.
+pub fn init(room: &mut [u8], n: u16, called: &[u64]) -> Ticked
+    ensures answer { λ r. ⌜ r ≡ initMarked n (now (called .entry)) (now (room .entry)) .answer ⌝ }
+    ensures room { λ _. ⌜ now (room .exit) ≡ initMarked n (now (called .entry)) (now (room .entry)) .room ⌝ }
+{
+    if has_room(room, n as usize) {
+        clear(room);
+        let waiting = [0u64; WORDS];
+        return Ticked::Joined(join(room, n, called, &waiting));
+    }
+    Ticked::Refused(NOT_A_LINE)
+}
+
+// The entries that are called join the line of a table of n entries, unless they wait. Answers how many joined.
+pub fn tick(room: &mut [u8], n: u16, called: &[u64]) -> Ticked
+    ensures answer { λ r. ⌜ r ≡ tickMarked n (now (called .entry)) (now (room .entry)) .answer ⌝ }
+    ensures room { λ _. ⌜ now (room .exit) ≡ tickMarked n (now (called .entry)) (now (room .entry)) .room ⌝ }
+{
+    let mut waiting = [0u64; WORDS];
+    if mark_line(room, n as usize, &mut waiting) {
+        return Ticked::Joined(join(room, n, called, &waiting));
+    }
+    Ticked::Refused(NOT_A_LINE)
 }
 
 // Moves n bytes up by one entry, to where the first one stands.

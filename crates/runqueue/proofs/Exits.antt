@@ -1,23 +1,26 @@
 -- Laws of the three calls: what they come to where the table is refused, and where it isn't.
 -- Assumes nothing.
-use mathlib.Core.Path.{_≡_, refl, ap, _∙_}
-use mathlib.Core.Bool.{true}
+use mathlib.Core.Path.{_≡_, sym, _∙_}
+use mathlib.Core.Bool.{cond}
 use mathlib.Core.List.{List, []}
-use Prim.Native.Nat.{ℕ, _≤_}
-use native.Mathlib.Omega.{arith}
+use Prim.Native.Nat.{ℕ, _≤_, _<_}
 use borrow.Author.Tests.{eq-eqb, ne-eqb}
 use Rattle.crontab.specs.declared.table.Table.{Table}
+use Rattle.calendar.specs.declared.Date.{Date}
+use Rattle.calendar.specs.Dates.{dateAt, lastMinute}
+use Rattle.crontab.specs.declared.chosen.Which.the-variants.{AtBoot, On}
 use Rattle.crontab.specs.Limits.{maxEntries}
+use Rattle.crontab.specs.Choices.{chosenIn}
 use Rattle.fifo.specs.declared.Ticked.the-variants.{Refused as NotTicked}
 use Rattle.fifo.specs.declared.Popped.the-variants.{Refused as NotPopped}
-use Rattle.fifo.specs.WaitingLine.{entriesOf}
-use Rattle.fifo.specs.Layout.{lineOf, laid, roomy, isLine}
+use Rattle.fifo.specs.Refusals.{notALine, offCalendar}
+use Rattle.fifo.specs.Layout.{isLine}
 use Rattle.fifo.specs.Steps.{initStep, tickStep, popStep}
-use Rattle.fifo.specs.SmallSteps.{cleared}
-use Rattle.fifo.proofs.Laid.{lineOf-laid, isLine-laid, laid-laid}
-use Rattle.fifo.proofs.Filling.{init-start}
+use Rattle.fifo.specs.SmallSteps.{initMarked, tickMarked}
+use Rattle.fifo.proofs.Filling.{init-marked, tick-marked, tick-late}
 use Rattle.runqueue.specs.Jobs.{jobsOf}
 use Rattle.runqueue.specs.Calls.{initTable, tickTable, popTable}
+use Rattle.runqueue.proofs.Joiners.{marked-boot, marked-due}
 
 module _ (t : Table) (room : List ℕ) where
   -- a refused table
@@ -48,19 +51,19 @@ module _ (t : Table) (room : List ℕ) where
     unfolding popTable
     pop-good = rw (eq-eqb (t .refusal) 0 good)
 
--- a room that was cleared holds the empty line, and what is laid there is as in the room before
-module _ (t : Table) (room x : List ℕ) (few : t .count ≤ maxEntries) (r : roomy (t .count) room ≡ true) (e : x ≡ cleared room) where
-  empty : x ≡ laid [] room
+-- where the set that a call is handed has the table's chosen entries
+module _ (t : Table) (few : t .count ≤ maxEntries) (room : List ℕ) (good : t .refusal ≡ 0) where
+  pub init-called : initTable t room ≡ initMarked (chosenIn AtBoot t .count) (chosenIn AtBoot t .marks) room
+  unfolding chosenIn jobsOf
+  init-called = init-good t room good ∙ sym (init-marked (jobsOf t) (chosenIn AtBoot t .marks) room (marked-boot t few))
+
+  pub tick-called : (minute : ℕ) (date : Date) → date ≡ dateAt minute → minute ≤ lastMinute
+      → tickTable t minute room ≡ tickMarked (chosenIn (On date) t .count) (chosenIn (On date) t .marks) room
+  unfolding chosenIn jobsOf
+  tick-called minute date on h =
+      tick-good t room good minute ∙ sym (tick-marked (jobsOf t) (chosenIn (On date) t .marks) room minute (marked-due t few minute date on) h)
+
+  pub tick-off : (minute : ℕ) → lastMinute < minute
+      → tickTable t minute room ≡ record { answer = NotTicked (cond (isLine (t .count) room) offCalendar notALine); room = room }
   unfolding jobsOf
-  empty = e ∙ init-start (jobsOf t) room r .1
-
-  pub emptied-line : isLine (t .count) x ≡ true
-  unfolding entriesOf
-  emptied-line = rw empty (isLine-laid (t .count) [] room (omega arith) refl r)
-
-  pub emptied : lineOf x ≡ []
-  unfolding entriesOf
-  emptied = rw empty (lineOf-laid (t .count) [] room (omega arith) refl)
-
-  pub laid-emptied : (l : List ℕ) → laid l x ≡ laid l room
-  laid-emptied l = ap (laid l) empty ∙ laid-laid l [] room (omega arith)
+  tick-off minute h = tick-good t room good minute ∙ tick-late (jobsOf t) [] room minute h

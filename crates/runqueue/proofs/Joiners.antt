@@ -1,23 +1,25 @@
--- Who joins: what a call lets join a line is what the steps of a fresh line and of an announced minute say.
+-- Who joins: the entries that are chosen for a fresh line and for an announced minute are those of which the steps speak.
 -- Assumes nothing.
 use mathlib.Core.Path.{_≡_, refl, _∙_}
-use mathlib.Core.Bool.{true, false, not, _&&_, and-comm}
-use mathlib.Core.List.{List, []}
-use Prim.Native.Nat.{ℕ}
+use mathlib.Core.Bool.{true, false, not, _&&_}
+use Prim.Native.Nat.{ℕ, _≤_, _<_}
+use native.Mathlib.Omega.{arith}
+use borrow.Author.Tests.{lt-ltb}
+use Rattle.bytes.specs.Marks.{marked}
+use Rattle.bytes.proofs.Marks.{marks-marked}
 use Rattle.calendar.specs.declared.Date.{Date}
 use Rattle.calendar.specs.Dates.{dateAt}
 use Rattle.schedule.specs.Match.{matchesDate, matches}
 use Rattle.crontab.specs.declared.time.When.{When}
 use Rattle.crontab.specs.declared.time.When.the-variants.{Reboot, Timed}
-use Rattle.crontab.specs.Firings.{byWhen, isBoot, firesOn, firesAt}
 use Rattle.crontab.specs.declared.entry.Entry.{Entry}
 use Rattle.crontab.specs.declared.table.Table.{Table}
-use Rattle.fifo.specs.WaitingLine.{standsIn}
-use Rattle.fifo.specs.Steps.{fresh, joins, joiners}
-use Rattle.fifo.proofs.WaitingLines.{pick-same}
-use Rattle.runqueue.specs.declared.Called.the-variants.{AtBoot, On}
+use Rattle.crontab.specs.declared.chosen.Which.{Which}
+use Rattle.crontab.specs.declared.chosen.Which.the-variants.{AtBoot, On}
+use Rattle.crontab.specs.Limits.{maxEntries}
+use Rattle.crontab.specs.Firings.{byWhen, isBoot, firesOn, firesAt}
+use Rattle.crontab.specs.Choices.{isChosen, markWords, choice, chosenIn}
 use Rattle.runqueue.specs.Jobs.{jobAt, jobsOf}
-use Rattle.runqueue.specs.Joining.{isCalled, joining}
 
 -- an entry that matches the date of a minute is time-based and fires at that minute
 fires-timed : (e : Entry) (minute : ℕ) (date : Date) → date ≡ dateAt minute → firesOn e date ≡ (not (isBoot e) && firesAt e minute)
@@ -29,11 +31,17 @@ fires-timed e minute date p = go (e .when)
     go Reboot = refl
     go (Timed s) = rw p
 
-pub joining-boot : (t : Table) → joining t AtBoot [] ≡ fresh (jobsOf t)
-unfolding joining isCalled fresh jobsOf standsIn
-joining-boot t = refl
+module _ (t : Table) (few : t .count ≤ maxEntries) where
+  -- an entry's mark
+  marked-at : (which : Which) (e : ℕ) → e < t .count → marked (chosenIn which t .marks) e ≡ isChosen which (jobAt t e)
+  unfolding chosenIn choice jobAt
+  marked-at which e h = marks-marked markWords (choice which (t .entries)) (t .count) (omega arith) e ∙ rw (lt-ltb e (t .count) h)
 
-pub joining-due : (t : Table) (minute : ℕ) (date : Date) (l : List ℕ) → date ≡ dateAt minute → joining t (On date) l ≡ joiners (jobsOf t) minute l
-unfolding joining isCalled joiners joins jobsOf
-joining-due t minute date l e =
-    pick-same _ _ (λ i. and-comm (not (standsIn i l)) (firesOn (jobAt t i) date) ∙ rw (fires-timed (jobAt t i) minute date e)) (t .count)
+  pub marked-boot : (e : ℕ) → e < t .count → marked (chosenIn AtBoot t .marks) e ≡ jobsOf t .boot e
+  unfolding isChosen jobsOf
+  marked-boot e h = marked-at AtBoot e h
+
+  pub marked-due : (minute : ℕ) (date : Date) → date ≡ dateAt minute → (e : ℕ) → e < t .count
+      → marked (chosenIn (On date) t .marks) e ≡ (not (jobsOf t .boot e) && jobsOf t .matches e minute)
+  unfolding isChosen jobsOf
+  marked-due minute date on e h = marked-at (On date) e h ∙ fires-timed (jobAt t e) minute date on

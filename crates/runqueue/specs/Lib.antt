@@ -1,4 +1,3 @@
 pub mod Jobs
-pub mod Joining
 pub mod Calls
 pub mod Demand

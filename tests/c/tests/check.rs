@@ -79,8 +79,8 @@ fn a_good_table_is_counted_and_a_bad_one_is_refused_with_its_place() {
     faults.push((
         1,
         "0:0",
-        "#\n".repeat(8193),
-        "the table has more than 16384 bytes",
+        "#\n".repeat(24577),
+        "the table has more than 49152 bytes",
     ));
     faults.push((
         2,
@@ -90,9 +90,9 @@ fn a_good_table_is_counted_and_a_bad_one_is_refused_with_its_place() {
     ));
     faults.push((
         12,
-        "129:1",
-        "@reboot x\n".repeat(129),
-        "more than 128 entries",
+        "513:1",
+        "@reboot x\n".repeat(513),
+        "more than 512 entries",
     ));
     for (number, place, table, words) in faults {
         let verdict = format!(":{place}: refused {number}: {words}\n");

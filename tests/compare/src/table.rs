@@ -10,8 +10,8 @@ use second::table::{Fault, Kind, Setting};
 
 /// Entry and line numbers that no table has.
 const WILD: [u64; 9] = [
-    129,
-    1 << 8,
+    513,
+    1 << 10,
     1 << 16,
     (1 << 32) - 1,
     1 << 32,
@@ -179,7 +179,7 @@ impl<'a> Compared<'a> {
         let count = self.check().unwrap_or(0);
         for entry in some(random, count, ENTRIES) {
             self.entry(random, entry);
-            let high = 1 << (8 + random.below(56));
+            let high = 1 << (9 + random.below(55));
             self.refused_entry(random, entry + high);
         }
         self.refused_entry(random, count);

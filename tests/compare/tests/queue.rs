@@ -8,7 +8,7 @@ use second::calendar::LAST_MINUTE;
 use second::queue::Queue;
 use second::random::Random;
 use second::schedule::samples::start;
-use second::table::{samples, Kind};
+use second::table::{samples, Kind, ENTRIES, TABLE_BYTES};
 
 const OFF_CALENDAR: [u64; 6] = [
     LAST_MINUTE + 1,
@@ -110,13 +110,13 @@ fn refusals_in_their_order() {
         (b"* * * * *", 0, 9),
         (b"a", 0, 11),
         (b"* * * * * a\n\0", 0, 3),
-        (&[b'\n'; 16_385], 0, 1),
+        (&[b'\n'; TABLE_BYTES + 1], 0, 1),
         (b"60 * * * * u a", 1, 6),
         (b"* * * * * a", 1, 9),
         (b"* * * * * a:", 1, 20),
         (b"* * * * * a/b:c d", u64::MAX, 20),
         (b"* * * * * u a\n\0", 2, 3),
-        (&[b'\n'; 16_385], 1 << 63, 1),
+        (&[b'\n'; TABLE_BYTES + 1], 1 << 63, 1),
     ];
     for (table, kind, number) in tables {
         for length in [0, 1, 200] {
@@ -205,7 +205,7 @@ fn long_runs_with_one_table() {
     let mut random = Random::seeded();
     for round in 0..400 {
         let entries = if round % 20 == 0 {
-            128
+            ENTRIES as u64
         } else {
             random.below(12)
         };
@@ -290,10 +290,10 @@ fn after_any_calls(random: &mut Random, case: &Case, room: usize) -> Compared {
     line
 }
 
-/// Demand 3 in practice: one that fires rarely among 127 that fire every minute, with one request a minute.
+/// Demand 3 in practice: one that fires rarely among 511 that fire every minute, with one request a minute.
 #[test]
 fn a_rare_entry_is_named_within_the_bound() {
-    const ENTRIES: u64 = 128;
+    const ENTRIES: u64 = second::table::ENTRIES as u64;
     // A rare entry, and one of its firings.
     let rare = [
         ("30 4 * * *", 270 + 1_440),
@@ -303,7 +303,7 @@ fn a_rare_entry_is_named_within_the_bound() {
     ];
     let mut random = Random::seeded();
     for (fields, about) in rare {
-        for place in [0, 1, 63, 126, 127] {
+        for place in [0, 1, 127, 128, 510, 511] {
             let kind = any_kind(&mut random);
             let often = of_kind("* * * * * ~often", kind);
             let mut lines = vec![&often[..]; ENTRIES as usize];

@@ -11,9 +11,9 @@ pub use user_column::{Kind, UserColumn, NAME_BYTES};
 use crate::schedule::Schedule;
 
 /// Limits of a table, of a line without its newline, and of a table's entries.
-pub const TABLE_BYTES: usize = 16_384;
+pub const TABLE_BYTES: usize = 49_152;
 pub const LINE_BYTES: usize = 1_000;
-pub const ENTRIES: usize = 128;
+pub const ENTRIES: usize = 512;
 
 const TABLE_TOO_LONG: u64 = 1;
 const LINE_TOO_LONG: u64 = 2;

@@ -1,14 +1,12 @@
--- `fifo::is_line` meets its contract: it tests what the definition does.
+-- `fifo::is_line` meets its contract: the set is empty at first.
 -- Assumes nothing.
-use borrow.Author.Needs.{needs}
-use Rattle.fifo.specs.Layout.{isLine}
+use mathlib.Core.Path.{refl}
+use Rattle.fifo.proofs.Marks.{marks-none}
 use Rattle.fifo.proofs.is_line.Statement.{statement}
 use Rattle.fifo.proofs.is_line.Tie as tie
 
-returns : tie.Need-returns
-unfolding isLine
-returns c = rw (← (c .before .before .has-room .ensures), ← (c .before .number .ensures), ← (c .are-entries .ensures))
+mark-line-requires : tie.Need-mark-line-requires
+mark-line-requires c κs = (marks-none 1024, refl)
 
 pub is-line-spec : {M : Type 1} → statement M
-is-line-spec =
-    tie.close (tie.spec (λ c κs. search needs) (λ c κs. search needs) (λ c. search needs) (λ c κs. search needs) returns)
+is-line-spec = tie.close (tie.spec mark-line-requires (λ c. c .mark-line .ensures .0))

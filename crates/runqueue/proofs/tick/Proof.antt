@@ -1,73 +1,76 @@
 -- `runqueue::tick` meets its contract: each return is a law of the calls.
 -- Assumes nothing.
-use mathlib.Core.Path.{sym, ap, _∙_}
+use mathlib.Core.Path.{refl, sym, ap, _∙_}
+use native.Mathlib.Omega.{arith}
 use borrow.Author.Needs.{needs}
 use Rattle.calendar.specs.declared.DateAnswer.{DateAnswer}
 use Rattle.calendar.proofs.Minutes.{dateOf-on}
+use Rattle.crontab.specs.Tables.{tableOf}
+use Rattle.crontab.specs.Choices.{chosenIn}
 use Rattle.crontab.proofs.Theorems.{table-sound}
-use Rattle.fifo.specs.Steps.{ticked, joiners}
-use Rattle.fifo.proofs.Filling.{tick-done, tick-late, tick-refused}
-use Rattle.runqueue.specs.Jobs.{jobsOf}
-use Rattle.runqueue.proofs.Joiners.{joining-due}
-use Rattle.runqueue.proofs.Exits.{tick-bad, tick-good}
+use Rattle.runqueue.proofs.Exits.{tick-bad, tick-called, tick-off}
 use Rattle.runqueue.proofs.tick.Statement.{statement}
 use Rattle.runqueue.proofs.tick.Tie as tie
 
 returns : tie.Need-returns
-returns c = rw (← (c .before .read .ensures)) (tick-bad (c .before .read .result) _ (c .if1 .taken) _)
+unfolding chosenIn
+returns c = let e = c .before .read .ensures in
+    rw e (tick-bad _ _ (rw e at (c .if1 .taken)) _)
 
 returns-2 : tie.Need-returns-2
-unfolding jobsOf
+unfolding chosenIn
 returns-2 c =
     let b = c .before .before .before .before in
-    let t = b .before .read .result in
-    rw (← (b .before .read .ensures), tick-good t _ (b .if1 .left))
-    (tick-late (jobsOf t) _ _ (sym (c .before .before .is-line .ensures) ∙ c .before .if2 .taken) (c .if3 .taken))
-
-offer-all-requires : tie.Need-offer-all-requires
-offer-all-requires c κs =
-    let b = c .before .before .before .before .before in (
-      rw (b .before .before .before .read .ensures) (table-sound _ _ .few),
-      sym (b .is-line .ensures) ∙ c .before .before .before .before .if2 .taken,
-    )
+    let a = b .before .before .before .before .before .before .args in
+    let e = b .before .read .ensures in
+    rw (
+      tick-off (tableOf (a .rules) (a .table .now)) (table-sound (a .rules) (a .table .now) .few) (a .room .now) (rw e at (b .if1 .left)) _ (c .before .before .before .if2 .taken),
+      sym (rw e at (c .before .is-line .ensures)) ∙ c .if3 .taken,
+    ) (refl, refl)
 
 returns-3 : tie.Need-returns-3
-unfolding jobsOf ticked joiners
+unfolding chosenIn
 returns-3 c =
-    let b = c .before .before .before .before .before .before .before .before in
-    let t = b .before .before .before .read .result in
-    let on = c .before .before .before .before .before in
-    let date = ap (λ (a : DateAnswer). a .date) (on .date-of .ensures ∙ dateOf-on _ (on .before .if3 .left)) in
+    let b = c .before .before .before .before in
+    let a = b .before .before .before .before .before .before .args in
+    let e = b .before .read .ensures in
     rw (
-      ← (b .before .before .before .read .ensures),
-      tick-good t _ (b .before .before .if1 .left),
-      c .before .before .offer-all .ensures .0,
-      c .before .before .offer-all .ensures .1,
-      joining-due t _ _ _ date,
-    )
-    (tick-done (jobsOf t) _ _ (sym (b .is-line .ensures) ∙ c .before .before .before .before .before .before .before .if2 .taken)
-    (c .before .before .before .before .before .before .if3 .left))
+      tick-off (tableOf (a .rules) (a .table .now)) (table-sound (a .rules) (a .table .now) .few) (a .room .now) (rw e at (b .if1 .left)) _ (c .before .before .before .if2 .taken),
+      sym (rw e at (c .before .is-line .ensures)) ∙ c .if3 .left,
+    ) (refl, refl)
+
+cast-tick : tie.Need-cast-tick
+unfolding chosenIn
+cast-tick c = let r = c .before .before .before .before .before in
+    let a = r .before .before .before .before .before .args in
+    rw (r .read .ensures) (omega (arith, table-sound (a .rules) (a .table .now) .few))
 
 returns-4 : tie.Need-returns-4
-unfolding jobsOf
+unfolding chosenIn
 returns-4 c =
-    let b = c .before .before .before in
-    let t = b .before .read .result in
-    rw (← (b .before .read .ensures), tick-good t _ (b .if1 .left))
-    (tick-refused (jobsOf t) _ _ (sym (c .before .is-line .ensures) ∙ c .if2 .left))
+    let b = c .before .before .before .before .before .before .before in
+    let r = b .before .before in
+    let a = r .before .before .before .before .before .args in
+    let e = r .read .ensures in
+    let on = b .if2 .left in
+    let date = ap (λ (d : DateAnswer). d .date) (r .before .before .date-of .ensures ∙ dateOf-on _ on) in
+    rw (tick-called (tableOf (a .rules) (a .table .now)) (table-sound (a .rules) (a .table .now) .few) (a .room .now) (rw e at (b .before .if1 .left)) (a .minute) _ date on)
+    (rw e at (c .before .before .tick .ensures))
 
 pub tick-spec : {M : Type 1} → statement M
 tick-spec =
     tie.close
     (tie.spec
     (λ c κs. search needs)
+    (λ c κs. search needs)
     returns
     (λ c κs. search needs)
     (λ c. search needs)
     returns-2
-    (λ c κs. search needs)
-    offer-all-requires
     (λ c. search needs)
     returns-3
+    cast-tick
+    (λ c. search needs)
+    (λ c κs. search needs)
     (λ c. search needs)
     returns-4)

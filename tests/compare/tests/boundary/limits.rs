@@ -65,15 +65,18 @@ fn long_tables(kind: Kind) -> Vec<Row> {
             let line = [&line(kind, start, length)[..], b"\n"].concat();
             cycled(&line, total)
         };
-        // 16 whole lines and one of 368 bytes
+        // 49 whole lines and one of 103 bytes
         rows.push((lines(LINE_BYTES, TABLE_BYTES), None));
         rows.push((lines(LINE_BYTES, TABLE_BYTES + 1), TOO_LONG));
-        // 128 lines of 128 bytes with their newlines
-        rows.push((lines(127, TABLE_BYTES - 1), None));
-        rows.push((lines(127, TABLE_BYTES), None));
-        rows.push((lines(127, TABLE_BYTES + 1), TOO_LONG));
+        // 512 lines of 96 bytes with their newlines
+        rows.push((lines(95, TABLE_BYTES - 1), None));
+        rows.push((lines(95, TABLE_BYTES), None));
+        rows.push((lines(95, TABLE_BYTES + 1), TOO_LONG));
         // In 16 bits this is the length of one such line.
-        rows.push((lines(127, (1 << 16) + 127), TOO_LONG));
+        rows.push((lines(95, (1 << 16) + 95), TOO_LONG));
+        // A table as it was the longest once, and a line more.
+        rows.push((lines(127, 16_384), None));
+        rows.push((lines(127, 16_384 + 128), None));
     }
     let texts: [(&[u8], Option<[u64; 3]>); 7] = [
         (b"\n", None),
@@ -100,8 +103,10 @@ fn many_entries(kind: Kind) -> Vec<Row> {
     for start in ["* * * * *", "@reboot", "@daily", "0-59/7 0 29 2 *"] {
         let entry = of_kind(&format!("{start} ~a%b\n"), kind);
         let entries = |count: usize| entry.repeat(count).into_bytes();
+        rows.push((entries(128), None));
+        rows.push((entries(129), None));
         rows.push((entries(ENTRIES), None));
-        rows.push((entries(ENTRIES + 1), Some([12, 129, 1])));
+        rows.push((entries(ENTRIES + 1), Some([12, ENTRIES as u64 + 1, 1])));
         rows.push(([&entries(ENTRIES)[..], b"a=b"].concat(), None));
     }
     rows

@@ -7,7 +7,7 @@ use eremothyn::{Answer, Table};
 use guard::filled;
 use second::queue::Queue;
 use second::random::Random;
-use second::table::Kind;
+use second::table::{Kind, ENTRIES};
 
 /// Every call of the run queue with a table, whose check answered so, in some room.
 pub fn every_call(random: &mut Random, table: &[u8], kind: u64, check: Answer) {
@@ -75,12 +75,15 @@ fn room(random: &mut Random, case: &Case, length: usize) -> Vec<u8> {
 fn rooms_of_every_length() {
     let mut random = Random::seeded();
     let (mut lines, mut others) = (0, 0);
-    for entries in [0, 1, 2, 3, 4, 5, 8, 13, 31, 64, 127, 128] {
+    for entries in [0, 1, 2, 3, 4, 5, 8, 13, 31, 64, 128, 129, ENTRIES] {
         let kind = any_kind(&mut random);
-        let table = busy_table(&mut random, kind, entries);
+        let table = busy_table(&mut random, kind, entries as u64);
         let case = Case::of_kind(&table, kind.number());
         let times = if entries < 10 { 40 } else { 2 };
-        for length in 0..=case.enough() + 9 {
+        // Every length, but of a room for many only some, and those about the least.
+        let step = 1 + entries / 40;
+        let about = case.least.saturating_sub(2)..=case.least + 2;
+        for length in (0..=case.enough() + 9).step_by(step).chain(about) {
             for _ in 0..times {
                 match every_call_in(&mut random, &case, length) {
                     true => lines += 1,
@@ -100,7 +103,7 @@ fn rooms_of_every_length() {
 #[test]
 fn the_least_room_holds_all_entries() {
     let mut least = Vec::new();
-    for entries in (0..=20).chain([63, 64, 65, 126, 127, 128]) {
+    for entries in (0..=20).chain([63, 64, 65, 127, 128, 129, ENTRIES - 1, ENTRIES]) {
         let tables = all_alike(entries);
         let cases = tables
             .each_ref()
@@ -129,12 +132,16 @@ fn all_alike(entries: usize) -> [(Vec<u8>, Kind); 4] {
 /// A line goes on in a shorter or longer part of its buffer, or is refused there and stays.
 #[test]
 fn a_line_lent_in_parts_of_every_length() {
-    for entries in [0, 1, 2, 7, 20, 65, 128] {
+    for entries in [0, 1, 2, 7, 20, 65, 129, ENTRIES] {
         for (table, kind) in all_alike(entries) {
             let case = Case::of_kind(&table, kind.number());
             let most = case.enough() + 70;
             let about = case.least.saturating_sub(1)..=case.least + 1;
-            for length in (0..=most).step_by(7).chain(about).chain([case.enough()]) {
+            for length in (0..=most)
+                .step_by(7 + entries / 8)
+                .chain(about)
+                .chain([case.enough()])
+            {
                 let mut line = Compared::fresh(&case, most);
                 let _ = line.tick(&case, length, 0);
                 let _ = line.tick(&case, length, u64::MAX);

@@ -4,7 +4,7 @@ use compare::samples::of_kind;
 use compare::table::Compared;
 use eremothyn::Table;
 use second::random::Random;
-use second::table::Kind;
+use second::table::{Kind, ENTRIES};
 
 /// Every text of one to so many of these bytes.
 fn texts(bytes: &[u8], most: u32) -> impl Iterator<Item = Vec<u8>> + '_ {
@@ -164,21 +164,21 @@ fn the_command_of_each_entry_is_its_own() {
     let mut random = Random::seeded();
     for kind in Kind::BOTH.repeat(25) {
         let mut table = Vec::new();
-        for entry in 0..128 {
+        for entry in 0..ENTRIES {
             let ignored: [&[u8]; 4] = [b"", b"\n", b"#%\n", b"a=%\\%\n"];
             table.extend(random.pick(&ignored));
             let line = format!("@hourly ~{}%{entry}\n", "c".repeat(entry % 50));
             table.extend(of_kind(&line, kind).bytes());
         }
         let compared = Compared::of_kind(&table, kind.number());
-        assert_eq!(compared.check(), Ok(128));
-        for entry in 0..128 {
+        assert_eq!(compared.check(), Ok(ENTRIES as u64));
+        for entry in 0..ENTRIES as u64 {
             let shell = entry % 50;
             let digits = entry.to_string().len();
             let answer = compared.split_command(entry, [shell as usize, digits]);
             assert_eq!(answer, Ok(shell));
             assert_eq!(compared.stdin_length(entry), Ok(Some(digits as u64)));
         }
-        assert_eq!(compared.stdin_length(128), Err(13));
+        assert_eq!(compared.stdin_length(ENTRIES as u64), Err(13));
     }
 }

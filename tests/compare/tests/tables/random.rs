@@ -3,7 +3,7 @@
 use compare::samples::{any_kind, kind_number};
 use compare::table::Compared;
 use second::random::Random;
-use second::table::{samples, Kind};
+use second::table::{samples, Kind, ENTRIES, TABLE_BYTES};
 
 const SAMPLES: usize = 15_000;
 
@@ -53,10 +53,10 @@ fn large_tables() {
         let number = kind_number(&mut random, kind);
         let mut table = Vec::new();
         let mut entries = 0;
-        let most = 126 + random.below(4);
+        let most = ENTRIES as u64 - 2 + random.below(4);
         let length = match random.below(3) {
-            0 => 16_384,
-            _ => 16_000 + random.below(500) as usize,
+            0 => TABLE_BYTES,
+            _ => TABLE_BYTES - 384 + random.below(500) as usize,
         };
         while table.len() < length {
             let line = samples::line(&mut random, kind);

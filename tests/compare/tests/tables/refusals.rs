@@ -4,7 +4,7 @@ use compare::samples::of_kind;
 use compare::table::Compared;
 use second::random::Random;
 use second::table::samples::WORDS;
-use second::table::Kind;
+use second::table::{Kind, ENTRIES};
 
 /// Refused, by number, line and column. Every call then refuses so.
 fn refused(kind: Kind, table: &[u8], fault: [u64; 3]) {
@@ -393,14 +393,14 @@ fn a_zero_byte_at_every_place_of_every_kind_of_line() {
 }
 
 #[test]
-fn the_129th_entry() {
+fn one_entry_too_many() {
     for kind in Kind::BOTH {
-        the_129th_entry_of(kind);
+        one_entry_too_many_of(kind);
     }
 }
 
 /// `~` is a system table's user.
-fn the_129th_entry_of(kind: Kind) {
+fn one_entry_too_many_of(kind: Kind) {
     let mut rows: Vec<(&str, Option<[u64; 2]>)> = vec![
         ("", None),
         ("#", None),
@@ -428,10 +428,10 @@ fn the_129th_entry_of(kind: Kind) {
         "1 1 1 1 1 ~a%\n\n#\nA=b\n",
     ] {
         let entry = of_kind(entry, kind);
-        let lines = entry.matches('\n').count() as u64 * 128;
-        let table = entry.repeat(128);
-        good(kind, table.as_bytes(), 128);
-        good(kind, table.trim_end().as_bytes(), 128);
+        let lines = entry.matches('\n').count() as u64 * ENTRIES as u64;
+        let table = entry.repeat(ENTRIES);
+        good(kind, table.as_bytes(), ENTRIES as u64);
+        good(kind, table.trim_end().as_bytes(), ENTRIES as u64);
         for (line, fault) in &rows {
             let line = of_kind(line, kind);
             for end in ["", "\n", "\n60\n", "\n\0"] {
@@ -440,7 +440,7 @@ fn the_129th_entry_of(kind: Kind) {
                     Some([number, column]) => {
                         refused(kind, table.as_bytes(), [number, lines + 1, column]);
                     }
-                    None if end.len() < 2 => good(kind, table.as_bytes(), 128),
+                    None if end.len() < 2 => good(kind, table.as_bytes(), ENTRIES as u64),
                     None => {
                         let next = lines + 2;
                         let number = if end == "\n60\n" { 6 } else { 3 };
@@ -449,13 +449,16 @@ fn the_129th_entry_of(kind: Kind) {
                 }
             }
         }
-        // A fault before the 129th.
+        // A fault before it.
         let before = format!("60\n{table}{entry}");
         refused(kind, before.as_bytes(), [6, 1, 1]);
     }
     let entry = of_kind("@reboot ~a\n", kind);
-    let table = entry.repeat(127) + "A=b\n";
-    good(kind, table.as_bytes(), 127);
-    let table = entry.repeat(128);
+    // Fewer are ordinary.
+    for fewer in [127, 128, 129, ENTRIES - 1] {
+        let table = entry.repeat(fewer) + "A=b\n";
+        good(kind, table.as_bytes(), fewer as u64);
+    }
+    let table = entry.repeat(ENTRIES);
     Compared::of_kind(table.as_bytes(), kind.number()).everything(&mut Random::new(4));
 }

@@ -2,7 +2,7 @@
 
 use compare::table::Compared;
 use second::random::Random;
-use second::table::{samples, Kind, NAME_BYTES};
+use second::table::{samples, Kind, ENTRIES, NAME_BYTES, TABLE_BYTES};
 
 /// Numbers of system tables: all but 0 are.
 fn system_kinds() -> Vec<u64> {
@@ -256,12 +256,12 @@ fn the_column_of_each_entry_is_its_own() {
     for _ in 0..100 {
         let mut table = Vec::new();
         let mut columns = Vec::new();
-        while columns.len() < 128 {
+        while columns.len() < ENTRIES {
             let ignored: [&[u8]; 4] = [b"", b"\n", b"# u:g/l\n", b"u=g/l\n"];
             table.extend(random.pick(&ignored));
             let column = samples::user_column(&mut random);
             let time = random.pick(&["@daily ", "* * * * *\t", "@reboot  "]);
-            if table.len() + 120 > 16_384 {
+            if table.len() + 120 > TABLE_BYTES {
                 break;
             }
             table.extend(time.bytes());

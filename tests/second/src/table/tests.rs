@@ -108,9 +108,11 @@ fn refusals_have_their_places() {
         (" @".into(), fault(10, 1, 2)),
         ("\ta b=c".into(), fault(11, 1, 2)),
         (entries(128), None),
-        (entries(129), fault(12, 129, 1)),
-        (entries(128) + "\n# no entry\na=b\n", None),
-        (entries(128) + " @reboot", fault(9, 129, 9)),
+        (entries(129), None),
+        (entries(512), None),
+        (entries(513), fault(12, 513, 1)),
+        (entries(512) + "\n# no entry\na=b\n", None),
+        (entries(512) + " @reboot", fault(9, 513, 9)),
     ];
     for (table, expected) in rows {
         assert_eq!(

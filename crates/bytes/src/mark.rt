@@ -1,0 +1,25 @@
+// Sets of numbers in words of 64 bits: number n is bit n % 64 of word n / 64.
+ghost use mathlib.Core.Path.{_≡_};
+ghost use Rattle.bytes.specs.Marks.{marked, mark};
+use crate::set;
+
+// Whether the set has n.
+pub fn has(words: &[u64], n: usize) -> bool
+    ensures { λ r. ⌜ r ≡ marked (now (words .entry)) n ⌝ }
+{
+    let at = n / 64;
+    if at < words.len() {
+        return set::has(words[at], (n % 64) as u64);
+    }
+    false
+}
+
+// Puts n into the set; a number that there is no word for changes nothing.
+pub fn add(words: &mut [u64], n: usize)
+    ensures { λ _. ⌜ now (words .exit) ≡ mark (now (words .entry)) n ⌝ }
+{
+    let at = n / 64;
+    if at < words.len() {
+        words[at] = set::with(words[at], (n % 64) as u64);
+    }
+}

@@ -1,0 +1,119 @@
+/*
+ * How much stack each call takes: it runs on a stack of its own, filled with a pattern, and what isn't the pattern any more was
+ * touched. Prints a line for each call: its name and the most bytes that it touched over the tables, full ones among them.
+ */
+#define _XOPEN_SOURCE 700
+#include <eremothyn.h>
+#include <stdio.h>
+#include <string.h>
+#include <ucontext.h>
+
+enum { STACK = 1 << 20, PATTERN = 0xA5, ROOM = 8 * EREMOTHYN_MAX_ENTRIES + 64 };
+
+static uint8_t stack[STACK];
+static uint8_t room[ROOM], shell[EREMOTHYN_MAX_LINE], input[EREMOTHYN_MAX_LINE];
+static uint8_t table[EREMOTHYN_MAX_TABLE];
+static size_t length;
+static uint64_t kind;
+
+static void check(void) { eremothyn_check(table, length, kind); }
+static void fault_line(void) { eremothyn_fault_line(table, length, kind); }
+static void fault_column(void) { eremothyn_fault_column(table, length, kind); }
+static void due(void) { eremothyn_due(table, length, kind, 511, 0); }
+static void next(void) { eremothyn_next(table, length, kind, 511, 0); }
+static void stdin_length(void) { eremothyn_stdin_length(table, length, kind, 511); }
+static void split_command(void)
+{
+    eremothyn_split_command(table, length, kind, 511, shell, sizeof shell, input, sizeof input);
+}
+static void user_offset(void) { eremothyn_user_offset(table, length, kind, 511); }
+static void setting_value_length(void) { eremothyn_setting_value_length(table, length, kind, 1); }
+static void queue_init(void) { eremothyn_queue_init(table, length, kind, room, sizeof room); }
+static void queue_tick(void) { eremothyn_queue_tick(table, length, kind, room, sizeof room, 0); }
+static void queue_pop(void) { eremothyn_queue_pop(table, length, kind, room, sizeof room); }
+static void minute_of_date(void) { eremothyn_minute_of_date(2000, 2, 29, 0, 0); }
+static void year(void) { eremothyn_year(15863040); }
+static void nothing(void) {}
+
+static const struct call {
+    const char *name;
+    void (*make)(void);
+} calls[] = {
+    {"check", check},
+    {"fault_line", fault_line},
+    {"fault_column", fault_column},
+    {"due", due},
+    {"next", next},
+    {"stdin_length", stdin_length},
+    {"split_command", split_command},
+    {"user_offset", user_offset},
+    {"setting_value_length", setting_value_length},
+    {"queue_init", queue_init},
+    {"queue_tick", queue_tick},
+    {"queue_pop", queue_pop},
+    {"minute_of_date", minute_of_date},
+    {"year", year},
+};
+
+enum { CALLS = sizeof calls / sizeof *calls };
+
+/* The bytes of stack that a call touches, with what it takes to start it. */
+static size_t touched(void (*make)(void))
+{
+    ucontext_t here, there;
+    memset(stack, PATTERN, sizeof stack);
+    getcontext(&there);
+    there.uc_stack.ss_sp = stack;
+    there.uc_stack.ss_size = sizeof stack;
+    there.uc_link = &here;
+    makecontext(&there, make, 0);
+    swapcontext(&here, &there);
+    size_t untouched = 0;
+    while (untouched < sizeof stack && stack[untouched] == PATTERN)
+        untouched++;
+    return sizeof stack - untouched;
+}
+
+/* As many lines of a text as fit, in all of the table's bytes if it has any. */
+static void fill(const char *line, size_t most)
+{
+    size_t size = strlen(line);
+    for (length = 0; most > 0 && length + size <= sizeof table; most--) {
+        memcpy(table + length, line, size);
+        length += size;
+    }
+}
+
+static void measure(size_t most[CALLS])
+{
+    size_t start = touched(nothing);
+    for (size_t i = 0; i < CALLS; i++) {
+        size_t bytes = touched(calls[i].make) - start;
+        if (most[i] < bytes)
+            most[i] = bytes;
+    }
+}
+
+int main(void)
+{
+    static const char *const lines[] = {
+        "* * * * * u:g/c dome check%now\n",
+        "@reboot u heaters on\n",
+        "1,4-9,11-59/2 0-5,7,9-23/3 1-15/2,20,25-31 1-6,8-12/2 0-2,mon-sun/2 u a\\%b%c\n",
+        "NAME = \"a value\"\n",
+        "# a comment\n",
+        "60 * * * * a\n",
+        "x",
+    };
+    size_t most[CALLS] = {0};
+    for (kind = 0; kind < 2; kind++)
+        for (size_t i = 0; i < sizeof lines / sizeof *lines; i++) {
+            fill(lines[i], EREMOTHYN_MAX_ENTRIES);
+            measure(most);
+            fill(lines[i], EREMOTHYN_MAX_TABLE);
+            measure(most);
+        }
+    for (size_t i = 0; i < CALLS; i++)
+        printf("%s %zu\n", calls[i].name, most[i]);
+    return 0;
+}
