@@ -41,7 +41,7 @@ all: $(LIBRARY) $(COMMAND) target/c/daemon target/c/date
 target/staticlib/lib%.a: $(SOURCES)
 	rt staticlib $*
 
-$(COMMAND): $(COMMAND_SOURCES) programs/shared.h $(HEADER) $(LIBRARY)
+$(COMMAND): $(COMMAND_SOURCES) $(wildcard programs/*.h) $(HEADER) $(LIBRARY)
 	$(COMPILE) $(COMMAND_SOURCES) $(LIBRARY)
 
 target/c/%: examples/%.c examples/table_file.h $(HEADER) $(LIBRARY)

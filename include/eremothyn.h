@@ -25,7 +25,7 @@ extern "C" {
 #endif
 
 /* The middle number counts the change requests that have landed. */
-#define EREMOTHYN_VERSION "1.5.0"
+#define EREMOTHYN_VERSION "1.6.0"
 
 /* The last minute of the calendar, 9999-12-31 23:59. */
 #define EREMOTHYN_LAST_MINUTE UINT64_C(4223371679)
@@ -72,7 +72,7 @@ extern "C" {
 #define EREMOTHYN_TOO_MANY_ENTRIES UINT64_C(12) /* the 513th entry; column 1 */
 #define EREMOTHYN_USER_MALFORMED UINT64_C(20)   /* user column not of the form, in a system table; its first byte */
 
-/* Refusals of one entry, one minute, one setting and one queue of waiting jobs. */
+/* Refusals of one entry, one minute, one setting, one normal text and one queue of waiting jobs. */
 #define EREMOTHYN_NO_SUCH_ENTRY UINT64_C(13)   /* no entry of that number */
 #define EREMOTHYN_NOT_ON_CALENDAR UINT64_C(14) /* the minute or the date is not on the calendar */
 #define EREMOTHYN_AT_BOOT_ONLY UINT64_C(15)    /* next firing of an @reboot entry */
@@ -80,6 +80,7 @@ extern "C" {
 #define EREMOTHYN_PAST_THE_END UINT64_C(17)    /* would fire, but not before the calendar ends */
 #define EREMOTHYN_TOO_SHORT UINT64_C(18)       /* a lent buffer is too short for the text */
 #define EREMOTHYN_NO_SETTING UINT64_C(19)      /* the line asked for is no setting, or isn't there */
+#define EREMOTHYN_TEXT_TOO_LONG UINT64_C(21)   /* a line of the normal text, or all of it, would pass a table's limits */
 #define EREMOTHYN_NOT_A_QUEUE UINT64_C(28)     /* not a queue of this table's entries, or not room for all of them */
 
 /* A refusal in plain words, for a message; the one place that has them. */
@@ -111,6 +112,7 @@ static inline const char *eremothyn_words(uint64_t refusal)
     case EREMOTHYN_USER_MALFORMED:
         return "not a user column: user, user:group, user/class or user:group/class, each of 1 to 32 letters, digits, "
                "_, - and ., and - not first";
+    case EREMOTHYN_TEXT_TOO_LONG: return "in normal form a line has more than 1000 bytes, or the table more than 49152";
     case EREMOTHYN_NOT_A_QUEUE: return "not a queue of this table's entries, or room for too few of them";
     default: return "no refusal has this number";
     }
@@ -147,8 +149,9 @@ uint64_t eremothyn_weekday(uint64_t minute);
 
 /*
  * Tables. A table is the bytes of a crontab, and the number of its kind stands behind them: EREMOTHYN_USER_TABLE or
- * EREMOTHYN_SYSTEM_TABLE. Its entries have the numbers 0, 1 and on, in file order. Every call that takes a table reads it
- * anew, and all but the two that say where a fault is refuse a bad one as eremothyn_check does, before anything else.
+ * EREMOTHYN_SYSTEM_TABLE. (eremothyn_normal_form alone takes no kind.) Its entries have the numbers 0, 1 and on, in file
+ * order. Every call that takes a table reads it anew, and all but the two that say where a fault is refuse a bad one as
+ * eremothyn_check does, before anything else.
  */
 
 /* How many entries the table has. */
@@ -206,6 +209,25 @@ uint64_t eremothyn_setting_name_offset(const uint8_t *table, uint64_t table_leng
 uint64_t eremothyn_setting_name_length(const uint8_t *table, uint64_t table_length, uint64_t kind, uint64_t line);
 uint64_t eremothyn_setting_value_offset(const uint8_t *table, uint64_t table_length, uint64_t kind, uint64_t line);
 uint64_t eremothyn_setting_value_length(const uint8_t *table, uint64_t table_length, uint64_t kind, uint64_t line);
+
+/*
+ * Writes a user table back in its normal form, to the front of a buffer; the bytes behind stay. Answers the length of the
+ * text. There is no kind: the bytes are always read as a user table's.
+ *
+ * The text has a line for each setting and each entry, in order, and no other. A setting is name=value; either stands in
+ * quotes only where it would be read otherwise without them, and in double ones if it has none itself. An entry is its five
+ * fields, or @reboot, and its command as it stands in the table, with single spaces between them. A field that begins with a
+ * star is a star, or one with the smallest step that gives its values; any other is its values, rising, with commas, and
+ * Sunday is 0.
+ *
+ * Read back, the text means the same: settings and entries in the same order, with their names, values, times and commands,
+ * and with the same fields that begin with a star. Tables that mean the same have the same text, so a normal text is its own.
+ *
+ * Refused with EREMOTHYN_TEXT_TOO_LONG if a line of the text would have more than EREMOTHYN_MAX_LINE bytes without its
+ * newline, or all of it more than EREMOTHYN_MAX_TABLE; then with EREMOTHYN_TOO_SHORT if the buffer is too short. So
+ * EREMOTHYN_MAX_TABLE bytes are always room enough.
+ */
+uint64_t eremothyn_normal_form(const uint8_t *table, uint64_t table_length, uint8_t *text, uint64_t text_length);
 
 /*
  * The run queue: a table's waiting jobs, in a room of bytes that the caller lends. An entry stands in the

@@ -13,20 +13,18 @@ static const struct option OPTIONS[] = {
     NO_OPTION,
 };
 
-static int check(const char *name, uint64_t kind)
+static int check(const char *name, unsigned given)
 {
     static struct file table;
     if (!read_file(name, &table))
         return fail(name);
+    uint64_t kind = given & SYSTEM ? EREMOTHYN_SYSTEM_TABLE : EREMOTHYN_USER_TABLE;
     uint64_t entries = eremothyn_check(table.bytes, table.length, kind);
     if (!EREMOTHYN_IS_REFUSED(entries)) {
         printf("%s: %" PRIu64 " entries\n", name, entries);
         return written(DONE);
     }
-    uint64_t line = eremothyn_fault_line(table.bytes, table.length, kind);
-    uint64_t column = eremothyn_fault_column(table.bytes, table.length, kind);
-    uint64_t refusal = EREMOTHYN_REFUSAL(entries);
-    printf("%s:%" PRIu64 ":%" PRIu64 ": refused %" PRIu64 ": %s\n", name, line, column, refusal, eremothyn_words(refusal));
+    tell_refusal(stdout, name, fault_of(&table, kind), EREMOTHYN_REFUSAL(entries));
     return written(REFUSED);
 }
 
@@ -34,14 +32,7 @@ static int run(const struct arguments *arguments)
 {
     if (arguments->count == 0)
         return misuse("no file is named");
-    uint64_t kind = arguments->given & SYSTEM ? EREMOTHYN_SYSTEM_TABLE : EREMOTHYN_USER_TABLE;
-    int worst = DONE;
-    for (int i = 0; i < arguments->count; i++) {
-        int status = check(arguments->operands[i], kind);
-        if (worst < status)
-            worst = status;
-    }
-    return worst;
+    return each_file(arguments, check);
 }
 
 const struct command check_command = {

@@ -1,7 +1,8 @@
 /* eremothyn SUBCOMMAND ...: the crontab engine at a terminal. A subcommand is a file beside this one, and a row here. */
 
 #define SUBCOMMANDS(ROW) \
-    ROW(check)
+    ROW(check) \
+    ROW(format)
 
 #include <stdio.h>
 #include <string.h>

@@ -1,6 +1,7 @@
 /* What the subcommands share. */
 
 #include <errno.h>
+#include <inttypes.h>
 #include <stdarg.h>
 #include <stdio.h>
 #include <string.h>
@@ -22,12 +23,16 @@ static void print_name(FILE *file)
         fprintf(file, " %s", speaker->name);
 }
 
-int fail(const char *what)
+int fail_for(const char *what, const char *why)
 {
-    const char *why = strerror(errno);
     print_name(stderr);
     fprintf(stderr, ": %s: %s\n", what, why);
     return FAILED;
+}
+
+int fail(const char *what)
+{
+    return fail_for(what, strerror(errno));
 }
 
 int misuse(const char *format, ...)
@@ -96,6 +101,17 @@ enum taken take_options(const struct option *options, int count, char **words, s
     return TAKEN;
 }
 
+int each_file(const struct arguments *arguments, int (*work)(const char *name, unsigned given))
+{
+    int worst = DONE;
+    for (int i = 0; i < arguments->count; i++) {
+        int status = work(arguments->operands[i], arguments->given);
+        if (worst < status)
+            worst = status;
+    }
+    return worst;
+}
+
 bool read_file(const char *name, struct file *file)
 {
     bool named = strcmp(name, "-") != 0;
@@ -110,4 +126,26 @@ bool read_file(const char *name, struct file *file)
         fclose(from);
     errno = why;
     return whole;
+}
+
+struct part line_at(const struct file *file, uint64_t place)
+{
+    const uint8_t *start = file->bytes + place;
+    uint64_t left = file->length - place;
+    const uint8_t *newline = memchr(start, '\n', left);
+    return (struct part){ start, newline != NULL ? (uint64_t)(newline - start) + 1 : left };
+}
+
+struct place fault_of(const struct file *table, uint64_t kind)
+{
+    return (struct place){
+        eremothyn_fault_line(table->bytes, table->length, kind),
+        eremothyn_fault_column(table->bytes, table->length, kind),
+    };
+}
+
+void tell_refusal(FILE *to, const char *name, struct place place, uint64_t refusal)
+{
+    fprintf(to, "%s:%" PRIu64 ":%" PRIu64 ": refused %" PRIu64 ": %s\n", name, place.line, place.column, refusal,
+            eremothyn_words(refusal));
 }

@@ -5,6 +5,7 @@
 
 #include <stdbool.h>
 #include <stdint.h>
+#include <stdio.h>
 
 #include "eremothyn.h"
 
@@ -38,7 +39,10 @@ struct command {
 /* From now on messages are this subcommand's; at first they are the whole program's. */
 void speak_for(const struct command *command);
 
-/* Says that something failed, with the reason that errno has. */
+/* Says that something failed, and why. */
+int fail_for(const char *what, const char *why);
+
+/* The same with the reason that errno has. */
 int fail(const char *what);
 
 /* Says what is wrong with the arguments, and where to find help. */
@@ -54,6 +58,9 @@ int written(int status);
 enum taken { TAKEN, HELP_WANTED, MISUSED };
 enum taken take_options(const struct option *options, int count, char **words, struct arguments *arguments);
 
+/* Does something with each file that is named, in order; answers the highest of the statuses. */
+int each_file(const struct arguments *arguments, int (*work)(const char *name, unsigned given));
+
 /* A file's bytes. There is room for one more than a table may have: the library refuses a longer file, and it isn't cut. */
 struct file {
     uint8_t bytes[EREMOTHYN_MAX_TABLE + 1];
@@ -62,5 +69,26 @@ struct file {
 
 /* Reads a file, or standard input by the name "-". If that fails, errno has the reason. */
 bool read_file(const char *name, struct file *file);
+
+/* Some of a file's bytes. */
+struct part {
+    const uint8_t *start;
+    uint64_t length;
+};
+
+/* The line that starts before a file's end at a place, with its newline if it has one. */
+struct part line_at(const struct file *file, uint64_t place);
+
+/* Where a table is refused: line and column count from 1, and are 0 for the whole of it. */
+struct place {
+    uint64_t line;
+    uint64_t column;
+};
+
+/* Where the library finds a table's fault. */
+struct place fault_of(const struct file *table, uint64_t kind);
+
+/* Says where and why a table is refused, in the form that compilers use. */
+void tell_refusal(FILE *to, const char *name, struct place place, uint64_t refusal);
 
 #endif

@@ -3,6 +3,7 @@
 mod calendar;
 mod glibc;
 mod measure;
+mod normal;
 mod plain;
 mod queue;
 mod schedule;
@@ -12,11 +13,12 @@ mod table;
 use std::env;
 use std::process::ExitCode;
 
-const BENCHMARKS: [(&str, fn()); 5] = [
+const BENCHMARKS: [(&str, fn()); 6] = [
     ("calendar", calendar::run),
     ("schedule", schedule::run),
     ("small", small::run),
     ("table", table::run),
+    ("normal", normal::run),
     ("queue", queue::run),
 ];
 

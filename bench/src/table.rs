@@ -70,7 +70,7 @@ fn second(bytes: &[u8], kind: Kind) -> u64 {
     table.entries.len() as u64
 }
 
-const WRITTEN: [&str; 16] = [
+pub const WRITTEN: [&str; 16] = [
     "5 0 * * *       $HOME/bin/daily.job >> $HOME/tmp/out 2>&1",
     "15 14 1 * *     $HOME/bin/monthly",
     "0 22 * * 1-5    mail -s \"It's 10pm\" joe%Joe,%%Where are your kids?%",
@@ -89,7 +89,7 @@ const WRITTEN: [&str; 16] = [
     "0 6 * jan mon   /usr/local/bin/report --last-week | mail -s report office@example.org",
 ];
 
-const LISTS: [&str; 2] = [
+pub const LISTS: [&str; 2] = [
     "1,4-9,11-59/2 0-5,7,9-23/3 1-15/2,20,25-31 1-6,8-12/2 0-2,4-7/2 /bin/a",
     "0,7,14,21,28,35,42,49,56 1,3,5,7,9,11 2,4,6,8,30,31 1,2,3,10,11,12 1,2,3,4,5 /bin/b",
 ];
@@ -103,7 +103,7 @@ fn with_user(line: &str) -> String {
 }
 
 /// A table as full as may be.
-fn full(lines: &[&str]) -> Vec<u8> {
+pub fn full(lines: &[&str]) -> Vec<u8> {
     filled(lines, ENTRIES, TABLE_BYTES)
 }
 

@@ -15,9 +15,10 @@ use borrow.Author.Tests.{ne-eqb}
 use Rattle.bytes.specs.declared.class.Class.{Class}
 use Rattle.bytes.specs.Classes.{isBlank, isQuote, ofClass}
 use Rattle.bytes.specs.Runs.{run, skipped, trimmed, between}
+use Rattle.bytes.proofs.Each.{Each}
 
 module _ (k : Class) where
-  run-le : (s : List ℕ) → run k s ≤ length s
+  pub run-le : (s : List ℕ) → run k s ≤ length s
   unfolding run
   run-le [] = omega arith
   run-le (b ∷ s) = go (ofClass k b) (run-le s)
@@ -25,6 +26,12 @@ module _ (k : Class) where
       go : (t : Bool) → run k s ≤ length s → cond t (suc (run k s)) 0 ≤ suc (length s)
       go true h = omega arith
       go false h = omega arith
+
+  -- bytes of the kind, and what stands behind them
+  pub run-over : (s t : List ℕ) → Each (λ (b : ℕ). ofClass k b ≡ true) s → run k (s ++ t) ≡ length s + run k t
+  unfolding run
+  run-over [] t h = omega arith
+  run-over (b ∷ s) t h = rw (h .0) (omega (arith, run-over s t (h .1)))
 
   module _ (s : List ℕ) where
     pub skipped-from : (at : ℕ) → at ≤ skipped k s at
@@ -91,6 +98,17 @@ trimmed-le (b ∷ s) = go (isBlank b && eqb (trimmed s) 0) (trimmed-le s)
     go : (t : Bool) → trimmed s ≤ length s → cond t 0 (suc (trimmed s)) ≤ suc (length s)
     go true h = omega arith
     go false h = omega arith
+
+-- blanks at the end are all gone
+pub trimmed-again : (s : List ℕ) → trimmed (take (trimmed s) s) ≡ trimmed s
+unfolding trimmed
+trimmed-again [] = refl
+trimmed-again (b ∷ s) = go (isBlank b && eqb (trimmed s) 0) refl (trimmed-again s)
+  where
+    go : (t : Bool) → (isBlank b && eqb (trimmed s) 0) ≡ t → trimmed (take (trimmed s) s) ≡ trimmed s
+        → trimmed (take (cond t 0 (suc (trimmed s))) (b ∷ s)) ≡ cond t 0 (suc (trimmed s))
+    go true e h = refl
+    go false e h = rw (h, e)
 
 module _ (s : List ℕ) (from : ℕ) where
   pub trimmed-none : length s ≤ from → trimmed (drop from s) ≡ 0

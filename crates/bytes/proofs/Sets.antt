@@ -1,14 +1,15 @@
 -- Laws of sets of bits, over the width.
 -- Assumes nothing.
-use mathlib.Core.Path.{_≡_, refl, ap, _∙_}
-use mathlib.Core.Bool.{true, false}
+use mathlib.Core.Path.{_≡_, refl, sym, ap, _∙_}
+use mathlib.Core.Bool.{Bool, true, false, true≢false}
 use Prim.Native.Nat.{ℕ, zero, suc, _+_, _-_, _/_, _%_, _^_, _≤_, _<_}
-use native.Mathlib.Nat.{div-eq-of-lt, div-self, lt-of-not-le, lt-of-lt-of-le, zero-div}
+use native.Mathlib.Nat.{div-eq-of-lt, div-self, lt-of-not-le, lt-of-lt-of-le, zero-div, pow-succ'}
 use native.Mathlib.Decide.{decLe}
 use native.Mathlib.Omega.{arith}
 use lib.Bits.{bitOr, or-lt, or-shr, or-mod, or-zero-r, shifted-even}
-use lib.Pow.{pow-pos, pow-mono, pow-lt, pow-add, shl-shr}
+use lib.Pow.{pow-pos, pow-mono, pow-lt, pow-add, shl-shr, shr-shr}
 use lib.Dec.{eqb}
+use borrow.Author.Tests.{eqb-true, eqb-false}
 use Rattle.bytes.specs.Sets.{hasBit, withBit}
 
 -- the empty set
@@ -60,3 +61,26 @@ with-keeps set n k d = rw (or-bit set (2 ^ n) k, other) (rw (or-zero-r (set / 2 
 pub with-fits : (w : ℕ) {set n : ℕ} → set < 2 ^ w → n < w → withBit set n < 2 ^ w
 unfolding withBit
 with-fits w {set} {n} h k = or-lt w set (2 ^ n) h (pow-lt k)
+
+-- ---- two sets with the same values
+
+half-has : (a n : ℕ) → hasBit (a / 2) n ≡ hasBit a (suc n)
+unfolding hasBit
+half-has a n = let e : 1 + n ≡ suc n = omega arith in ap (λ (x : ℕ). eqb (x % 2) 1) (shr-shr a 1 n ∙ ap (λ (k : ℕ). a / 2 ^ k) e)
+
+same-odd : (a b : ℕ) → hasBit a 0 ≡ hasBit b 0 → a % 2 ≡ b % 2
+unfolding hasBit
+same-odd a b e = go (eqb (a / 2 ^ 0 % 2) 1) (eqb (b / 2 ^ 0 % 2) 1) refl refl e
+  where
+    go : (t u : Bool) → eqb (a / 2 ^ 0 % 2) 1 ≡ t → eqb (b / 2 ^ 0 % 2) 1 ≡ u → t ≡ u → a % 2 ≡ b % 2
+    go true true p q e = omega (arith, eqb-true (a / 2 ^ 0 % 2) 1 p, eqb-true (b / 2 ^ 0 % 2) 1 q)
+    go true false p q e = absurd (true≢false e)
+    go false true p q e = absurd (true≢false (sym e))
+    go false false p q e = omega (arith, eqb-false (a / 2 ^ 0 % 2) 1 p, eqb-false (b / 2 ^ 0 % 2) 1 q)
+
+pub same-bits : (w : ℕ) {a b : ℕ} → a < 2 ^ w → b < 2 ^ w → ((n : ℕ) → n < w → hasBit a n ≡ hasBit b n) → a ≡ b
+same-bits zero h k same = omega arith
+same-bits (suc w) {a} {b} h k same =
+    let e : a / 2 ≡ b / 2 =
+    same-bits w (omega (arith, pow-succ' 2 w)) (omega (arith, pow-succ' 2 w)) (λ n i. half-has a n ∙ same (suc n) (omega arith) ∙ sym (half-has b n)) in
+    omega (arith, same-odd a b (same 0 (omega arith)))

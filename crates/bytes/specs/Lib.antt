@@ -1,5 +1,7 @@
 pub mod Texts
 pub mod Rows
+pub mod Digits
+pub mod Search
 pub mod Classes
 pub mod Runs
 pub mod Laid

@@ -1,7 +1,7 @@
 -- Runs of bytes of one kind, and parts of bytes by their places. A place counts from 0.
 -- Assumes nothing.
 use Prim.Native.Nat.{ℕ, suc, _+_, _-_}
-use mathlib.Core.Bool.{cond, _&&_}
+use mathlib.Core.Bool.{Bool, true, cond, _&&_}
 use mathlib.Core.List.{List, [], _∷_}
 use lib.ListN.{take, drop}
 use lib.Dec.{eqb}
@@ -12,6 +12,11 @@ use Rattle.bytes.specs.Classes.{isBlank, ofClass}
 unfoldable pub run : Class → List ℕ → ℕ
 run k [] = 0
 run k (b ∷ s) = let more = run k s in cond (ofClass k b) (suc more) 0
+
+-- whether all bytes are of a kind
+unfoldable pub areOf : Class → List ℕ → Bool
+areOf k [] = true
+areOf k (b ∷ s) = ofClass k b && areOf k s
 
 -- where the run that starts at a place ends
 unfoldable pub skipped : Class → List ℕ → ℕ → ℕ

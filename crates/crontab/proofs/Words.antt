@@ -65,7 +65,7 @@ row-next s n ns {when} {r} {other} k e f = e ∙ go (same s (n .word))
     go false = f
 
 -- The words' schedules, as the numbers that the code has: what their fields read to.
-module _ (minutes hours days months weekdays : ℕ) (day weekday : Bool) where
+module _ (minutes hours days months weekdays : ℕ) (hour day month weekday : Bool) where
   abbrev timed : Word
   timed =
       Known
@@ -76,14 +76,14 @@ module _ (minutes hours days months weekdays : ℕ) (day weekday : Bool) where
         days = days;
         months = months;
         weekdays = weekdays;
-        stars = record { days = day; weekdays = weekday };
+        stars = record { minutes = false; hours = hour; days = day; months = month; weekdays = weekday };
       }))
 
 pub word-meanings :
-    (wordFor (fields (text "0 0 1 1 *")) ≡ timed 1 1 2 2 127 false true)
-    × (wordFor (fields (text "0 0 1 * *")) ≡ timed 1 1 2 8190 127 false true)
-    × (wordFor (fields (text "0 0 * * 0")) ≡ timed 1 1 4294967294 8190 1 true false)
-    × (wordFor (fields (text "0 0 * * *")) ≡ timed 1 1 4294967294 8190 127 true true)
-    × (wordFor (fields (text "0 * * * *")) ≡ timed 1 16777215 4294967294 8190 127 true true)
+    (wordFor (fields (text "0 0 1 1 *")) ≡ timed 1 1 2 2 127 false false false true)
+    × (wordFor (fields (text "0 0 1 * *")) ≡ timed 1 1 2 8190 127 false false true true)
+    × (wordFor (fields (text "0 0 * * 0")) ≡ timed 1 1 4294967294 8190 1 false true true false)
+    × (wordFor (fields (text "0 0 * * *")) ≡ timed 1 1 4294967294 8190 127 false true true true)
+    × (wordFor (fields (text "0 * * * *")) ≡ timed 1 16777215 4294967294 8190 127 true true true true)
 unfolding reading
 word-meanings = (refl, refl, refl, refl, refl)

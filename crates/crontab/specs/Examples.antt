@@ -34,9 +34,9 @@ ofUser = record { kind = User }
 abbrev ofSystem : Rules
 ofSystem = record { kind = System }
 
--- at midnight; whether the day fields begin with `*`
-abbrev midnight : List ℕ → List ℕ → List ℕ → Bool → Bool → When
-midnight days months weekdays day weekday =
+-- at midnight; whether the last three fields begin with `*`
+abbrev midnight : List ℕ → List ℕ → List ℕ → Bool → Bool → Bool → When
+midnight days months weekdays day month weekday =
     Timed
     (record {
       minutes = setOf (0 ∷ []);
@@ -44,7 +44,7 @@ midnight days months weekdays day weekday =
       days = setOf days;
       months = setOf months;
       weekdays = setOf weekdays;
-      stars = record { days = day; weekdays = weekday };
+      stars = record { minutes = false; hours = false; days = day; months = month; weekdays = weekday };
     })
 
 abbrev hourly : When
@@ -56,7 +56,20 @@ hourly =
       days = setOf (upTo 1 31);
       months = setOf (upTo 1 12);
       weekdays = setOf (upTo 0 6);
-      stars = record { days = true; weekdays = true };
+      stars = record { minutes = false; hours = true; days = true; months = true; weekdays = true };
+    })
+
+-- `*/30 0 1 1 0`
+abbrev halfHours : When
+halfHours =
+    Timed
+    (record {
+      minutes = setOf (0 ∷ 30 ∷ []);
+      hours = setOf (0 ∷ []);
+      days = setOf (1 ∷ []);
+      months = setOf (1 ∷ []);
+      weekdays = setOf (0 ∷ []);
+      stars = record { minutes = true; hours = false; days = false; months = false; weekdays = false };
     })
 
 abbrev refused : ℕ → ℕ → Line
@@ -70,20 +83,22 @@ lines-read : Hold (readLine ofUser)
     -- at the first field
     ((text "60 0 * * * x", refused 6 1)
     -- Monday to Friday; and at the fifth field from high to low, and a name of another field
-    ∷ (text "0 0 * * mon-fri x", Entry (midnight (upTo 1 31) (upTo 1 12) (upTo 1 5) true false) 16)
+    ∷ (text "0 0 * * mon-fri x", Entry (midnight (upTo 1 31) (upTo 1 12) (upTo 1 5) true true false) 16)
     ∷ (text "0 0 * * fri-mon x", refused 7 9)
     ∷ (text "0 0 * * jan x", refused 5 9)
     -- names in any letter case
-    ∷ (text "0 0 * JAN,feb Sat x", Entry (midnight (upTo 1 31) (1 ∷ 2 ∷ []) (6 ∷ []) true false) 18)
+    ∷ (text "0 0 * JAN,feb Sat x", Entry (midnight (upTo 1 31) (1 ∷ 2 ∷ []) (6 ∷ []) true false false) 18)
     -- a day field that begins with a star and has some values only
-    ∷ (text "0 0 */15 * 1 x", Entry (midnight (1 ∷ 16 ∷ 31 ∷ []) (upTo 1 12) (1 ∷ []) true false) 13)
+    ∷ (text "0 0 */15 * 1 x", Entry (midnight (1 ∷ 16 ∷ 31 ∷ []) (upTo 1 12) (1 ∷ []) true true false) 13)
+    -- a star has its field's flag
+    ∷ (text "*/30 0 1 1 0 x", Entry halfHours 13)
     -- no command: after the last byte, blanks counted
     ∷ (text "0 0 * * * ", refused 9 11)
     -- too few fields: after the last byte, but a bad field before it comes first
     ∷ (text "5 5", refused 4 4)
     ∷ (text "60 5", refused 6 1)
     -- blanks before and after, and a comment
-    ∷ (text "\t 0 0 1 1 *  a ", Entry (midnight (1 ∷ []) (1 ∷ []) (upTo 0 6) false true) 13)
+    ∷ (text "\t 0 0 1 1 *  a ", Entry (midnight (1 ∷ []) (1 ∷ []) (upTo 0 6) false false true) 13)
     ∷ (text " # 0", Ignored)
     ∷ ([], Ignored)
     -- an `@` word is the whole run of non-blank bytes, in this case only
@@ -93,12 +108,12 @@ lines-read : Hold (readLine ofUser)
     ∷ (text " @", refused 10 2)
     ∷ (text "@reboot ", refused 9 9)
     -- the words that stand for fields
-    ∷ (text "@yearly x", Entry (midnight (1 ∷ []) (1 ∷ []) (upTo 0 6) false true) 8)
-    ∷ (text "@annually x", Entry (midnight (1 ∷ []) (1 ∷ []) (upTo 0 6) false true) 10)
-    ∷ (text "@monthly x", Entry (midnight (1 ∷ []) (upTo 1 12) (upTo 0 6) false true) 9)
-    ∷ (text "@weekly x", Entry (midnight (upTo 1 31) (upTo 1 12) (0 ∷ []) true false) 8)
-    ∷ (text "@daily x", Entry (midnight (upTo 1 31) (upTo 1 12) (upTo 0 6) true true) 7)
-    ∷ (text "@midnight x", Entry (midnight (upTo 1 31) (upTo 1 12) (upTo 0 6) true true) 10)
+    ∷ (text "@yearly x", Entry (midnight (1 ∷ []) (1 ∷ []) (upTo 0 6) false false true) 8)
+    ∷ (text "@annually x", Entry (midnight (1 ∷ []) (1 ∷ []) (upTo 0 6) false false true) 10)
+    ∷ (text "@monthly x", Entry (midnight (1 ∷ []) (upTo 1 12) (upTo 0 6) false true true) 9)
+    ∷ (text "@weekly x", Entry (midnight (upTo 1 31) (upTo 1 12) (0 ∷ []) true true false) 8)
+    ∷ (text "@daily x", Entry (midnight (upTo 1 31) (upTo 1 12) (upTo 0 6) true true true) 7)
+    ∷ (text "@midnight x", Entry (midnight (upTo 1 31) (upTo 1 12) (upTo 0 6) true true true) 10)
     ∷ (text "@hourly x", Entry hourly 8)
     -- byte 0, in a comment too
     ∷ (35 ∷ 0 ∷ [], refused 3 2)
@@ -128,7 +143,7 @@ lines-read = refl
 -- ticket 2026-04: lines of a system table
 system-lines-read : Hold (readLine ofSystem)
     -- the command stands behind the user
-    ((text "0 0 1 1 * root x", Entry (midnight (1 ∷ []) (1 ∷ []) (upTo 0 6) false true) 15)
+    ((text "0 0 1 1 * root x", Entry (midnight (1 ∷ []) (1 ∷ []) (upTo 0 6) false false true) 15)
     ∷ (text "@reboot u:g/c  x", Entry Reboot 15)
     ∷ (text "@reboot A_1.-/c x", Entry Reboot 16)
     -- nothing behind the time, or behind the user: after the last byte

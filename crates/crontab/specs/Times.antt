@@ -45,7 +45,7 @@ scheduleOf minute hour day month weekday =
       days = day .set;
       months = month .set;
       weekdays = weekday .set;
-      stars = record { days = day .star; weekdays = weekday .star };
+      stars = record { minutes = minute .star; hours = hour .star; days = day .star; months = month .star; weekdays = weekday .star };
     }
 
 -- a field, and what comes after it

@@ -14,7 +14,7 @@ use bytes::run::skip;
 use bytes::run::trimmed_end;
 
 // A name or a value: where it stands, and where the line goes on after it.
-pub(crate) enum Text {
+pub enum Text {
     Found { part: Part, next: usize },
     Malformed,
 }

@@ -18,20 +18,20 @@ use bytes::class::Class;
 use bytes::run::skip;
 
 // Where a line starts, its number from 1, and how many entries stand before it.
-pub(crate) struct Cursor {
+pub struct Cursor {
     pub at: usize,
     pub line: usize,
     pub count: usize,
 }
 
-pub(crate) const START: Cursor = Cursor {
+pub const START: Cursor = Cursor {
     at: 0,
     line: 1,
     count: 0,
 };
 
 // What a line gives to its table. Places are the table's.
-pub(crate) enum Item {
+pub enum Item {
     Nothing,
     Setting { name: Part, value: Part },
     Entry(Entry),
@@ -39,7 +39,7 @@ pub(crate) enum Item {
 }
 
 // What stands at a cursor, and the cursor behind it.
-pub(crate) struct Step {
+pub struct Step {
     pub item: Item,
     pub next: Cursor,
 }
@@ -70,7 +70,7 @@ fn placed(c: Cursor, size: usize, when: When, start: usize) -> Entry
 }
 
 // The line at a cursor, and the cursor behind it. One search finds the line's end and its first byte 0.
-pub(crate) fn advance(s: &[u8], rules: Rules, c: Cursor) -> Step
+pub fn advance(s: &[u8], rules: Rules, c: Cursor) -> Step
     requires { ⌜ Reached (now s) c × (c .at < length (now s)) ⌝ }
     ensures { λ r. ⌜ StepIs rules (now (s .entry)) c r ⌝ }
 {

@@ -1,16 +1,16 @@
 // A table of paper 01, from its bytes to its entries and settings, or its one refusal.
-mod assignment;
+pub mod assignment;
 pub mod chosen;
 pub mod entry;
 pub mod firing;
-mod item;
-mod line;
+pub mod item;
+pub mod line;
 pub mod owner;
 pub mod setting;
 pub mod table;
 pub mod time;
 pub mod user;
-mod word;
+pub mod word;
 
 pub const MAX_TABLE: usize = 49152;
 

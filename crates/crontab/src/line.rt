@@ -18,13 +18,13 @@ use bytes::class::Class;
 use bytes::run::skip;
 
 // Why a line is refused.
-pub(crate) struct Fault {
+pub struct Fault {
     pub number: u8,
     pub column: usize,
 }
 
 // What a line is.
-pub(crate) enum Line {
+pub enum Line {
     // Nothing, or a comment.
     Ignored,
     Setting { name: Part, value: Part },
@@ -34,7 +34,7 @@ pub(crate) enum Line {
 }
 
 // Whether a line that starts with this byte is an entry.
-fn starts_entry(b: u8) -> bool
+pub fn starts_entry(b: u8) -> bool
     ensures { λ r. ⌜ r ≡ startsEntry b ⌝ }
 {
     (b == b'*') | (((b'0' <= b) & (b <= b'9')) | (b == b'@'))

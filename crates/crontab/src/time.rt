@@ -20,19 +20,19 @@ pub enum When {
 }
 
 // What a field of a line says, and where the line goes on after its blanks.
-pub(crate) struct Values {
+pub struct Values {
     pub set: u64,
     pub star: bool,
     pub next: usize,
 }
 
-pub(crate) enum Field {
+pub enum Field {
     Read(Values),
     Refused(Fault),
 }
 
 // When an entry fires, and where its line goes on after that and its blanks.
-pub(crate) enum Time {
+pub enum Time {
     Read { when: When, next: usize },
     Refused(Fault),
 }
@@ -95,7 +95,10 @@ pub(crate) fn read(s: &[u8], at: usize) -> Time
         months: month.set as u16,
         weekdays: weekday.set as u8,
         stars: Stars {
+            minutes: minute.star,
+            hours: hour.star,
             days: day.star,
+            months: month.star,
             weekdays: weekday.star,
         },
     };

@@ -15,7 +15,7 @@ use schedule::Schedule;
 use schedule::Stars;
 
 // What a word means, or that there is no such word.
-pub(crate) enum Word {
+pub enum Word {
     Known(When),
     Unknown,
 }
@@ -37,7 +37,10 @@ const YEARLY: Schedule = Schedule {
     months: 2,
     weekdays: EVERY_WEEKDAY,
     stars: Stars {
+        minutes: false,
+        hours: false,
         days: false,
+        months: false,
         weekdays: true,
     },
 };
@@ -50,7 +53,10 @@ const MONTHLY: Schedule = Schedule {
     months: EVERY_MONTH,
     weekdays: EVERY_WEEKDAY,
     stars: Stars {
+        minutes: false,
+        hours: false,
         days: false,
+        months: true,
         weekdays: true,
     },
 };
@@ -63,7 +69,10 @@ const WEEKLY: Schedule = Schedule {
     months: EVERY_MONTH,
     weekdays: 1,
     stars: Stars {
+        minutes: false,
+        hours: false,
         days: true,
+        months: true,
         weekdays: false,
     },
 };
@@ -76,7 +85,10 @@ const DAILY: Schedule = Schedule {
     months: EVERY_MONTH,
     weekdays: EVERY_WEEKDAY,
     stars: Stars {
+        minutes: false,
+        hours: false,
         days: true,
+        months: true,
         weekdays: true,
     },
 };
@@ -89,7 +101,10 @@ const HOURLY: Schedule = Schedule {
     months: EVERY_MONTH,
     weekdays: EVERY_WEEKDAY,
     stars: Stars {
+        minutes: false,
+        hours: true,
         days: true,
+        months: true,
         weekdays: true,
     },
 };

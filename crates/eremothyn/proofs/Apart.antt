@@ -34,11 +34,14 @@ use Rattle.eremothyn.specs.declared.owners.Owned.{Owned}
 use Rattle.eremothyn.specs.declared.owners.Owned.the-variants.{UserOffset, UserLength, GroupOffset, GroupLength, ClassOffset, ClassLength}
 use Rattle.eremothyn.specs.Owners.{ownedIn, ownerNumber}
 use Rattle.crontab.proofs.Theorems.{OwnerInside, owner-inside, owner-short, EntryTold, DueTold, NextTold, table-sound, entry-told, setting-inside, setting-short}
-use Rattle.command.specs.declared.SplitAnswer.{SplitAnswer}
 use Rattle.command.specs.declared.SplitAnswer.the-variants as split
 use Rattle.command.specs.Parts.{Stdin, absent, given, shellLine, inputOf, textOf, inputLength}
 use Rattle.command.specs.Buffers.{Split, haveRoom, splitStep}
 use Rattle.command.proofs.Theorems.{split-length}
+use Rattle.normal.specs.declared.NormalAnswer.{NormalAnswer}
+use Rattle.normal.specs.declared.NormalAnswer.the-variants as normal
+use Rattle.normal.specs.NormalForms.{normalForm}
+use Rattle.normal.proofs.Theorems.{Told, form-told}
 use Rattle.fifo.specs.declared.Ticked.{Ticked}
 use Rattle.fifo.specs.declared.Ticked.the-variants as tick
 use Rattle.fifo.specs.declared.Popped.{Popped}
@@ -54,8 +57,9 @@ use Rattle.eremothyn.specs.Tables.{checkNumber}
 use Rattle.eremothyn.specs.Entries.{dueNumber, nextNumber}
 use Rattle.eremothyn.specs.Settings.{shownIn, settingNumber}
 use Rattle.eremothyn.specs.Commands.{splitNumber, inputNumber, splitIn, splitOf, stdinIn, stdinLength}
+use Rattle.eremothyn.specs.NormalForms.{normalNumber}
 use Rattle.eremothyn.specs.Queue.{tickNumber, popNumber}
-use Rattle.eremothyn.specs.Apart.{Tells, byRefusal, byEntry, byDue, byNext, bySplit, byTick, byPop, Stays}
+use Rattle.eremothyn.specs.Apart.{Tells, byRefusal, byEntry, byDue, byNext, bySplit, byForm, byTick, byPop, Stays}
 
 -- a record's answer, where its value is small unless it is refused
 answer-tells : (refusal value : ℕ) → (refusal ≡ 0 → value ≤ refusedFrom) → Tells (byRefusal refusal) (answerOf refusal value)
@@ -192,6 +196,16 @@ stdin-tells rules table i = go (entryIn (tableOf rules table) i) (entry-told rul
         input-small (length table) (inputOf c) (omega (arith, split-length c, command-length table e s)) h
     go (entry.Refused number) h = (h, refl)
 
+-- ---- normal forms
+
+pub form-tells : (table text : List ℕ) → let a = normalForm table text .answer in Tells (byForm a) (normalNumber a)
+unfolding normalNumber
+form-tells table text = go (normalForm table text .answer) (form-told table text)
+  where
+    go : (a : NormalAnswer) → Told text a (normalForm table text .buffer) → Tells (byForm a) (normalNumber a)
+    go (normal.Written size) h = omega (arith, h .0)
+    go (normal.Refused number) h = (h .0, refl)
+
 -- ---- the line of waiting jobs
 
 pub tick-tells : (n : ℕ) (a : Ticked) → n ≤ maxEntries → TickedWithin n a → Tells (byTick a) (tickNumber a)
@@ -235,6 +249,13 @@ split-stays rules table i shell input = go (entryIn (tableOf rules table) i)
         → let s = splitIn table x shell input in Stays (bySplit (s .answer)) shell (s .shell) × Stays (bySplit (s .answer)) input (s .input)
     go (entry.Found e) = step-stays (between table (e .start) (e .end)) shell input
     go (entry.Refused number) = (refl, refl)
+
+pub form-stays : (table text : List ℕ) → let f = normalForm table text in Stays (byForm (f .answer)) text (f .buffer)
+form-stays table text = go (normalForm table text .answer) (form-told table text)
+  where
+    go : (a : NormalAnswer) → Told text a (normalForm table text .buffer) → Stays (byForm a) text (normalForm table text .buffer)
+    go (normal.Written size) h = tt
+    go (normal.Refused number) h = h .2
 
 pub tick-keeps : (a : Ticked) (before after : List ℕ) → ((n : ℕ) → a ≡ tick.Refused n → after ≡ before) → Stays (byTick a) before after
 tick-keeps (tick.Joined k) before after h = tt

@@ -32,7 +32,7 @@ use Rattle.eremothyn.specs.Entries.{nextNumber}
 use Rattle.eremothyn.specs.KnownDays.{KnownDays}
 use Rattle.eremothyn.specs.Apart.{ToldApart, RefusedStays}
 use Rattle.eremothyn.proofs.Apart.{part-tells, minute-tells, check-tells, setting-tells, owner-tells, due-tells, next-tells}
-use Rattle.eremothyn.proofs.Apart.{split-tells, stdin-tells, tick-tells, pop-tells, split-stays, tick-keeps, pop-keeps}
+use Rattle.eremothyn.proofs.Apart.{split-tells, stdin-tells, form-tells, tick-tells, pop-tells, split-stays, form-stays, tick-keeps, pop-keeps}
 
 -- the table's first entry is timed, and its command ends a byte behind its start
 abbrev reads : List ℕ → Schedule → ℕ → ℕ → Type 0
@@ -103,6 +103,7 @@ told-apart =
       owner = owner-tells;
       split-command = split-tells;
       stdin-length = stdin-tells;
+      normal-form = form-tells;
       queue-init =
           λ rules table room. let t = tableOf rules table in
           tick-tells (t .count) (initTable t room .answer) (table-sound rules table .few) (init-told t room);
@@ -119,6 +120,7 @@ pub refused-stays : RefusedStays
 refused-stays =
     record {
       split-command = split-stays;
+      normal-form = form-stays;
       queue-init = λ rules table room. let s = initTable (tableOf rules table) room in tick-keeps (s .answer) room (s .room) (init-stays (tableOf rules table) room);
       queue-tick =
           λ rules table room minute.

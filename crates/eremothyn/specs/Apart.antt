@@ -19,6 +19,9 @@ use Rattle.crontab.specs.Settings.{settingIn}
 use Rattle.crontab.specs.Firings.{dueIn, nextIn}
 use Rattle.command.specs.declared.SplitAnswer.{SplitAnswer}
 use Rattle.command.specs.declared.SplitAnswer.the-variants as split
+use Rattle.normal.specs.declared.NormalAnswer.{NormalAnswer}
+use Rattle.normal.specs.declared.NormalAnswer.the-variants as normal
+use Rattle.normal.specs.NormalForms.{normalForm}
 use Rattle.fifo.specs.declared.Ticked.{Ticked}
 use Rattle.fifo.specs.declared.Ticked.the-variants as tick
 use Rattle.fifo.specs.declared.Popped.{Popped}
@@ -35,6 +38,7 @@ use Rattle.eremothyn.specs.declared.owners.Owned.{Owned}
 use Rattle.crontab.specs.Owners.{ownerIn}
 use Rattle.eremothyn.specs.Owners.{ownerNumber}
 use Rattle.eremothyn.specs.Commands.{splitNumber, splitOf, stdinLength}
+use Rattle.eremothyn.specs.NormalForms.{normalNumber}
 use Rattle.eremothyn.specs.Queue.{tickNumber, popNumber}
 
 -- ---- whether an answer is a refusal, and which
@@ -64,6 +68,10 @@ byNext (next.Refused number) = refused number
 abbrev pub bySplit : SplitAnswer → Outcome
 bySplit (split.Written n input) = granted
 bySplit (split.Refused number) = refused number
+
+abbrev pub byForm : NormalAnswer → Outcome
+byForm (normal.Written size) = granted
+byForm (normal.Refused number) = refused number
 
 abbrev pub byTick : Ticked → Outcome
 byTick (tick.Joined n) = granted
@@ -98,6 +106,7 @@ pub record ToldApart : Type 0 where
   pub split-command : (rules : Rules) (table : List ℕ) (i : ℕ) (shell input : List ℕ)
       → let a = splitOf rules table i shell input .answer in Tells (bySplit a) (splitNumber a)
   pub stdin-length : (rules : Rules) (table : List ℕ) (i : ℕ) → Tells (byEntry (entryIn (tableOf rules table) i)) (stdinLength rules table i)
+  pub normal-form : (table text : List ℕ) → let a = normalForm table text .answer in Tells (byForm a) (normalNumber a)
   pub queue-init : (rules : Rules) (table room : List ℕ) → let a = initTable (tableOf rules table) room .answer in Tells (byTick a) (tickNumber a)
   pub queue-tick : (rules : Rules) (table room : List ℕ) (minute : ℕ) → let a = tickTable (tableOf rules table) minute room .answer in Tells (byTick a) (tickNumber a)
   pub queue-pop : (rules : Rules) (table room : List ℕ) → let a = popTable (tableOf rules table) room .answer in Tells (byPop a) (popNumber a)
@@ -112,6 +121,7 @@ Stays (refused n) before after = after ≡ before
 pub record RefusedStays : Type 0 where
   pub split-command : (rules : Rules) (table : List ℕ) (i : ℕ) (shell input : List ℕ)
       → let s = splitOf rules table i shell input in Stays (bySplit (s .answer)) shell (s .shell) × Stays (bySplit (s .answer)) input (s .input)
+  pub normal-form : (table text : List ℕ) → let f = normalForm table text in Stays (byForm (f .answer)) text (f .buffer)
   pub queue-init : (rules : Rules) (table room : List ℕ) → let s = initTable (tableOf rules table) room in Stays (byTick (s .answer)) room (s .room)
   pub queue-tick : (rules : Rules) (table room : List ℕ) (minute : ℕ) → let s = tickTable (tableOf rules table) minute room in Stays (byTick (s .answer)) room (s .room)
   pub queue-pop : (rules : Rules) (table room : List ℕ) → let s = popTable (tableOf rules table) room in Stays (byPop (s .answer)) room (s .room)

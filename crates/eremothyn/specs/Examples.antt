@@ -2,8 +2,8 @@
 -- comes back. 4294967296 and n is refusal n.
 -- Assumes nothing.
 use mathlib.Core.Path.{_≡_, refl}
-use mathlib.Core.List.{List, [], _∷_}
-use Prim.Native.Nat.{ℕ, _+_}
+use mathlib.Core.List.{List, [], _∷_, _++_}
+use Prim.Native.Nat.{ℕ, _+_, _-_}
 use lib.ListN.{replicate}
 use Rattle.bytes.specs.Texts.{text}
 use Rattle.bytes.specs.Rows.{Hold}
@@ -13,6 +13,7 @@ use Rattle.crontab.specs.Tables.{tableOf}
 use Rattle.crontab.specs.Owners.{ownerIn}
 use Rattle.crontab.specs.Settings.{settingIn}
 use Rattle.crontab.specs.Firings.{dueIn, nextIn}
+use Rattle.normal.specs.NormalForms.{normalForm}
 use Rattle.runqueue.specs.Calls.{initTable, tickTable, popTable}
 use Rattle.eremothyn.specs.Rules.{rulesOf}
 use Rattle.eremothyn.specs.declared.dates.DatePart.the-variants.{Year, Month, Day, Hour, Minute, Weekday}
@@ -24,6 +25,7 @@ use Rattle.eremothyn.specs.Tables.{checkNumber}
 use Rattle.eremothyn.specs.Entries.{dueNumber, nextNumber}
 use Rattle.eremothyn.specs.Settings.{settingNumber}
 use Rattle.eremothyn.specs.Commands.{splitNumber, splitOf, stdinLength}
+use Rattle.eremothyn.specs.NormalForms.{normalNumber}
 use Rattle.eremothyn.specs.Queue.{tickNumber, popNumber}
 use Rattle.eremothyn.specs.Computing.{answering}
 
@@ -191,6 +193,28 @@ splits : Hold splitAt
     ∷ [])
 unfolding answering
 splits = refl
+
+-- ---- ticket 2026-06: a table and a buffer, and the normal text's length with the buffer as it is then
+
+abbrev formOn : List ℕ × List ℕ → ℕ × List ℕ
+formOn (s, buffer) = let f = normalForm s buffer in (normalNumber (f .answer), f .buffer)
+
+-- of so many bytes, which are written in 165 more
+abbrev growing : ℕ → List ℕ
+growing n = text "0-59 * * * * " ++ replicate (n - 13) 97
+
+forms : Hold formOn
+    -- the bytes behind stay
+    (((text "# a\nA = 'b'\n@hourly\tc", text "------------------"), (16, text "A=b\n0 * * * * c\n--"))
+    -- a byte too few: 18
+    ∷ ((text "@reboot  x", text "---------"), (4294967314, text "---------"))
+    -- a line of 1,001 bytes: 21, before 18, which one of 1,000 gets; the table's own refusal comes first, wherever it stands
+    ∷ ((growing 836, text "-"), (4294967317, text "-"))
+    ∷ ((growing 835, text "-"), (4294967314, text "-"))
+    ∷ ((growing 836 ++ text "\n60", text "-"), (4294967302, text "-"))
+    ∷ [])
+unfolding answering
+forms = refl
 
 -- ---- the line of waiting jobs
 

@@ -6,6 +6,7 @@ pub mod Entries
 pub mod Commands
 pub mod Settings
 pub mod Owners
+pub mod NormalForms
 pub mod Queue
 pub mod Computing
 pub mod Examples

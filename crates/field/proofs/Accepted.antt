@@ -50,7 +50,7 @@ pub record Gathered (l : Limits) (set : ℕ) (star : Bool) (es : List Element) (
   pub sets : set' ≡ withElements l set es
   pub flag : star' ≡ star
 
-clash : {number column set : ℕ} {star : Bool} → Refused number column ≡ Values set star → ⊥
+pub clash : {number column set : ℕ} {star : Bool} → Refused number column ≡ Values set star → ⊥
 clash q = let z : _≡_ {A = ℕ} 0 1 = cc in omega arith
 
 inside : (l : Limits) (n : ℕ) → outside l n ≡ false → (l .first ≤ n) × (n ≤ l .last)

@@ -1,5 +1,7 @@
 pub mod Parts
 pub mod Numbers
+pub mod UsualLimits
+pub mod NumberTexts
 pub mod Elements
 pub mod Naming
 pub mod Steps
@@ -10,4 +12,10 @@ pub mod Fields
 pub mod Refusals
 pub mod Accepted
 pub mod Members
+pub mod SetBounds
+pub mod StarTexts
+pub mod ListTexts
+pub mod RoundTrip
+pub mod TextBytes
+pub mod Writing
 pub mod Theorems

@@ -2,7 +2,7 @@
 -- `values-members`: an element's values are those in its range that are a multiple of its step after its first value.
 -- Assumes nothing.
 use mathlib.Core.Path.{_≡_, refl, sym, ap, _∙_}
-use mathlib.Core.Bool.{Bool, true, false, cond, _||_, and-false, or-false, or-assoc}
+use mathlib.Core.Bool.{Bool, true, false, cond, _||_, false≢true, and-false, or-false, or-true, or-assoc}
 use mathlib.Core.List.{List, [], _∷_, _++_, map}
 use Prim.Native.Nat.{ℕ, zero, suc, _+_, _-_, _%_, _≤_, _<_}
 use native.Mathlib.Nat.{lt-of-not-le, mod-eq-of-lt, mod-eq-sub-mod, zero-mod}
@@ -78,6 +78,16 @@ values-members low high step v h p =
 
 -- ---- the bits of a set
 
+pub map-in : (f : ℕ → ℕ) (v : ℕ) (vs : List ℕ) → isIn v vs ≡ true → isIn (f v) (map f vs) ≡ true
+unfolding isIn
+map-in f v [] e = absurd (false≢true e)
+map-in f v (u ∷ vs) e = go (eqb u v) refl e (λ k. map-in f v vs k)
+  where
+    go : (t : Bool) → eqb u v ≡ t → (t || isIn v vs) ≡ true → (isIn v vs ≡ true → isIn (f v) (map f vs) ≡ true)
+        → (eqb (f u) (f v) || isIn (f v) (map f vs)) ≡ true
+    go true q e later = rw (eq-eqb (f u) (f v) (ap f (eqb-true u v q)))
+    go false q e later = rw (later e) (or-true (eqb (f u) (f v)))
+
 module _ (n : ℕ) (h : n < 64) where
   put-has : (set b : ℕ) → hasBit (put set b) n ≡ (eqb b n || hasBit set n)
   unfolding put
@@ -89,7 +99,7 @@ module _ (n : ℕ) (h : n < 64) where
       go false true e f = absurd (let x = ltb-false b 64 e in let y = eqb-true b n f in omega arith)
       go false false e f = refl
 
-  including-has : (l : Limits) (set : ℕ) (vs : List ℕ) → hasBit (including l set vs) n ≡ (isIn n (map (bitOf l) vs) || hasBit set n)
+  pub including-has : (l : Limits) (set : ℕ) (vs : List ℕ) → hasBit (including l set vs) n ≡ (isIn n (map (bitOf l) vs) || hasBit set n)
   unfolding including isIn
   including-has l set [] = refl
   including-has l set (v ∷ vs) =

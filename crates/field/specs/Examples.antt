@@ -2,7 +2,7 @@
 -- Assumes nothing.
 use Prim.Native.Nat.{ℕ}
 use mathlib.Core.Path.{refl}
-use mathlib.Core.Bool.{true, false}
+use mathlib.Core.Bool.{Bool, true, false}
 use mathlib.Core.List.{List, [], _∷_}
 use Rattle.bytes.specs.Texts.{text}
 use Rattle.bytes.specs.Rows.{Hold}
@@ -12,7 +12,8 @@ use Rattle.field.specs.declared.Answer.{Answer}
 use Rattle.field.specs.declared.Answer.the-variants.{Values, Refused}
 use Rattle.field.specs.Limits.{minuteLimits, hourLimits, dayLimits, monthLimits, weekdayLimits}
 use Rattle.field.specs.Fields.{readField}
-use Rattle.field.specs.Computing.{reading}
+use Rattle.field.specs.Written.{fieldText, isField}
+use Rattle.field.specs.Computing.{reading, writing}
 
 -- a field's bytes under its limits, at a line's first column
 abbrev read : Limits × List ℕ → Answer
@@ -128,3 +129,58 @@ weekday-names : Hold read
     ∷ [])
 unfolding reading
 weekday-names = refl
+
+-- ---- Ticket 2026-06: back to a text
+
+-- a set's values and the flag, under limits
+abbrev write : Limits × (List ℕ × Bool) → List ℕ
+write (limits, (values, star)) = fieldText limits (setOf values) star
+
+written : Hold write
+    -- every value, flagged
+    (((minuteLimits, (upTo 0 59, true)), text "*")
+    ∷ ((dayLimits, (upTo 1 31, true)), text "*")
+    ∷ ((weekdayLimits, (upTo 0 6, true)), text "*")
+    -- the smallest step that gives the set
+    ∷ ((monthLimits, (1 ∷ 3 ∷ 5 ∷ 7 ∷ 9 ∷ 11 ∷ [], true)), text "*/2")
+    ∷ ((minuteLimits, (0 ∷ 30 ∷ [], true)), text "*/30")
+    ∷ ((minuteLimits, (0 ∷ 59 ∷ [], true)), text "*/59")
+    -- `*/9999` is the first value alone
+    ∷ ((minuteLimits, (0 ∷ [], true)), text "*/60")
+    ∷ ((hourLimits, (0 ∷ [], true)), text "*/24")
+    ∷ ((dayLimits, (1 ∷ [], true)), text "*/31")
+    ∷ ((monthLimits, (1 ∷ [], true)), text "*/12")
+    ∷ ((monthLimits, (1 ∷ 12 ∷ [], true)), text "*/11")
+    -- 0 and 7, both Sunday
+    ∷ ((weekdayLimits, (0 ∷ [], true)), text "*/7")
+    ∷ ((weekdayLimits, (0 ∷ 6 ∷ [], true)), text "*/6")
+    -- numbers, rising, also where every value is there
+    ∷ ((minuteLimits, (5 ∷ [], false)), text "5")
+    ∷ ((minuteLimits, (59 ∷ 0 ∷ 10 ∷ 9 ∷ [], false)), text "0,9,10,59")
+    ∷ ((monthLimits, (upTo 1 12, false)), text "1,2,3,4,5,6,7,8,9,10,11,12")
+    ∷ ((dayLimits, (31 ∷ 1 ∷ [], false)), text "1,31")
+    -- Friday, Saturday, Sunday
+    ∷ ((weekdayLimits, (5 ∷ 6 ∷ 0 ∷ [], false)), text "0,5,6")
+    ∷ [])
+unfolding writing
+written = refl
+
+-- whether a field may mean a set and a flag
+abbrev mean : Limits × (List ℕ × Bool) → Bool
+mean (limits, (values, star)) = isField limits (setOf values) star
+
+meant : Hold mean
+    (((minuteLimits, (upTo 0 59, true)), true)
+    ∷ ((monthLimits, (1 ∷ 7 ∷ [], true)), true)
+    -- no step leads from 0 to 1 and ends there, or leaves the first value out
+    ∷ ((minuteLimits, (0 ∷ 1 ∷ [], true)), false)
+    ∷ ((minuteLimits, (30 ∷ [], true)), false)
+    ∷ ((minuteLimits, ([], true)), false)
+    ∷ ((minuteLimits, (0 ∷ 1 ∷ [], false)), true)
+    ∷ ((minuteLimits, (60 ∷ [], false)), false)
+    ∷ ((dayLimits, (0 ∷ 1 ∷ [], false)), false)
+    ∷ ((weekdayLimits, (0 ∷ 7 ∷ [], false)), false)
+    ∷ ((weekdayLimits, ([], false)), false)
+    ∷ [])
+unfolding writing
+meant = refl

@@ -9,5 +9,6 @@ pub mod Refusals
 pub mod Judgement
 pub mod Fields
 pub mod Members
+pub mod Written
 pub mod Computing
 pub mod Examples

@@ -1,10 +1,25 @@
--- What the functions inside promise each other. What a reader must believe is in Values.
+-- What the functions inside promise each other. What a reader must believe is in Values and Written.
 -- Assumes nothing.
-use Prim.Native.Nat.{ℕ, _-_}
-use mathlib.Core.Bool.{cond, _&&_}
+use Prim.Native.Nat.{ℕ, _-_, _≤_, _<_}
+use mathlib.Core.Bool.{Bool, true, false, cond, _&&_}
+use mathlib.Core.List.{List, [], _∷_}
 use lib.Dec.{eqb, ltb}
 use Rattle.field.specs.declared.Limits.{Limits}
+use Rattle.field.specs.Written.{having, afterCommas, listText}
 
 -- the last value of a range that says something new: where 0 is in it, the value after the last bit doesn't
 unfoldable pub lastNew : Limits → ℕ → ℕ → ℕ
 lastNew l low high = cond ((eqb low 0 && ltb 0 high) && eqb high (l .bits)) (high - 1) high
+
+-- limits whose values have bits in a word
+abbrev pub InWord : Limits → Type 0
+InWord l = (l .first ≤ l .last) × (l .last < 64)
+
+-- what is left of a list to write: all of it where nothing is written yet, otherwise with a comma in front
+unfoldable pub listRest : Bool → List ℕ → List ℕ
+listRest true vs = listText vs
+listRest false vs = afterCommas vs
+
+-- a value alone, if the set has it
+unfoldable pub memberText : Bool → ℕ → ℕ → List ℕ
+memberText first set v = listRest first (having set (v ∷ []))

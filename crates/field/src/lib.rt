@@ -1,9 +1,11 @@
-// One time field of a crontab line (paper 01, "Fields"): from its bytes to the set of its values, or the refusal with its column.
+// One time field of a crontab line (paper 01, "Fields"): from its bytes to the set of its values, or the refusal with its column; and
+// from a set back to its text.
 mod element;
 mod list;
 mod name;
 mod number;
 mod values;
+pub mod written;
 
 ghost use mathlib.Core.Path.{_≡_};
 ghost use Rattle.field.specs.Fields.{starElement, readField};

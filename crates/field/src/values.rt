@@ -13,7 +13,7 @@ use crate::STEP_ZERO;
 use crate::element::Element;
 
 // The bit of a value: as a weekday, 7 is Sunday as 0 is, since there are bits for seven days.
-fn bit_of(limits: Limits, value: u64) -> u64
+pub(crate) fn bit_of(limits: Limits, value: u64) -> u64
     ensures { λ r. ⌜ r ≡ bitOf limits value ⌝ }
 {
     let bits = limits.bits as u64;
@@ -58,7 +58,7 @@ fn last_new(limits: Limits, low: u16, high: u16) -> u16
 }
 
 // As with_range does, but a single run of values that have their own bits at once.
-fn with_values(set: u64, limits: Limits, low: u16, high: u16, step: u16) -> u64
+pub(crate) fn with_values(set: u64, limits: Limits, low: u16, high: u16, step: u16) -> u64
     requires { ⌜ (low ≤ high) × (0 < step) ⌝ }
     ensures { λ r. ⌜ r ≡ including limits set (valuesOf low high step) ⌝ }
 {

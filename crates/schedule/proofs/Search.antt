@@ -1,9 +1,9 @@
--- Laws of the least number that passes: what it is, said with no recursion, and how a search goes on, stops and splits.
+-- Laws of the least number that passes, for a number of two digits; those of any search are in crate `bytes`.
 -- Assumes nothing.
-use mathlib.Core.Path.{_≡_, refl, sym, ap, _∙_}
-use mathlib.Core.Bool.{Bool, true, false, cond, _&&_, true≢false}
+use mathlib.Core.Path.{_≡_, sym, ap, _∙_}
+use mathlib.Core.Bool.{Bool, true, false, _&&_}
 use mathlib.Core.Logic.{_⊎_, inl, inr}
-use Prim.Native.Nat.{ℕ, zero, suc, _+_, _-_, _*_, _/_, _%_, _≤_, _<_}
+use Prim.Native.Nat.{ℕ, _+_, _-_, _*_, _/_, _%_, _≤_, _<_}
 use native.Mathlib.Nat.{lt-of-not-le, le-div-iff-mul-le, div-lt-iff-lt-mul, mul-le-mul-right, mod-lt, div-add-mod'}
 use native.Mathlib.Decide.{decLe}
 use native.Mathlib.Omega.{arith}
@@ -11,107 +11,8 @@ use lib.Arith.{digits-div, digits-mod}
 use lib.Dec.{ltb}
 use borrow.Author.Tests.{ltb-true, ltb-false}
 use Rattle.calendar.proofs.Tests.{and-true, and-false, false-and}
-use Rattle.schedule.specs.Search.{leastOf, from}
-
--- n is the least number from a on and below e that passes p, or e
-pub record Least (p : ℕ → Bool) (e a n : ℕ) : Type 0 where
-  pub low : a ≤ n
-  pub high : n ≤ e
-  pub passes : n < e → p n ≡ true
-  pub none : (k : ℕ) → a ≤ k → k < n → p k ≡ false
-
--- there is one such number only
-pub least-one : {p : ℕ → Bool} {e a n m : ℕ} → Least p e a n → Least p e a m → n ≡ m
-least-one {p} {e} {a} {n} {m} f g = elim (decLe n m) [ yes h ↦ elim (decLe m n) [ yes k ↦ omega arith | no k ↦ absurd (apart f g (lt-of-not-le k)) ] | no h ↦ absurd (apart g f (lt-of-not-le h)) ]
-  where
-    apart : {x y : ℕ} → Least p e a x → Least p e a y → x < y → ⊥
-    apart {x} {y} f g h = true≢false (sym (f .passes (omega (arith, g .high))) ∙ g .none x (f .low) h)
-
-pub leastOf-least : (p : ℕ → Bool) (n a : ℕ) → Least p (a + n) a (leastOf p n a)
-unfolding leastOf
-leastOf-least p zero a = record { low = omega arith; high = omega arith; passes = λ h. absurd (omega arith); none = λ k h l. absurd (omega arith) }
-leastOf-least p (suc n) a = go (p a) refl (leastOf-least p n (suc a))
-  where
-    same : (k : ℕ) → a ≤ k → k < suc a → k ≡ a
-    same k h j = omega arith
-
-    go : (b : Bool) → p a ≡ b → Least p (suc a + n) (suc a) (leastOf p n (suc a))
-        → Least p (a + suc n) a (cond b a (leastOf p n (suc a)))
-    go true e l = record { low = omega arith; high = omega arith; passes = λ h. e; none = λ k h i. absurd (omega arith) }
-    go false e l =
-        record {
-          low = omega (arith, l .low);
-          high = omega (arith, l .high);
-          passes = λ h. l .passes (omega arith);
-          none = λ k h i. elim (decLe (suc a) k) [ yes j ↦ l .none k j i | no j ↦ rw (same k h (lt-of-not-le j)) e ];
-        }
-
-pub from-least : (p : ℕ → Bool) (e a : ℕ) → a ≤ e → Least p e a (from p e a)
-unfolding from
-from-least p e a h = let q : a + (e - a) ≡ e = omega arith in rw q at (leastOf-least p (e - a) a)
-
-pub least-from : {p : ℕ → Bool} {e a n : ℕ} → a ≤ e → Least p e a n → n ≡ from p e a
-least-from {p} {e} {a} h l = least-one l (from-least p e a h)
-
--- something passes just where the least number is below the end
-pub from-some : (p : ℕ → Bool) (e a n : ℕ) → a ≤ n → n < e → p n ≡ true → from p e a < e
-from-some p e a n h k t = elim (decLe e (from p e a)) [ yes l ↦ absurd (true≢false (sym t ∙ from-least p e a (omega arith) .none n h (omega arith))) | no l ↦ lt-of-not-le l ]
-
-pub some-from : (p : ℕ → Bool) (e a : ℕ) → a ≤ e → from p e a < e → (n : ℕ) × (a ≤ n) × (n < e) × (p n ≡ true)
-some-from p e a h k = let l = from-least p e a h in (from p e a, l .low, k, l .passes k)
-
--- ---- one step of a search
-
-pub from-stop : (p : ℕ → Bool) (e a : ℕ) → a < e → p a ≡ true → a ≡ from p e a
-from-stop p e a h t = least-from (omega arith) (record { low = omega arith; high = omega arith; passes = λ _. t; none = λ k i j. absurd (omega arith) })
-
-pub from-past : (p : ℕ → Bool) (e a : ℕ) → e ≤ a → a ≡ from p e a
-unfolding from leastOf
-from-past p e a h = let z : e - a ≡ 0 = omega arith in rw z
-
-pub from-none : (p : ℕ → Bool) (e a : ℕ) → a ≤ e → ((k : ℕ) → a ≤ k → k < e → p k ≡ false) → e ≡ from p e a
-from-none p e a h none = least-from h (record { low = h; high = omega arith; passes = λ k. absurd (omega arith); none = none })
-
--- where nothing passes up to b, a search may start there
-pub from-skip : (p : ℕ → Bool) (e a b : ℕ) → a ≤ b → b ≤ e → ((k : ℕ) → a ≤ k → k < b → p k ≡ false) → from p e b ≡ from p e a
-from-skip p e a b h k none =
-    let l = from-least p e b k in
-    least-from (omega arith)
-    (record {
-      low = omega (arith, l .low);
-      high = l .high;
-      passes = l .passes;
-      none = λ i u v. elim (decLe b i) [ yes w ↦ l .none i w v | no w ↦ none i u (lt-of-not-le w) ];
-    })
-
-pub from-next : (p : ℕ → Bool) (e a : ℕ) → a < e → p a ≡ false → from p e (a + 1) ≡ from p e a
-from-next p e a h f = from-skip p e a (a + 1) (omega arith) (omega arith) (λ k i j. rw (same k i j) f)
-  where
-    same : (k : ℕ) → a ≤ k → k < a + 1 → k ≡ a
-    same k i j = omega arith
-
--- what is found in a part of the range is found in all of it, and where nothing is, the search goes on behind it
-pub from-part : (p : ℕ → Bool) (e b a : ℕ) → a ≤ b → b ≤ e → from p b a < b → from p b a ≡ from p e a
-from-part p e b a h k f =
-    let l = from-least p b a h in
-    least-from (omega arith) (record { low = l .low; high = omega (arith, l .high); passes = λ _. l .passes f; none = l .none })
-
-pub from-behind : (p : ℕ → Bool) (e b a : ℕ) → a ≤ b → b ≤ e → b ≤ from p b a → from p e b ≡ from p e a
-from-behind p e b a h k f =
-    let l = from-least p b a h in
-    from-skip p e a b h k (λ i u v. l .none i u (omega (arith, l .high)))
-
--- tests that agree on the range have the same least number
-pub from-same : (p q : ℕ → Bool) (e a : ℕ) → a ≤ e → ((k : ℕ) → a ≤ k → k < e → p k ≡ q k) → from p e a ≡ from q e a
-from-same p q e a h same =
-    let l = from-least p e a h in
-    least-from h
-    (record {
-      low = l .low;
-      high = l .high;
-      passes = λ k. sym (same _ (l .low) k) ∙ l .passes k;
-      none = λ k u v. sym (same k u (omega (arith, l .high))) ∙ l .none k u v;
-    })
+use Rattle.schedule.specs.Search.{from}
+pub use Rattle.bytes.proofs.Search.{Least, least-one, leastOf-least, from-least, least-from, from-some, some-from, from-stop, from-past, from-none, from-skip, from-next, from-part, from-behind, from-same}
 
 -- ---- a search by two digits: of numbers x * k + y with y < k, where x passes a and y passes b
 

@@ -11,7 +11,7 @@ use Rattle.schedule.specs.declared.Schedule.{Schedule}
 use Rattle.schedule.specs.Match.{matches}
 use Rattle.schedule.specs.Computing.{firing}
 
--- the values of the five fields in their order, and which day fields begin with `*`
+-- the values of the five fields in their order, and which of them begin with `*`
 abbrev fields : List ℕ → List ℕ → List ℕ → List ℕ → List ℕ → Stars → Schedule
 fields minutes hours days months weekdays stars =
     record {
@@ -23,46 +23,41 @@ fields minutes hours days months weekdays stars =
       stars = stars;
     }
 
-abbrev noStar : Stars
-noStar = record { days = false; weekdays = false }
-
-abbrev starDays : Stars
-starDays = record { days = true; weekdays = false }
-
-abbrev starWeekdays : Stars
-starWeekdays = record { days = false; weekdays = true }
+-- minutes and hours, which these schedules have as numbers, don't
+abbrev starsAt : Bool → Bool → Bool → Stars
+starsAt days months weekdays = record { minutes = false; hours = false; days = days; months = months; weekdays = weekdays }
 
 -- `0 0 29 2 *`
 unfoldable pub leapDay : Schedule
-leapDay = fields (0 ∷ []) (0 ∷ []) (29 ∷ []) (2 ∷ []) (upTo 0 6) starWeekdays
+leapDay = fields (0 ∷ []) (0 ∷ []) (29 ∷ []) (2 ∷ []) (upTo 0 6) (starsAt false false true)
 
 -- `30 4 1,15 * 5`: the 1st, the 15th and each Friday
 unfoldable pub fridays : Schedule
-fridays = fields (30 ∷ []) (4 ∷ []) (1 ∷ 15 ∷ []) (upTo 1 12) (5 ∷ []) noStar
+fridays = fields (30 ∷ []) (4 ∷ []) (1 ∷ 15 ∷ []) (upTo 1 12) (5 ∷ []) (starsAt false true false)
 
 -- `0 0 30 2 *`
 unfoldable pub february30 : Schedule
-february30 = fields (0 ∷ []) (0 ∷ []) (30 ∷ []) (2 ∷ []) (upTo 0 6) starWeekdays
+february30 = fields (0 ∷ []) (0 ∷ []) (30 ∷ []) (2 ∷ []) (upTo 0 6) (starsAt false false true)
 
 -- `0 0 30 2 1`: the Mondays of February
 unfoldable pub mondays30 : Schedule
-mondays30 = fields (0 ∷ []) (0 ∷ []) (30 ∷ []) (2 ∷ []) (1 ∷ []) noStar
+mondays30 = fields (0 ∷ []) (0 ∷ []) (30 ∷ []) (2 ∷ []) (1 ∷ []) (starsAt false false false)
 
 -- `0 0 31 12 *`
 unfoldable pub lastDay : Schedule
-lastDay = fields (0 ∷ []) (0 ∷ []) (31 ∷ []) (12 ∷ []) (upTo 0 6) starWeekdays
+lastDay = fields (0 ∷ []) (0 ∷ []) (31 ∷ []) (12 ∷ []) (upTo 0 6) (starsAt false false true)
 
 -- `0 0 * * 1`: Mondays, and no other day
 unfoldable pub mondays : Schedule
-mondays = fields (0 ∷ []) (0 ∷ []) (upTo 1 31) (upTo 1 12) (1 ∷ []) starDays
+mondays = fields (0 ∷ []) (0 ∷ []) (upTo 1 31) (upTo 1 12) (1 ∷ []) (starsAt true true false)
 
 -- `0 0 */2 * 1`: Mondays on odd days
 unfoldable pub oddMondays : Schedule
-oddMondays = fields (0 ∷ []) (0 ∷ []) (1 ∷ 3 ∷ 5 ∷ 7 ∷ 9 ∷ 11 ∷ 13 ∷ 15 ∷ 17 ∷ 19 ∷ 21 ∷ 23 ∷ 25 ∷ 27 ∷ 29 ∷ 31 ∷ []) (upTo 1 12) (1 ∷ []) starDays
+oddMondays = fields (0 ∷ []) (0 ∷ []) (1 ∷ 3 ∷ 5 ∷ 7 ∷ 9 ∷ 11 ∷ 13 ∷ 15 ∷ 17 ∷ 19 ∷ 21 ∷ 23 ∷ 25 ∷ 27 ∷ 29 ∷ 31 ∷ []) (upTo 1 12) (1 ∷ []) (starsAt true true false)
 
 -- `0 0 29 2 */7`: 29 February on a Sunday
 unfoldable pub leapSundays : Schedule
-leapSundays = fields (0 ∷ []) (0 ∷ []) (29 ∷ []) (2 ∷ []) (0 ∷ []) starWeekdays
+leapSundays = fields (0 ∷ []) (0 ∷ []) (29 ∷ []) (2 ∷ []) (0 ∷ []) (starsAt false false true)
 
 -- all of them, to be computed
 unfoldable pub schedules : Unit {0}

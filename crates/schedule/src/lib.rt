@@ -23,9 +23,12 @@ pub const NEVER: u8 = 16;
 
 pub const PAST_END: u8 = 17;
 
-// Which of the two day fields begin with `*`.
+// Which fields begin with `*`. Matching looks at the two day fields alone.
 pub struct Stars {
+    pub minutes: bool,
+    pub hours: bool,
     pub days: bool,
+    pub months: bool,
     pub weekdays: bool,
 }
 

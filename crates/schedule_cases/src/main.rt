@@ -30,7 +30,10 @@ fn schedule_in(case: &[u8; 32]) -> Schedule {
     let small = quad(case, 16);
     let flags = small / 16_777_216;
     let stars = Stars {
+        minutes: false,
+        hours: false,
         days: flags % 2 == 1,
+        months: false,
         weekdays: flags / 2 % 2 == 1,
     };
     Schedule {

@@ -1,7 +1,7 @@
 -- A schedule by plain numbers, and its answers as plain numbers.
 -- Assumes nothing.
 use Prim.Native.Nat.{ℕ, _+_, _/_, _%_}
-use mathlib.Core.Bool.{cond}
+use mathlib.Core.Bool.{false, cond}
 use lib.Dec.{eqb, leb}
 use Rattle.calendar.specs.Refusals.{notOnCalendar}
 use Rattle.calendar.specs.Dates.{lastMinute}
@@ -17,7 +17,7 @@ scheduleOf minutes hours days months weekdays stars =
       days = days % 4294967296;
       months = months % 65536;
       weekdays = weekdays % 256;
-      stars = record { days = eqb (stars % 2) 1; weekdays = eqb (stars / 2 % 2) 1 };
+      stars = record { minutes = false; hours = false; days = eqb (stars % 2) 1; months = false; weekdays = eqb (stars / 2 % 2) 1 };
     }
 
 -- a minute off the calendar is refused first, as the table's callers have it

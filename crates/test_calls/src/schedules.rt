@@ -4,7 +4,7 @@ ghost use Rattle.test_calls.specs.Schedules.{scheduleOf, nextNumber, mat
 use schedule::Schedule;
 use schedule::Stars;
 
-// The sets by their numbers, cut to their widths; bit 0 of `stars` is for the days, bit 1 for the weekdays.
+// The sets by their numbers, cut to their widths; bit 0 of `stars` is for the days, bit 1 for the weekdays, and no other field begins with `*`.
 fn schedule_of(
     minutes: u64,
     hours: u64,
@@ -16,7 +16,10 @@ fn schedule_of(
     ensures { λ r. ⌜ r ≡ scheduleOf minutes hours days months weekdays stars ⌝ }
 {
     let begin = Stars {
+        minutes: false,
+        hours: false,
         days: stars % 2 == 1,
+        months: false,
         weekdays: stars / 2 % 2 == 1,
     };
     Schedule {

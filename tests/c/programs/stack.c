@@ -12,7 +12,7 @@ enum { STACK = 1 << 20, PATTERN = 0xA5, ROOM = 8 * EREMOTHYN_MAX_ENTRIES + 64 };
 
 static uint8_t stack[STACK];
 static uint8_t room[ROOM], shell[EREMOTHYN_MAX_LINE], input[EREMOTHYN_MAX_LINE];
-static uint8_t table[EREMOTHYN_MAX_TABLE];
+static uint8_t table[EREMOTHYN_MAX_TABLE], text[EREMOTHYN_MAX_TABLE];
 static size_t length;
 static uint64_t kind;
 
@@ -28,6 +28,7 @@ static void split_command(void)
 }
 static void user_offset(void) { eremothyn_user_offset(table, length, kind, 511); }
 static void setting_value_length(void) { eremothyn_setting_value_length(table, length, kind, 1); }
+static void normal_form(void) { eremothyn_normal_form(table, length, text, sizeof text); }
 static void queue_init(void) { eremothyn_queue_init(table, length, kind, room, sizeof room); }
 static void queue_tick(void) { eremothyn_queue_tick(table, length, kind, room, sizeof room, 0); }
 static void queue_pop(void) { eremothyn_queue_pop(table, length, kind, room, sizeof room); }
@@ -48,6 +49,7 @@ static const struct call {
     {"split_command", split_command},
     {"user_offset", user_offset},
     {"setting_value_length", setting_value_length},
+    {"normal_form", normal_form},
     {"queue_init", queue_init},
     {"queue_tick", queue_tick},
     {"queue_pop", queue_pop},

@@ -1,5 +1,9 @@
 //! Compiling and running C programs at the repository's root.
 
+mod subcommand;
+
+pub use subcommand::Subcommand;
+
 use std::ffi::OsStr;
 use std::fs;
 use std::path::{Path, PathBuf};

@@ -1,51 +1,11 @@
 //! `eremothyn check`: what it says of good and bad tables, and of files that it can't read.
 
-use c::{build_command, complaint, scratch, told, word};
+use c::{complaint, told, word, Subcommand};
 use second::table::{read, samples, Kind};
-use std::ffi::OsStr;
-use std::fs;
-use std::io::Write;
 use std::path::PathBuf;
-use std::process::{Command, Output, Stdio};
 
-/// The command, built for a test, and the folder that it runs in.
-struct Check {
-    folder: PathBuf,
-    program: PathBuf,
-}
-
-impl Check {
-    fn new(name: &str) -> Check {
-        let folder = scratch(name);
-        let program = build_command(&folder);
-        Check { folder, program }
-    }
-
-    fn write(&self, name: &str, table: impl AsRef<[u8]>) -> PathBuf {
-        let path = self.folder.join(name);
-        fs::write(&path, table).expect("the table is written");
-        path
-    }
-
-    fn run<A: AsRef<OsStr>>(&self, arguments: &[A]) -> Output {
-        self.run_with(arguments, b"")
-    }
-
-    /// The same with a standard input.
-    fn run_with<A: AsRef<OsStr>>(&self, arguments: &[A], input: &[u8]) -> Output {
-        let mut child = Command::new(&self.program)
-            .current_dir(&self.folder)
-            .arg("check")
-            .args(arguments)
-            .stdin(Stdio::piped())
-            .stdout(Stdio::piped())
-            .stderr(Stdio::piped())
-            .spawn()
-            .expect("the command runs");
-        // A command that doesn't read its input may be gone already.
-        let _ = child.stdin.take().expect("a pipe").write_all(input);
-        child.wait_with_output().expect("the command ends")
-    }
+fn check_in(folder: &str) -> Subcommand {
+    Subcommand::new("check", folder)
 }
 
 /// The paper's words of each fault, in short, and a table that has it: line and column beside.
@@ -63,7 +23,7 @@ const FAULTS: [(u64, &str, &str, &str); 9] = [
 
 #[test]
 fn a_good_table_is_counted_and_a_bad_one_is_refused_with_its_place() {
-    let check = Check::new("check-faults");
+    let check = check_in("check-faults");
     let says = |table: &str| {
         let path = check.write("table", table);
         let (text, status) = told(&check.run(&[&path]));
@@ -103,7 +63,7 @@ fn a_good_table_is_counted_and_a_bad_one_is_refused_with_its_place() {
 /// With the option every file is a system table, wherever the option stands, and once is enough.
 #[test]
 fn system_tables_have_a_user_before_each_command() {
-    let check = Check::new("check-system");
+    let check = check_in("check-system");
     check.write("user", "0 0 * * * demo\n");
     check.write("system", "A=b\n0 0 * * * root demo\n@reboot u:g/l demo%x\n");
     check.write("malformed", "# one\n0 0 * * * -u demo\n");
@@ -166,7 +126,7 @@ fn system_tables_have_a_user_before_each_command() {
 /// Names are printed as they were given; behind `--` they may look like options.
 #[test]
 fn long_and_odd_names_are_names() {
-    let check = Check::new("check-names");
+    let check = check_in("check-names");
     let long = "n".repeat(255);
     for name in [
         "--help",
@@ -192,7 +152,7 @@ fn long_and_odd_names_are_names() {
 
 #[test]
 fn a_dash_is_standard_input() {
-    let check = Check::new("check-input");
+    let check = check_in("check-input");
     check.write("-", "@");
     let rows: [(&[&str], &[u8], &str, i32); 5] = [
         (&["-"], b"@daily x\n", "-: 1 entries\n", 0),
@@ -218,7 +178,7 @@ fn a_dash_is_standard_input() {
 
 #[test]
 fn several_files_get_a_line_each_and_the_worst_status() {
-    let check = Check::new("check-several");
+    let check = check_in("check-several");
     check.write("good", "");
     check.write("bad", "@");
     let status = |names: &[&str]| {
@@ -233,7 +193,7 @@ fn several_files_get_a_line_each_and_the_worst_status() {
 
 #[test]
 fn what_cannot_be_read_is_said() {
-    let check = Check::new("check-unreadable");
+    let check = check_in("check-unreadable");
     for (name, why) in [
         ("missing", "No such file or directory"),
         (word(&check.folder), "Is a directory"),
@@ -254,7 +214,7 @@ fn what_cannot_be_read_is_said() {
 /// Wrong arguments are said before any file is read.
 #[test]
 fn wrong_arguments_are_said() {
-    let check = Check::new("check-misused");
+    let check = check_in("check-misused");
     check.write("good", "");
     let hint = "See 'eremothyn check --help'.\n";
     let rows: [(&[&str], &str); 10] = [
@@ -282,13 +242,13 @@ fn wrong_arguments_are_said() {
 /// Random good and damaged tables in one call: each line is what the second program says.
 #[test]
 fn it_says_what_the_second_program_says() {
-    let check = Check::new("check-random");
+    let check = check_in("check-random");
     for (kind, option) in [(Kind::User, None), (Kind::System, Some("-s"))] {
         compare_random(&check, kind, option);
     }
 }
 
-fn compare_random(check: &Check, kind: Kind, option: Option<&str>) {
+fn compare_random(check: &Subcommand, kind: Kind, option: Option<&str>) {
     let mut random = second::random::Random::seeded();
     let mut paths = Vec::new();
     let mut expected = Vec::new();

@@ -1,4 +1,4 @@
-//! What the README shows is what the commands print, and what PROMISES.md names is there.
+//! What the README and the manual show is what the commands print, and what PROMISES.md names is there.
 
 use c::{make, root, run, told};
 use std::collections::HashSet;
@@ -38,27 +38,47 @@ fn eremothyn_check_prints_what_is_shown() {
     assert!(shown().contains(&text), "the README doesn't show:\n{text}");
 }
 
+/// A command and what it prints stand in a block.
+fn prints_what_is_shown(program: &str, arguments: &str) {
+    let _ = make(&["all"]);
+    let words: Vec<&str> = arguments.split(' ').collect();
+    let (text, status) = told(&run(root().join(program), &words));
+    assert_eq!(status, Some(0));
+    let block = format!("$ {program} {arguments}\n{text}");
+    assert!(
+        shown().iter().any(|shown| shown.contains(&block)),
+        "the README doesn't show:\n{block}"
+    );
+}
+
 #[test]
 fn the_system_table_is_checked_and_run_as_shown() {
+    prints_what_is_shown("target/c/eremothyn", "check -s examples/system.crontab");
+    prints_what_is_shown(
+        "target/c/daemon",
+        "-s examples/system.crontab 1 2026-11-15T21:29 2026-11-15T21:32",
+    );
+}
+
+#[test]
+fn eremothyn_format_prints_what_is_shown() {
+    prints_what_is_shown("target/c/eremothyn", "format examples/observatory.crontab");
+}
+
+/// The examples of the page, each a command and what it prints.
+#[test]
+fn the_page_of_format_shows_what_is_printed() {
     let _ = make(&["all"]);
-    let file = "examples/system.crontab";
-    let blocks = shown();
-    // A block is a command, and what it prints.
-    for (program, arguments) in [
-        ("target/c/eremothyn", format!("check -s {file}")),
-        (
-            "target/c/daemon",
-            format!("-s {file} 1 2026-11-15T21:29 2026-11-15T21:32"),
-        ),
-    ] {
-        let words: Vec<&str> = arguments.split(' ').collect();
-        let (text, status) = told(&run(root().join(program), &words));
-        assert_eq!(status, Some(0));
-        let block = format!("$ {program} {arguments}\n{text}");
-        assert!(
-            blocks.iter().any(|shown| shown.contains(&block)),
-            "the README doesn't show:\n{block}"
-        );
+    let page = fs::read_to_string(root().join("packaging/eremothyn-format.1")).expect("the page");
+    let (_, rest) = page.split_once(".EX\n$ ").expect("examples");
+    let (examples, _) = rest.split_once(".EE\n").expect("their end");
+    let examples = examples.replace("\\-", "-").replace("\\e", "\\");
+    for example in examples.split("\n$ ") {
+        let (command, text) = example.split_once('\n').expect("a command");
+        let script = format!("PATH=target/c:$PATH; {command}");
+        let (found, status) = told(&run("sh", &["-c", &script]));
+        assert_eq!(found.trim_end(), text.trim_end(), "{command}");
+        assert_eq!(status, Some(0), "{command}");
     }
 }
 

@@ -131,7 +131,7 @@ fn the_manual_has_all_of_the_header() {
         names
     };
     let functions = names("eremothyn_");
-    assert_eq!(functions.len(), 28);
+    assert_eq!(functions.len(), 29);
     for function in &functions {
         assert!(page.contains(&format!("{function}(")), "{function}");
         let found = fs::read_to_string(format!("{manual}/man3/{function}.3"))

@@ -10,7 +10,7 @@ fn no_call_takes_more_stack_than_may_be() {
     let program = build(&["tests/c/programs/stack.c"], &scratch("stack"));
     let (text, status) = told(&run(program, &[""; 0]));
     assert_eq!(status, Some(0));
-    assert_eq!(text.lines().count(), 14);
+    assert_eq!(text.lines().count(), 15);
     for line in text.lines() {
         let (call, bytes) = line.split_once(' ').expect("a name and a number");
         let bytes: usize = bytes.parse().expect("a number");

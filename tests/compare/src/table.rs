@@ -1,6 +1,8 @@
 //! A table lent to the library, and the same table read by the second program. Every call is compared with the second
 //! program's answer. The lent bytes end at guard pages, and the table's are read-only.
 
+mod normal;
+
 use eremothyn::{Answer, Table, SYSTEM_TABLE, USER_TABLE};
 use guard::{filled, Guarded};
 use second::random::Random;
@@ -195,6 +197,8 @@ impl<'a> Compared<'a> {
         }
         let high = 1 << (15 + random.below(49));
         let _ = self.setting(high + random.below(lines + 1));
+
+        self.normal_form_into_all();
     }
 
     /// Every call for an entry.

@@ -185,8 +185,7 @@ fn firings_of_the_whole_calendar_are_the_days_of_the_clock() {
         (friday_13, |date| (date.day, date.weekday) == (13, 5)),
         (
             Schedule {
-                days_star: false,
-                weekdays_star: false,
+                stars: [false; 5],
                 ..friday_13
             },
             |date| date.day == 13 || date.weekday == 5,

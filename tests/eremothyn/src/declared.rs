@@ -50,24 +50,32 @@ impl<'a> Table<'a> {
     }
 }
 
-/// Declares C functions by the parameters behind the table, and makes each a method of `Table` by the same name.
+/// Declares C functions by the parameters behind the table, and makes each a method of `Table` by the same name. The
+/// numbers of a table that C gets behind its bytes stand first, in brackets.
 macro_rules! functions_of_a_table {
-    ($($name:ident($($parameter:ident: $type:ty),*);)*) => {
+    ($numbers:tt $($name:ident $parameters:tt;)*) => {
+        $(function_of_a_table! { $numbers $name $parameters })*
+    };
+}
+
+macro_rules! function_of_a_table {
+    ([$($number:ident),*] $name:ident($($parameter:ident: $type:ty),*)) => {
         unsafe extern "C" {
-            $(fn $name(table: *const u8, table_length: u64, kind: u64, $($parameter: $type),*) -> u64;)*
+            fn $name(table: *const u8, table_length: u64, $($number: u64,)* $($parameter: $type),*) -> u64;
         }
 
         /// Nothing is required of bytes or numbers; the pointers have as many bytes as the lengths beside them say.
         impl Table<'_> {
-            $(#[inline]
+            #[inline]
             pub(crate) unsafe fn $name(self, $($parameter: $type),*) -> u64 {
-                unsafe { $name(self.start, self.length, self.kind, $($parameter),*) }
-            })*
+                unsafe { $name(self.start, self.length, $(self.$number,)* $($parameter),*) }
+            }
         }
     };
 }
 
 functions_of_a_table! {
+    [kind]
     eremothyn_check();
     eremothyn_fault_line();
     eremothyn_fault_column();
@@ -90,4 +98,10 @@ functions_of_a_table! {
     eremothyn_queue_init(room: *mut u8, room_length: u64);
     eremothyn_queue_tick(room: *mut u8, room_length: u64, minute: u64);
     eremothyn_queue_pop(room: *mut u8, room_length: u64);
+}
+
+// These take a user table, whatever the table's kind is.
+functions_of_a_table! {
+    []
+    eremothyn_normal_form(text: *mut u8, text_length: u64);
 }

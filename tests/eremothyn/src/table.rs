@@ -1,4 +1,4 @@
-//! What a table says: its fault, its entries, their commands and users, its settings.
+//! What a table says: its fault, its entries, their commands and users, its settings, its normal text.
 
 use crate::{Run, Table};
 use second::answer::{from_c, some_from_c, Answer};
@@ -62,6 +62,12 @@ impl Table<'_> {
             Table::eremothyn_class_length,
         ];
         parts.map(|part| from_c(unsafe { part(self, entry) }))
+    }
+
+    /// The length of the normal text, which is written to the front of a run. The table is read as a user's.
+    pub fn normal_form<'t>(self, text: impl Into<Run<'t>>) -> Answer {
+        let text = text.into();
+        from_c(unsafe { self.eremothyn_normal_form(text.start, text.length) })
     }
 
     /// Name offset, name length, value offset and value length of a line's setting.

@@ -21,6 +21,10 @@ const MINUTES_PER_DAY: u64 = 1_440;
 const DAYS: u64 = (LAST_MINUTE + 1) / MINUTES_PER_DAY;
 const DAYS_PER_CYCLE: usize = 146_097;
 
+/// The places of the two day fields among the five.
+const DAYS_FIELD: usize = 2;
+const WEEKDAYS_FIELD: usize = 4;
+
 /// Bit n of a set is the value n. Bits outside a field's limits are allowed, and no date has them.
 #[derive(Clone, Copy, Debug, PartialEq, Eq)]
 pub struct Schedule {
@@ -30,9 +34,8 @@ pub struct Schedule {
     pub months: u16,
     /// Sunday 0 to Saturday 6.
     pub weekdays: u8,
-    /// Whether the field of the days begins with `*`.
-    pub days_star: bool,
-    pub weekdays_star: bool,
+    /// Whether each field begins with `*`, in the order of the sets. Matching looks at those of the days and the weekdays.
+    pub stars: [bool; 5],
 }
 
 impl Schedule {
@@ -68,7 +71,7 @@ impl Schedule {
         (minute.saturating_add(1)..=LAST_MINUTE).find(|&later| self.matches(later))
     }
 
-    /// As C hands it over: minutes, hours, days, months, weekdays, and both stars in bits 0 and 1.
+    /// As C hands it over: minutes, hours, days, months, weekdays, and the stars of days and weekdays in bits 0 and 1.
     pub fn numbers(&self) -> [u64; 6] {
         [
             self.minutes,
@@ -76,7 +79,7 @@ impl Schedule {
             self.days.into(),
             self.months.into(),
             self.weekdays.into(),
-            u64::from(self.days_star) + 2 * u64::from(self.weekdays_star),
+            u64::from(self.stars[DAYS_FIELD]) + 2 * u64::from(self.stars[WEEKDAYS_FIELD]),
         ]
     }
 
@@ -87,7 +90,7 @@ impl Schedule {
     fn has_day(&self, month: u64, day: u64, weekday: u64) -> bool {
         let by_day = has(self.days, day);
         let by_weekday = has(self.weekdays, weekday);
-        let by_date = match self.days_star || self.weekdays_star {
+        let by_date = match self.stars[DAYS_FIELD] || self.stars[WEEKDAYS_FIELD] {
             true => by_day && by_weekday,
             false => by_day || by_weekday,
         };

@@ -3,6 +3,7 @@
 
 pub mod calls;
 pub mod documents;
+pub mod normal;
 pub mod samples;
 mod user_column;
 
@@ -145,6 +146,11 @@ fn meaning(line: &[u8], kind: Kind) -> Result<Line<'_>, Bad> {
     if let Some(at) = line.iter().position(|&byte| byte == 0) {
         return Err(Bad(ZERO_BYTE, at));
     }
+    content(line, kind)
+}
+
+/// What a line says, whatever its length.
+fn content(line: &[u8], kind: Kind) -> Result<Line<'_>, Bad> {
     let mut words = Words { line, at: 0 };
     let Some(first) = words.next() else {
         return Ok(Line::Ignored);
@@ -294,8 +300,7 @@ fn schedule<'a>(
         days: days as u32,
         months: months as u16,
         weekdays: weekdays as u8,
-        days_star: stars[2],
-        weekdays_star: stars[4],
+        stars,
     })
 }
 
@@ -411,6 +416,11 @@ fn cut(text: &[u8], byte: u8) -> (&[u8], Option<&[u8]>) {
 }
 
 impl Part {
+    /// The bytes, of the line or the table that the offset counts in.
+    fn of(self, bytes: &[u8]) -> &[u8] {
+        &bytes[self.offset..self.offset + self.length]
+    }
+
     fn later(self, by: usize) -> Part {
         Part {
             offset: self.offset + by,

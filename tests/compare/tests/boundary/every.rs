@@ -40,4 +40,7 @@ fn any_numbers(random: &mut Random, compared: &Compared) {
         });
         let _ = compared.split_command(entry, about);
     }
+    let needed = compared.normal_text().map_or(0, |text| text.len());
+    let about = needed as u64 + random.below(5);
+    let _ = compared.normal_form(about.saturating_sub(2) as usize);
 }

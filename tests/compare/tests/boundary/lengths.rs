@@ -1,6 +1,6 @@
 //! Lent lengths that are 0, or little, in their low 8, 16 or 32 bits.
 
-use crate::raw::{judged, queue_answers, split, table_answers, Place, KINDS};
+use crate::raw::{judged, normal_form, queue_answers, split, table_answers, Place, KINDS};
 use compare::queue::{Case, Compared as Line};
 use compare::table::Compared;
 use eremothyn::Answer;
@@ -24,6 +24,8 @@ fn many_bytes_of(table: &[u8], kind: u64) {
         for lengths in [[length, 1], [1, length], [length, length]] {
             assert_eq!(compared.split_command(0, lengths), Ok(1));
         }
+        // The table is its own text.
+        assert_eq!(compared.normal_form(length), Ok(table.len() as u64));
         let mut line = Line::fresh(&case, length);
         assert_eq!(line.tick(&case, length, 0), Ok(1));
         assert_eq!(line.pop(&case, length), Ok(Some(0)));
@@ -44,6 +46,8 @@ fn vast_tables() {
             assert_eq!(table_answers(table, 0, 3), [TOO_LONG; 13]);
             assert_eq!(split(table, 0, other, Place::of(b"")), TOO_LONG);
             assert_eq!(queue_answers(table, other), [TOO_LONG; 3]);
+            assert_eq!(normal_form(table, other), TOO_LONG);
+            assert_eq!(normal_form(table, Place::of(b"")), TOO_LONG);
         }
     }
 }
@@ -51,15 +55,22 @@ fn vast_tables() {
 /// Only the front of a vast buffer or room is touched.
 #[test]
 fn vast_buffers_and_rooms() {
-    let user = Place::of(TABLE).table();
-    let system = Place::of(SYSTEM_TABLE).table().of_kind(1);
-    for (table, more) in [(user, 0), (user, 1), (system, 0), (system, 1)] {
-        let mut runs = [(); 3].map(|_| Vast::of(b"---"));
-        let [shell, input, room] = runs.each_mut().map(|vast| Place(vast.start(), VAST + more));
+    for (bytes, kind, more) in [
+        (TABLE, 0, 0),
+        (TABLE, 0, 1),
+        (SYSTEM_TABLE, 1, 0),
+        (SYSTEM_TABLE, 1, 1),
+    ] {
+        let table = Place::of(bytes).table().of_kind(kind);
+        let mut runs = [(); 4].map(|_| Vast::of(b"---"));
+        let [shell, input, room, text] =
+            runs.each_mut().map(|vast| Place(vast.start(), VAST + more));
         assert_eq!(split(table, 0, shell, input), Ok(1));
         assert_eq!(queue_answers(table, room), [Ok(1), Ok(1), Ok(0)]);
-        let [shell, input, _] = &mut runs;
+        assert_eq!(normal_form(table, text), Ok(bytes.len() as u64));
+        let [shell, input, _, text] = &mut runs;
         assert_eq!(shell.page()[..3], *b"a--");
         assert_eq!(input.page()[..3], *b"b--");
+        assert_eq!(text.page()[..=bytes.len()], [bytes, b"\0"].concat());
     }
 }

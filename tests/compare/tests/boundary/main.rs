@@ -12,3 +12,4 @@ mod raw;
 mod rooms;
 mod splitting;
 mod tables;
+mod writing;

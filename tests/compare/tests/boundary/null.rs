@@ -1,6 +1,6 @@
 //! A null pointer with length 0 is an empty run of bytes like any other, for every pointer of every function.
 
-use crate::raw::{judged, queue_answers, split, table_answers, Place, KINDS};
+use crate::raw::{judged, normal_form, queue_answers, split, table_answers, Place, KINDS};
 use compare::queue::Case;
 use eremothyn::{Answer, Table, REFUSED};
 use guard::Guarded;
@@ -23,6 +23,10 @@ fn no_table() {
         for kind in KINDS {
             let table = empty.table().of_kind(kind);
             assert_eq!(judged(table), (Ok(0), 0, 0));
+            let mut bytes = [7];
+            assert_eq!(normal_form(table, empty), Ok(0));
+            assert_eq!(normal_form(table, Place::of_mut(&mut bytes)), Ok(0));
+            assert_eq!(bytes, [7]);
             for number in [0, 1, u64::MAX] {
                 let answers = table_answers(table, number, number);
                 assert_eq!(answers[..9], [NO_ENTRY; 9]);
@@ -64,6 +68,26 @@ fn no_buffer_for(table: Table) {
             let pairs = [(empty, some), (some, empty), (empty, empty)];
             let found = pairs.map(|(shell, input)| split(table, entry, shell, input));
             assert_eq!(found, answers, "entry {entry}");
+        }
+    });
+}
+
+#[test]
+fn no_buffer_for_a_text() {
+    // With nothing to write there is nothing to write to.
+    let rows: [(&[u8], Answer); 7] = [
+        (b"#", Ok(0)),
+        (b"\n \n", Ok(0)),
+        (b"a=", TOO_SHORT),
+        (b"@reboot a", TOO_SHORT),
+        (b"* * * * * a\n", TOO_SHORT),
+        (b"a", Err(11)),
+        (b"# a\0", Err(3)),
+    ];
+    for_each_empty(|empty| {
+        for (table, answer) in rows {
+            let table = Guarded::read_only(table);
+            assert_eq!(normal_form(Place::of(&table).table(), empty), answer);
         }
     });
 }

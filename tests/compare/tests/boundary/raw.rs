@@ -53,6 +53,10 @@ pub fn split(table: Table, entry: u64, shell: Place, input: Place) -> Answer {
     table.split_command(entry, shell.run(), input.run())
 }
 
+pub fn normal_form(table: Table, text: Place) -> Answer {
+    table.normal_form(text.run())
+}
+
 /// A fresh line, minute 0 announced, and a request.
 pub fn queue_answers(table: Table, room: Place) -> [Answer; 3] {
     [

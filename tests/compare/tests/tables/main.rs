@@ -3,6 +3,7 @@
 mod commands;
 mod fields;
 mod known;
+mod normal;
 mod random;
 mod refusals;
 mod settings;

@@ -172,8 +172,7 @@ pub fn with_times(
         days,
         months,
         weekdays,
-        days_star,
-        weekdays_star,
+        stars: [false, false, days_star, false, weekdays_star],
     }
 }
 

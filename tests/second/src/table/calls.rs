@@ -8,7 +8,7 @@ use crate::command::{split, Command};
 const NO_ENTRY: u64 = 13;
 const NOT_ON_CALENDAR: u64 = 14;
 const NEXT_OF_REBOOT: u64 = 15;
-const BUFFER_TOO_SHORT: u64 = 18;
+pub(super) const BUFFER_TOO_SHORT: u64 = 18;
 const NO_SETTING: u64 = 19;
 
 /// A table that was read, or why it is refused.

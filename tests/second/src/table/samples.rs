@@ -7,7 +7,7 @@ use crate::schedule::Schedule;
 /// First and last value of each field.
 pub const LIMITS: [(u64, u64); 5] = [(0, 59), (0, 23), (1, 31), (1, 12), (0, 7)];
 
-const NAMES: [&[&str]; 5] = [
+pub(super) const NAMES: [&[&str]; 5] = [
     &[],
     &[],
     &[],
@@ -29,9 +29,9 @@ pub const WORDS: [&str; 8] = [
     "@hourly",
 ];
 
-const BLANKS: [&str; 6] = [" ", " ", "\t", "  ", " \t", "\t \t "];
+pub(super) const BLANKS: [&str; 6] = [" ", " ", "\t", "  ", " \t", "\t \t "];
 
-const IGNORED: [&[u8]; 8] = [
+pub(super) const IGNORED: [&[u8]; 8] = [
     b"",
     b" ",
     b"\t \t",
@@ -285,7 +285,7 @@ fn written(random: &mut Random, which: usize, value: u64) -> String {
 }
 
 /// A number, perhaps with zeros before it, in one to four digits.
-fn digits(random: &mut Random, number: u64) -> String {
+pub(super) fn digits(random: &mut Random, number: u64) -> String {
     match random.below(6) {
         0 => format!("{number:04}"),
         1 => format!("{number:02}"),

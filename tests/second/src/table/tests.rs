@@ -57,17 +57,17 @@ fn fields_have_their_sets() {
 }
 
 #[test]
-fn only_a_bare_star_leaves_days_free() {
+fn a_star_is_what_is_written_as_one() {
     let rows = [
-        ("* * * * *", (true, true)),
-        ("* * */2 * 1", (true, false)),
-        ("* * 1 * */7", (false, true)),
-        ("* * 1-31 * 0-7", (false, false)),
+        ("* * * * *", [true, true, true, true, true]),
+        ("* * */2 * 1", [true, true, true, true, false]),
+        ("* * 1 * */7", [true, true, false, true, true]),
+        ("*/60 0 1-31 */1 0-7", [true, false, false, true, false]),
+        ("0-59 */24 1 1 1", [false, true, false, false, false]),
+        ("0-59 0-23 1-31 1-12 0-7", [false; 5]),
     ];
     for (fields, stars) in rows {
-        let schedule = sets(fields);
-        let found = (schedule.days_star, schedule.weekdays_star);
-        assert_eq!(found, stars, "{fields}");
+        assert_eq!(sets(fields).stars, stars, "{fields}");
     }
 }
 

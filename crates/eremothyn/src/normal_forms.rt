@@ -1,0 +1,24 @@
+// A user's table, written in its normal form to the buffer that the caller lends.
+ghost use mathlib.Core.Path.{_≡_};
+ghost use Rattle.normal.specs.NormalForms.{normalForm};
+ghost use Rattle.eremothyn.specs.NormalForms.{normalNumber};
+use crate::answer::REFUSED;
+use normal::NormalAnswer;
+
+// The length of the text, or the refusal.
+fn normal_number(answer: NormalAnswer) -> u64
+    ensures { λ r. ⌜ r ≡ normalNumber answer ⌝ }
+{
+    match answer {
+        NormalAnswer::Written { size } => size as u64,
+        NormalAnswer::Refused { number } => REFUSED + number as u64,
+    }
+}
+
+#[no_mangle]
+pub extern "C" fn eremothyn_normal_form(table: &[u8], text: &mut [u8]) -> u64
+    ensures answer { λ r. ⌜ r ≡ normalNumber (normalForm (now (table .entry)) (now (text .entry)) .answer) ⌝ }
+    ensures text { λ _. ⌜ now (text .exit) ≡ normalForm (now (table .entry)) (now (text .entry)) .buffer ⌝ }
+{
+    normal_number(normal::normal_form(table, text))
+}

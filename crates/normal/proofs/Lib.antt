@@ -1,0 +1,10 @@
+pub mod Settings
+pub mod SettingTexts
+pub mod Entries
+pub mod EntryTexts
+pub mod Lines
+pub mod Quotes
+pub mod Tables
+pub mod Writing
+pub mod Walks
+pub mod Theorems

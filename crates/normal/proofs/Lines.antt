@@ -1,0 +1,148 @@
+-- Laws of a line: the item that it means is a proper one, and a proper item is read back from its text, which has no newline and no byte 0.
+-- Assumes nothing.
+use mathlib.Core.Path.{_≡_, refl, ap, _∙_}
+use mathlib.Core.Bool.{Bool, true, false, cond, _||_, true≢false, and-eq-true-iff}
+use mathlib.Core.List.{List, [], _∷_, _++_}
+use Prim.Native.Nat.{ℕ}
+use native.Mathlib.Omega.{arith}
+use lib.ListN.{length, getD}
+use lib.Dec.{eqb, leb}
+use borrow.Author.Tests.{lt-leb}
+use Rattle.bytes.specs.Texts.{text}
+use Rattle.bytes.specs.declared.class.Class.the-variants.{Blank, Not, InLine}
+use Rattle.bytes.specs.Classes.{isBlank, ofClass}
+use Rattle.bytes.specs.Runs.{areOf, skipped}
+use Rattle.bytes.proofs.Places.{are-append, solid-run, not-skipped}
+use Rattle.field.specs.Limits.{minuteLimits, hourLimits, dayLimits, monthLimits, weekdayLimits}
+use Rattle.field.specs.Numbers.{isDigit}
+use Rattle.field.proofs.Theorems.{minute-usual, hour-usual, day-usual, month-usual, weekday-usual}
+use Rattle.schedule.specs.declared.Schedule.{Schedule}
+use Rattle.crontab.specs.declared.line.Line.the-variants as line
+use Rattle.crontab.specs.Assignments.{settingAt}
+use Rattle.crontab.specs.Entries.{entryAt}
+use Rattle.crontab.specs.Lines.{startsEntry, contentFrom, contentOf}
+use Rattle.normal.specs.Meanings.{Item, setting, boot, timed, ofUser, itemIn, lineItems}
+use Rattle.normal.specs.Texts.{inQuotes, quoted, startsOther, isBareName, isBareValue, nameText, valueText, scheduleText, itemText}
+use Rattle.normal.specs.Proper.{isQuotable, isName, isValue, isCommand, isSchedule, isItem, areItems}
+use Rattle.normal.proofs.Settings.{setting-proper}
+use Rattle.normal.proofs.SettingTexts.{name-parts, name-starts, setting-back}
+use Rattle.normal.proofs.Entries.{entry-proper}
+use Rattle.normal.proofs.EntryTexts.{field-clean, command-parts, boot-back, timed-starts, timed-back}
+
+-- ---- what is read is proper
+
+first-proper : (s : List ℕ) → areOf InLine s ≡ true → (at : ℕ) → areItems (itemIn s (contentFrom ofUser s at (getD s at 0))) ≡ true
+unfolding contentFrom itemIn areItems startsOther
+first-proper s clean at = go (eqb (getD s at 0) 35) (startsEntry (getD s at 0)) refl refl
+  where
+    own : eqb (getD s at 0) 35 ≡ false → startsEntry (getD s at 0) ≡ false → startsOther (getD s at 0) ≡ false
+    own p q = rw (p, q)
+
+    go : (a b : Bool) → eqb (getD s at 0) 35 ≡ a → startsEntry (getD s at 0) ≡ b → areItems (itemIn s (cond a line.Ignored (cond b (entryAt ofUser s at) (settingAt s at)))) ≡ true
+    go true b p q = refl
+    go false true p q = entry-proper s clean at
+    go false false p q = setting-proper s clean at (own p q)
+
+pub line-proper : (s : List ℕ) → areOf InLine s ≡ true → areItems (lineItems s) ≡ true
+unfolding lineItems contentOf itemIn areItems
+line-proper s clean = go (leb (length s) (skipped Blank s 0))
+  where
+    at : ℕ
+    at = skipped Blank s 0
+
+    go : (t : Bool) → areItems (itemIn s (cond t line.Ignored (contentFrom ofUser s at (getD s at 0)))) ≡ true
+    go true = refl
+    go false = first-proper s clean at
+
+-- ---- what is proper is read back
+
+-- a line by its first byte, which isn't blank
+by-first : (b : ℕ) (more : List ℕ) → isBlank b ≡ false → contentOf ofUser (b ∷ more) ≡ contentFrom ofUser (b ∷ more) 0 b
+unfolding contentOf
+by-first b more solid =
+    let none : skipped Blank (b ∷ more) 0 ≡ 0 = not-skipped Blank (b ∷ more) 0 (b ∷ more) refl (solid-run (b ∷ more) solid) in
+    rw (none, lt-leb (length (b ∷ more)) 0 (omega arith))
+
+setting-first : (s : List ℕ) (b : ℕ) → startsOther b ≡ false → contentFrom ofUser s 0 b ≡ settingAt s 0
+unfolding contentFrom startsOther
+setting-first s b e = go (eqb b 35) (startsEntry b) e
+  where
+    go : (t u : Bool) → (t || u) ≡ false → cond t line.Ignored (cond u (entryAt ofUser s 0) (settingAt s 0)) ≡ settingAt s 0
+    go false false e = refl
+    go true u e = absurd (true≢false e)
+    go false true e = absurd (true≢false e)
+
+entry-first : (s : List ℕ) (b : ℕ) → eqb b 35 ≡ false → startsEntry b ≡ true → contentFrom ofUser s 0 b ≡ entryAt ofUser s 0
+unfolding contentFrom
+entry-first s b p q = rw (p, q)
+
+module _ (s : List ℕ) (b : ℕ) (more : List ℕ) (is : s ≡ b ∷ more) (solid : isBlank b ≡ false) where
+  by-byte : contentOf ofUser s ≡ contentFrom ofUser s 0 b
+  by-byte = rw is (by-first b more solid)
+
+  setting-line : startsOther b ≡ false → lineItems s ≡ itemIn s (settingAt s 0)
+  unfolding lineItems
+  setting-line own = ap (itemIn s) (by-byte ∙ setting-first s b own)
+
+  entry-line : eqb b 35 ≡ false → startsEntry b ≡ true → lineItems s ≡ itemIn s (entryAt ofUser s 0)
+  unfolding lineItems
+  entry-line p q = ap (itemIn s) (by-byte ∙ entry-first s b p q)
+
+boot-line : (c : List ℕ) → lineItems (text "@reboot " ++ c) ≡ itemIn (text "@reboot " ++ c) (entryAt ofUser (text "@reboot " ++ c) 0)
+unfolding startsEntry isDigit isBlank
+boot-line c = entry-line (text "@reboot " ++ c) 64 (text "reboot " ++ c) refl refl refl refl
+
+pub line-back : (i : Item) → isItem i ≡ true → lineItems (itemText i) ≡ i ∷ []
+unfolding isItem itemText
+line-back (setting name value) e =
+    let t = and-eq-true-iff (isName name) (isValue value) .0 e in
+    let f = name-starts name (t .0) in
+    setting-line (nameText name ++ 61 ∷ valueText value) (f .first) (f .more ++ 61 ∷ valueText value)
+    (ap (λ (n : List ℕ). n ++ 61 ∷ valueText value) (f .is)) (f .solid) (f .own)
+    ∙ setting-back name value (t .0) (t .1)
+line-back (boot command) e = boot-line command ∙ boot-back command e
+line-back (timed x command) e =
+    let t = and-eq-true-iff (isSchedule x) (isCommand command) .0 e in
+    let f = timed-starts x command (t .0) in
+    entry-line (scheduleText x ++ 32 ∷ command) (f .first) (f .more) (f .is) (f .solid) (f .no-comment) (f .entry)
+    ∙ timed-back x command (t .0) (t .1)
+
+-- ---- its text has no newline and no byte 0
+
+-- a byte of a line before others
+in-line : (b : ℕ) (s : List ℕ) → ofClass InLine b ≡ true → areOf InLine s ≡ true → areOf InLine (b ∷ s) ≡ true
+unfolding areOf
+in-line b s p q = rw (p, q)
+
+quoted-clean : (s : List ℕ) → areOf InLine s ≡ true → areOf InLine (quoted s) ≡ true
+unfolding quoted ofClass areOf
+quoted-clean s h = go (areOf (Not 34) s)
+  where
+    go : (t : Bool) → areOf InLine (cond t (inQuotes 34 s) (inQuotes 39 s)) ≡ true
+    go true = are-append InLine s (34 ∷ []) h refl
+    go false = are-append InLine s (39 ∷ []) h refl
+
+text-clean : (t : Bool) (s : List ℕ) → areOf InLine s ≡ true → areOf InLine (cond t s (quoted s)) ≡ true
+text-clean true s h = h
+text-clean false s h = quoted-clean s h
+
+spaced-clean : (a b : List ℕ) → areOf InLine a ≡ true → areOf InLine b ≡ true → areOf InLine (a ++ 32 ∷ b) ≡ true
+unfolding ofClass areOf
+spaced-clean a b h k = are-append InLine a (32 ∷ b) h k
+
+schedule-clean : (x : Schedule) → areOf InLine (scheduleText x) ≡ true
+unfolding scheduleText
+schedule-clean x =
+    search (spaced-clean, field-clean minuteLimits minute-usual, field-clean hourLimits hour-usual, field-clean dayLimits day-usual, field-clean monthLimits month-usual, field-clean weekdayLimits weekday-usual)
+
+pub item-clean : (i : Item) → isItem i ≡ true → areOf InLine (itemText i) ≡ true
+unfolding isItem itemText nameText valueText isValue ofClass areOf
+item-clean (setting name value) e =
+    let t = and-eq-true-iff (isName name) (isValue value) .0 e in
+    let v = and-eq-true-iff (areOf InLine value) (isBareValue value || isQuotable value) .0 (t .1) .0 in
+    are-append InLine (nameText name) (61 ∷ valueText value) (text-clean (isBareName name) name (name-parts name (t .0) .clean))
+    (text-clean (isBareValue value) value v)
+item-clean (boot command) e = command-parts command e .clean
+item-clean (timed x command) e =
+    let t = and-eq-true-iff (isSchedule x) (isCommand command) .0 e in
+    spaced-clean (scheduleText x) command (schedule-clean x) (command-parts command (t .1) .clean)

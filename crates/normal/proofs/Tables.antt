@@ -1,0 +1,341 @@
+-- Laws of a table by its lines: a good table means what its lines mean, one after the other, and lines that are the texts of proper items make
+-- a good table.
+-- Assumes nothing.
+use mathlib.Core.Path.{_≡_, refl, sym, ap, _∙_}
+use mathlib.Core.Bool.{Bool, true, false, cond, not, _||_, true≢false, and-eq-true-iff}
+use mathlib.Core.List.{List, [], _∷_, _++_, map, append-nil}
+use Prim.Native.Nat.{ℕ, suc, _+_, _≤_}
+use native.Mathlib.Omega.{arith}
+use lib.ListN.{length, drop}
+use lib.Seq.{drop-drop, take-all}
+use lib.Dec.{eqb, leb, ltb}
+use borrow.Author.Tests.{ltb-true, ltb-false, lt-ltb, le-ltb, leb-true, not-true}
+use Rattle.bytes.specs.declared.class.Class.the-variants.{Not, InLine}
+use Rattle.bytes.specs.Classes.{ofClass}
+use Rattle.bytes.specs.Runs.{run, areOf, skipped, between}
+use Rattle.bytes.proofs.Runs.{run-over}
+use Rattle.bytes.proofs.Places.{run-are, are-all, are-so, Stands, between-part}
+use Rattle.crontab.specs.declared.Part.{Part}
+use Rattle.crontab.specs.declared.time.When.{When}
+use Rattle.crontab.specs.declared.time.When.the-variants.{Reboot, Timed}
+use Rattle.crontab.specs.declared.line.Line.{Line}
+use Rattle.crontab.specs.declared.line.Line.the-variants as line
+use Rattle.crontab.specs.declared.table.Table.{Table}
+use Rattle.crontab.specs.Limits.{maxTable, maxLine, maxEntries}
+use Rattle.crontab.specs.Lines.{onto, linesOf, contentOf, readLine}
+use Rattle.crontab.specs.Items.{Items, placed, moved, afterLine, itemsFrom, itemsOf}
+use Rattle.crontab.specs.Items as items
+use Rattle.crontab.specs.Settings.{partBytes}
+use Rattle.crontab.specs.Tables.{refusedTable, emptyTable, withEntry, withItems, tableOf}
+use Rattle.crontab.proofs.Proper.{Inside, Proper, line-proper}
+use Rattle.crontab.proofs.Sound.{SoundItems, items-sound}
+use Rattle.crontab.proofs.Theorems.{table-short}
+use Rattle.normal.specs.Meanings.{Item, setting, boot, timed, entryItem, entriesIn, ofUser, meanings, meaningOf, itemIn, lineItems, itemsIn}
+use Rattle.normal.specs.Texts.{itemText, normalText, areShort}
+use Rattle.normal.specs.Proper.{isItem, areItems}
+use Rattle.normal.proofs.Lines as lines
+
+-- ---- items without a fault
+
+abbrev pub Clean : Items → Type 0
+Clean items.done = Unit {0}
+Clean (items.fault number line column) = ⊥
+Clean (items.setting line name value later) = Clean later
+Clean (items.entry e later) = Clean later
+
+pub good-clean : (n k : ℕ) (t : Table) (x : Items) → SoundItems n k x → withItems t x .refusal ≡ 0 → Clean x
+unfolding withItems refusedTable
+good-clean n k t items.done h e = tt
+good-clean n k t (items.fault number line column) h e = omega (arith, h .0, e)
+good-clean n k t (items.setting line name value later) h e = good-clean n k t later (h .2) e
+good-clean n k t (items.entry x later) h e = good-clean n (k + 1) (withEntry t x) later (h .2) e
+
+clean-good : (t : Table) (x : Items) → t .refusal ≡ 0 → Clean x → withItems t x .refusal ≡ 0
+unfolding withItems withEntry
+clean-good t items.done e h = e
+clean-good t (items.fault number line column) e h = absurd h
+clean-good t (items.setting line name value later) e h = clean-good t later e h
+clean-good t (items.entry x later) e h = clean-good (withEntry t x) later e h
+
+-- ---- where lines stand
+
+abbrev Lie : List ℕ → ℕ → List (List ℕ) → Type 0
+Lie s at [] = Unit {0}
+Lie s at (l ∷ ls) = Stands s at l (drop (at + length l) s) × Lie s (at + length l + 1) ls
+
+onto-lie : (t : List ℕ) (at b : ℕ) (ls : List (List ℕ)) → drop at t ≡ b ∷ drop (at + 1) t → Lie t (at + 1) ls → Lie t at (onto b ls)
+unfolding onto
+onto-lie t at b [] here h = (record { is = here }, tt)
+onto-lie t at b (l ∷ ls) here h =
+    let e : at + 1 + length l ≡ at + suc (length l) = omega arith in
+    (record { is = here ∙ ap (λ (x : List ℕ). b ∷ x) (h .0 .is) ∙ rw e }, rw (← e) (h .1))
+
+lines-lie : (t : List ℕ) (at : ℕ) (s : List ℕ) → drop at t ≡ s → Lie t at (linesOf s)
+unfolding linesOf
+lines-lie t at [] here = tt
+lines-lie t at (b ∷ s) here = go (eqb b 10) next (lines-lie t (at + 1) s next)
+  where
+    next : drop (at + 1) t ≡ s
+    next = sym (drop-drop 1 at t) ∙ ap (drop 1) here
+
+    go : (c : Bool) → drop (at + 1) t ≡ s → Lie t (at + 1) (linesOf s) → Lie t at (cond c ([] ∷ linesOf s) (onto b (linesOf s)))
+    go true e h = let z : at + 0 ≡ at = omega arith in (record { is = rw z }, rw z h)
+    go false e h = onto-lie t at b (linesOf s) (here ∙ ap (λ (x : List ℕ). b ∷ x) (sym e)) h
+
+-- no newline in any of them
+abbrev Free : List (List ℕ) → Type 0
+Free [] = Unit {0}
+Free (l ∷ ls) = (areOf (Not 10) l ≡ true) × Free ls
+
+onto-free : (b : ℕ) (ls : List (List ℕ)) → eqb b 10 ≡ false → Free ls → Free (onto b ls)
+unfolding onto areOf ofClass
+onto-free b [] e h = (rw e, tt)
+onto-free b (l ∷ ls) e h = (rw e (h .0), h .1)
+
+lines-free : (s : List ℕ) → Free (linesOf s)
+unfolding linesOf areOf
+lines-free [] = tt
+lines-free (b ∷ s) = go (eqb b 10) refl (lines-free s)
+  where
+    go : (c : Bool) → eqb b 10 ≡ c → Free (linesOf s) → Free (cond c ([] ∷ linesOf s) (onto b (linesOf s)))
+    go true e h = (refl, h)
+    go false e h = onto-free b (linesOf s) e h
+
+-- ---- a line that isn't refused
+
+both-in-line : (s : List ℕ) → areOf (Not 10) s ≡ true → areOf (Not 0) s ≡ true → areOf InLine s ≡ true
+unfolding areOf ofClass
+both-in-line [] p q = refl
+both-in-line (b ∷ s) p q =
+    let x = and-eq-true-iff (not (eqb b 10)) (areOf (Not 10) s) .0 p in
+    let y = and-eq-true-iff (not (eqb b 0)) (areOf (Not 0) s) .0 q in
+    rw (not-true (eqb b 10) (x .0), not-true (eqb b 0) (y .0)) (both-in-line s (x .1) (y .1))
+
+abbrev Read : Line → Type 0
+Read line.Ignored = Unit {0}
+Read (line.Setting name value) = Unit {0}
+Read (line.Entry when start) = Unit {0}
+Read (line.Refused f) = ⊥
+
+whole-are : (s : List ℕ) → length s ≤ run (Not 0) s → areOf (Not 0) s ≡ true
+whole-are s h = rw take-all at (run-are (Not 0) s)
+
+line-read : (s : List ℕ) → Read (readLine ofUser s) → (readLine ofUser s ≡ contentOf ofUser s) × (areOf (Not 0) s ≡ true)
+unfolding readLine skipped
+line-read s h = go (ltb maxLine (length s)) (ltb (0 + run (Not 0) s) (length s)) refl h
+  where
+    go : (a b : Bool) → ltb (0 + run (Not 0) s) (length s) ≡ b
+        → Read (cond a (line.Refused (record { number = 2; column = 1001 })) (cond b (line.Refused (record { number = 3; column = 0 + run (Not 0) s + 1 })) (contentOf ofUser s)))
+        → (cond a (line.Refused (record { number = 2; column = 1001 })) (cond b (line.Refused (record { number = 3; column = 0 + run (Not 0) s + 1 })) (contentOf ofUser s)) ≡ contentOf ofUser s)
+        × (areOf (Not 0) s ≡ true)
+    go true b e h = absurd h
+    go false true e h = absurd h
+    go false false e h = (refl, whole-are s (omega (arith, ltb-false (0 + run (Not 0) s) (length s) e)))
+
+-- a line that is short enough and has no byte 0
+no-nul : (b : ℕ) → ofClass InLine b ≡ true → ofClass (Not 0) b ≡ true
+unfolding ofClass
+no-nul b e = go (eqb b 10) (eqb b 0) e
+  where
+    go : (x y : Bool) → not (x || y) ≡ true → not y ≡ true
+    go false y e = e
+    go true y e = absurd (true≢false (sym e))
+
+no-newline : (b : ℕ) → ofClass InLine b ≡ true → ofClass (Not 10) b ≡ true
+unfolding ofClass
+no-newline b e = go (eqb b 10) (eqb b 0) e
+  where
+    go : (x y : Bool) → not (x || y) ≡ true → not x ≡ true
+    go false y e = refl
+    go true y e = absurd (true≢false (sym e))
+
+line-plain : (s : List ℕ) → length s ≤ maxLine → areOf InLine s ≡ true → readLine ofUser s ≡ contentOf ofUser s
+unfolding readLine skipped run
+line-plain s short clean =
+    let all : run (Not 0) s ≡ length s + 0 = rw append-nil at (run-over (Not 0) s [] (are-all (Not 0) s (are-so InLine (Not 0) no-nul s clean))) in
+    rw (le-ltb maxLine (length s) short, le-ltb (0 + run (Not 0) s) (length s) (omega arith))
+
+-- ---- one line more
+
+entry-one : (when : When) (c : List ℕ) (is : List Item) → entriesIn (entryItem when c ∷ is) ≡ suc (entriesIn is)
+unfolding entriesIn entryItem
+entry-one Reboot c is = refl
+entry-one (Timed x) c is = refl
+
+-- what a line gives where no fault follows, behind k entries
+record Given (s l : List ℕ) (k : ℕ) (x : Line) (later : ℕ → Items) (all : Items) : Type 0 where
+  count : ℕ
+  read : Read x
+  clean : Clean (later count)
+  counts : count ≡ k + entriesIn (itemIn l x)
+  few : k ≤ maxEntries → count ≤ maxEntries
+  means : meanings s all ≡ itemIn l x ++ meanings s (later count)
+
+module _ (s l : List ℕ) (at : ℕ) (here : Stands s at l (drop (at + length l) s)) where
+  part-here : (p : Part) → Inside (length l) p → partBytes s (moved at p) ≡ partBytes l p
+  part-here p i = between-part here (p .start) (p .end) (i .order) (i .within)
+
+  line-given : (n k : ℕ) (x : Line) (later : ℕ → Items) → Proper (length l) x → Clean (afterLine at n (length l) k x later)
+      → Given s l k x later (afterLine at n (length l) k x later)
+  unfolding afterLine itemIn meanings entriesIn
+  line-given n k line.Ignored later p h =
+      record { count = k; read = tt; clean = h; counts = omega arith; few = λ f. f; means = refl }
+  line-given n k (line.Setting name value) later p h =
+      record {
+        count = k;
+        read = tt;
+        clean = h;
+        counts = omega arith;
+        few = λ f. f;
+        means = rw (part-here name (p .1), part-here value (p .2));
+      }
+  line-given n k (line.Refused f) later p h = absurd h
+  line-given n k (line.Entry when start) later p h = go (ltb k maxEntries) refl h
+    where
+      go : (t : Bool) → ltb k maxEntries ≡ t → Clean (cond t (items.entry (placed at n (length l) when start) (later (k + 1))) (items.fault 12 n 1))
+          → Given s l k (line.Entry when start) later (cond t (items.entry (placed at n (length l) when start) (later (k + 1))) (items.fault 12 n 1))
+      go true e h =
+          record {
+            count = k + 1;
+            read = tt;
+            clean = h;
+            counts = omega (arith, entry-one when (between l start (length l)) []);
+            few = λ f. omega (arith, ltb-true k maxEntries e);
+            means = rw (between-part here start (length l) (omega (arith, p .1)) (omega arith));
+          }
+      go false e h = absurd h
+
+-- ---- all lines
+
+are-items-append : (a b : List Item) → areItems a ≡ true → areItems b ≡ true → areItems (a ++ b) ≡ true
+unfolding areItems
+are-items-append [] b p q = q
+are-items-append (i ∷ a) b p q =
+    let t = and-eq-true-iff (isItem i) (areItems a) .0 p in
+    rw (t .0) (are-items-append a b (t .1) q)
+
+entries-append : (a b : List Item) → entriesIn (a ++ b) ≡ entriesIn a + entriesIn b
+unfolding entriesIn
+entries-append [] b = omega arith
+entries-append (setting name value ∷ a) b = entries-append a b
+entries-append (boot command ∷ a) b = rw (entries-append a b) (omega arith)
+entries-append (timed x command ∷ a) b = rw (entries-append a b) (omega arith)
+
+-- what lines give where there is no fault, behind k entries
+record Meant (s : List ℕ) (k : ℕ) (ls : List (List ℕ)) (all : Items) : Type 0 where
+  means : meanings s all ≡ itemsIn ls
+  proper : areItems (itemsIn ls) ≡ true
+  few : k ≤ maxEntries → k + entriesIn (itemsIn ls) ≤ maxEntries
+
+lines-meant : (s : List ℕ) (at n k : ℕ) (ls : List (List ℕ)) → Lie s at ls → Free ls → Clean (itemsFrom ofUser at n k ls) → Meant s k ls (itemsFrom ofUser at n k ls)
+unfolding itemsFrom itemsIn lineItems meanings areItems entriesIn
+lines-meant s at n k [] lie free h = record { means = refl; proper = refl; few = λ f. omega arith }
+lines-meant s at n k (l ∷ ls) lie free h =
+    let g = line-given s l at (lie .0) n k (readLine ofUser l) (λ j. itemsFrom ofUser (at + length l + 1) (n + 1) j ls) (line-proper ofUser l) h in
+    let r = line-read l (g .read) in
+    let m = lines-meant s (at + length l + 1) (n + 1) (g .count) ls (lie .1) (free .1) (g .clean) in
+    let e : itemIn l (readLine ofUser l) ≡ lineItems l = ap (itemIn l) (r .0) in
+    record {
+      means = g .means ∙ rw (e, m .means);
+      proper = are-items-append (lineItems l) (itemsIn ls) (lines.line-proper l (both-in-line l (free .0) (r .1))) (m .proper);
+      few = λ f. omega (arith, m .few (g .few f), g .counts, entries-append (lineItems l) (itemsIn ls), ap entriesIn e);
+    }
+
+-- ---- a good table
+
+-- a table that isn't refused has no fault, and is short enough
+abbrev tableItems : List ℕ → Items
+tableItems s = itemsFrom ofUser 0 1 0 (linesOf s)
+
+items-of : (s : List ℕ) → length s ≤ maxTable → itemsOf ofUser s ≡ tableItems s
+unfolding itemsOf
+items-of s h = rw (le-ltb maxTable (length s) h)
+
+good-items : (s : List ℕ) → tableOf ofUser s .refusal ≡ 0 → Clean (tableItems s)
+unfolding tableOf
+good-items s e =
+    let i = items-of s (table-short ofUser s e) in
+    rw i at (good-clean (length s) 0 emptyTable (itemsOf ofUser s) (items-sound ofUser s) e)
+
+items-good : (s : List ℕ) → length s ≤ maxTable → Clean (tableItems s) → tableOf ofUser s .refusal ≡ 0
+unfolding tableOf emptyTable refusedTable
+items-good s short h = rw (items-of s short) (clean-good emptyTable (tableItems s) refl h)
+
+meant : (s : List ℕ) → Clean (tableItems s) → Meant s 0 (linesOf s) (tableItems s)
+meant s h = lines-meant s 0 1 0 (linesOf s) (lines-lie s 0 s refl) (lines-free s) h
+
+-- a good table means what its lines mean
+pub meaning-lines : (s : List ℕ) → tableOf ofUser s .refusal ≡ 0 → meaningOf s ≡ itemsIn (linesOf s)
+unfolding meaningOf
+meaning-lines s e = rw (items-of s (table-short ofUser s e)) (meant s (good-items s e) .means)
+
+-- and has proper items, no more entries than there may be
+pub meaning-proper : (s : List ℕ) → tableOf ofUser s .refusal ≡ 0 → areItems (meaningOf s) ≡ true
+meaning-proper s e = rw (meaning-lines s e) (meant s (good-items s e) .proper)
+
+pub meaning-few : (s : List ℕ) → tableOf ofUser s .refusal ≡ 0 → entriesIn (meaningOf s) ≤ maxEntries
+meaning-few s e = rw (meaning-lines s e) (let f = meant s (good-items s e) .few (omega arith) in omega arith)
+
+-- ---- lines that are the texts of proper items
+
+-- a line up to its newline
+first-line : (l rest : List ℕ) → areOf (Not 10) l ≡ true → linesOf (l ++ 10 ∷ rest) ≡ l ∷ linesOf rest
+unfolding linesOf areOf ofClass onto
+first-line [] rest h = refl
+first-line (b ∷ l) rest h =
+    let t = and-eq-true-iff (not (eqb b 10)) (areOf (Not 10) l) .0 h in
+    rw (not-true (eqb b 10) (t .0), first-line l rest (t .1))
+
+pub lines-written : (is : List Item) → areItems is ≡ true → linesOf (normalText is) ≡ map itemText is
+unfolding normalText areItems linesOf
+lines-written [] h = refl
+lines-written (i ∷ is) h =
+    let t = and-eq-true-iff (isItem i) (areItems is) .0 h in
+    first-line (itemText i) (normalText is) (are-so InLine (Not 10) no-newline (itemText i) (lines.item-clean i (t .0)))
+    ∙ rw (lines-written is (t .1))
+
+pub items-written : (is : List Item) → areItems is ≡ true → itemsIn (map itemText is) ≡ is
+unfolding itemsIn areItems
+items-written [] h = refl
+items-written (i ∷ is) h =
+    let t = and-eq-true-iff (isItem i) (areItems is) .0 h in
+    rw (lines.line-back i (t .0), items-written is (t .1))
+
+-- a line that means an item, behind so few entries that it is no 12
+line-kept : (at n size k : ℕ) (l : List ℕ) (x : Line) (i : Item) (later : ℕ → Items) → itemIn l x ≡ i ∷ [] → k + entriesIn (i ∷ []) ≤ maxEntries
+    → Clean (later (k + entriesIn (i ∷ []))) → Clean (afterLine at n size k x later)
+unfolding afterLine itemIn entriesIn
+line-kept at n size k l line.Ignored i later e few h = absurd (omega (arith, ap length e))
+line-kept at n size k l (line.Setting name value) i later e few h =
+    let q : k + entriesIn (i ∷ []) ≡ k = omega (arith, ap entriesIn e) in
+    rw q at h
+line-kept at n size k l (line.Entry when start) i later e few h =
+    let q : k + entriesIn (i ∷ []) ≡ k + 1 = omega (arith, ap entriesIn e, entry-one when (between l start (length l)) []) in
+    rw (lt-ltb k maxEntries (omega arith)) (rw q at h)
+line-kept at n size k l (line.Refused f) i later e few h = absurd (omega (arith, ap length e))
+
+line-means : (i : Item) → isItem i ≡ true → itemIn (itemText i) (contentOf ofUser (itemText i)) ≡ i ∷ []
+unfolding lineItems
+line-means i e = lines.line-back i e
+
+kept : (at n k : ℕ) (is : List Item) → areItems is ≡ true → areShort is ≡ true → k + entriesIn is ≤ maxEntries → Clean (itemsFrom ofUser at n k (map itemText is))
+unfolding itemsFrom areItems areShort
+kept at n k [] p q few = tt
+kept at n k (i ∷ is) p q few =
+    let l = itemText i in
+    let t = and-eq-true-iff (isItem i) (areItems is) .0 p in
+    let u = and-eq-true-iff (leb (length (itemText i)) maxLine) (areShort is) .0 q in
+    let more : entriesIn (i ∷ is) ≡ entriesIn (i ∷ []) + entriesIn is = entries-append (i ∷ []) is in
+    let plain = line-plain (itemText i) (leb-true (length (itemText i)) maxLine (u .0)) (lines.item-clean i (t .0)) in
+    line-kept at n (length (itemText i)) k (itemText i) (readLine ofUser (itemText i)) i (λ j. itemsFrom ofUser (at + length (itemText i) + 1) (n + 1) j (map itemText is))
+    (ap (itemIn (itemText i)) plain ∙ line-means i (t .0)) (omega arith)
+    (kept (at + length (itemText i) + 1) (n + 1) (k + entriesIn (i ∷ [])) is (t .1) (u .1) (omega arith))
+
+-- proper items that fit make a good table, which means them
+module _ (is : List Item) (proper : areItems is ≡ true) (short : areShort is ≡ true) (small : length (normalText is) ≤ maxTable) (few : entriesIn is ≤ maxEntries) where
+  pub written-good : tableOf ofUser (normalText is) .refusal ≡ 0
+  written-good =
+      items-good (normalText is) small (rw (lines-written is proper) (kept 0 1 0 is proper short (omega arith)))
+
+  pub written-means : meaningOf (normalText is) ≡ is
+  written-means = meaning-lines (normalText is) written-good ∙ rw (lines-written is proper) (items-written is proper)

@@ -1,0 +1,129 @@
+-- What a caller may rely on: of what a user's table means, and of its normal text (ticket 2026-06).
+--   line-proper, line-back: the items that lines mean, whatever their length, are just those that pass `isItem`, and each is read back from its text
+--   name-bare, value-bare: quotes stand only where a bare reading would differ
+--   meaning-lines: a good table means what its lines mean, one after the other
+--   meaning-proper, meaning-few: its items pass the test, and no more of them are entries than there may be
+--   written-good, written-means: items that pass the test and fit are written to a good table, which means them
+--   read-back: reading the normal text of a table back gives the same meaning
+--   equal-meanings, equal-forms, equal-texts: equal meanings write equal bytes, whatever the buffer, and other meanings others
+--   normal-again, form-again: a normal text is written as itself
+--   form-told: a refused call changes no byte, and any call keeps the buffer's length
+-- Assumes nothing.
+use mathlib.Core.Path.{_≡_, refl, sym, ap, _∙_}
+use mathlib.Core.Bool.{Bool, true, false, cond, and-eq-true-iff}
+use mathlib.Core.List.{List, _++_}
+use Prim.Native.Nat.{ℕ, _≤_}
+use native.Mathlib.Omega.{arith}
+use lib.ListN.{length, drop, length-append, length-drop}
+use lib.Dec.{eqb, leb}
+use borrow.Author.Tests.{leb-true, eqb-false}
+use Rattle.bytes.specs.Laid.{laid}
+use Rattle.crontab.specs.Limits.{maxTable}
+use Rattle.crontab.specs.Tables.{tableOf}
+use Rattle.crontab.proofs.Theorems.{table-sound}
+use Rattle.normal.specs.declared.NormalAnswer.{NormalAnswer}
+use Rattle.normal.specs.declared.NormalAnswer.the-variants.{Written, Refused}
+use Rattle.normal.specs.Meanings.{Item, ofUser, meaningOf}
+use Rattle.normal.specs.Texts.{normalText, areShort, fits}
+use Rattle.normal.specs.NormalForms.{NormalForm, refusedForm, laidForm, formOf, normalForm}
+pub use Rattle.normal.proofs.Lines.{line-proper, line-back}
+pub use Rattle.normal.proofs.Quotes.{name-bare, value-bare}
+pub use Rattle.normal.proofs.Tables.{meaning-lines, meaning-proper, meaning-few, written-good, written-means}
+
+-- ---- meanings
+
+-- what fits
+pub record Fitting (is : List Item) : Type 0 where
+  pub short : areShort is ≡ true
+  pub small : length (normalText is) ≤ maxTable
+
+pub fits-parts : (is : List Item) → fits is ≡ true → Fitting is
+unfolding fits
+fits-parts is e =
+    let t = and-eq-true-iff (areShort is) (leb (length (normalText is)) maxTable) .0 e in
+    record { short = t .0; small = leb-true (length (normalText is)) maxTable (t .1) }
+
+-- reading it back gives the same meaning
+pub read-back : (s : List ℕ) → tableOf ofUser s .refusal ≡ 0 → fits (meaningOf s) ≡ true
+    → (tableOf ofUser (normalText (meaningOf s)) .refusal ≡ 0) × (meaningOf (normalText (meaningOf s)) ≡ meaningOf s)
+read-back s good e =
+    let f = fits-parts (meaningOf s) e in
+    let p = meaning-proper s good in
+    let n = meaning-few s good in
+    (written-good (meaningOf s) p (f .short) (f .small) n, written-means (meaningOf s) p (f .short) (f .small) n)
+
+-- equal meanings write equal bytes
+pub equal-meanings : (s t : List ℕ) → meaningOf s ≡ meaningOf t → normalText (meaningOf s) ≡ normalText (meaningOf t)
+equal-meanings s t e = ap normalText e
+
+-- and equal bytes have equal meanings
+pub equal-texts : (s t : List ℕ) → tableOf ofUser s .refusal ≡ 0 → tableOf ofUser t .refusal ≡ 0 → fits (meaningOf s) ≡ true → fits (meaningOf t) ≡ true
+    → normalText (meaningOf s) ≡ normalText (meaningOf t) → meaningOf s ≡ meaningOf t
+equal-texts s t p q f g e = sym (read-back s p f .1) ∙ ap meaningOf e ∙ read-back t q g .1
+
+-- a normal text is written as itself
+pub normal-again : (s : List ℕ) → tableOf ofUser s .refusal ≡ 0 → fits (meaningOf s) ≡ true
+    → normalText (meaningOf (normalText (meaningOf s))) ≡ normalText (meaningOf s)
+normal-again s good e = ap normalText (read-back s good e .1)
+
+-- ---- the call
+
+good-form : (s buffer : List ℕ) → tableOf ofUser s .refusal ≡ 0 → normalForm s buffer ≡ formOf (meaningOf s) buffer
+unfolding normalForm
+good-form s buffer good = rw good
+
+-- the whole answer and every byte
+pub equal-forms : (s t buffer : List ℕ) → tableOf ofUser s .refusal ≡ 0 → tableOf ofUser t .refusal ≡ 0 → meaningOf s ≡ meaningOf t
+    → normalForm s buffer ≡ normalForm t buffer
+equal-forms s t buffer p q e = good-form s buffer p ∙ ap (λ (is : List Item). formOf is buffer) e ∙ sym (good-form t buffer q)
+
+pub form-again : (s buffer : List ℕ) → tableOf ofUser s .refusal ≡ 0 → fits (meaningOf s) ≡ true
+    → normalForm (normalText (meaningOf s)) buffer ≡ normalForm s buffer
+form-again s buffer good e =
+    let b = read-back s good e in
+    equal-forms (normalText (meaningOf s)) s buffer (b .0) good (b .1)
+
+-- ---- what comes back
+
+-- of a buffer as it was and as it is: a refusal has its number, and changes no byte; what is written is no longer than a table
+abbrev pub Told : List ℕ → NormalAnswer → List ℕ → Type 0
+Told before (Written size) now = (size ≤ maxTable) × (size ≤ length before) × (length now ≡ length before)
+Told before (Refused number) now = (1 ≤ number) × (number ≤ 21) × (now ≡ before)
+
+laid-told : (t buffer : List ℕ) → length t ≤ maxTable → Told buffer (laidForm t buffer .answer) (laidForm t buffer .buffer)
+unfolding laidForm refusedForm laid
+laid-told t buffer small = go (leb (length t) (length buffer)) refl
+  where
+    form : Bool → NormalForm
+    form b = cond b (record { answer = Written (length t); buffer = t ++ drop (length t) buffer }) (record { answer = Refused 18; buffer = buffer })
+
+    go : (b : Bool) → leb (length t) (length buffer) ≡ b → Told buffer (form b .answer) (form b .buffer)
+    go true e =
+        let room = leb-true (length t) (length buffer) e in
+        (small, room, omega (arith, length-append t (drop (length t) buffer), length-drop (length t) buffer))
+    go false e = (omega arith, omega arith, refl)
+
+items-told : (is : List Item) (buffer : List ℕ) → Told buffer (formOf is buffer .answer) (formOf is buffer .buffer)
+unfolding formOf refusedForm
+items-told is buffer = go (fits is) refl
+  where
+    form : Bool → NormalForm
+    form b = cond b (laidForm (normalText is) buffer) (record { answer = Refused 21; buffer = buffer })
+
+    go : (b : Bool) → fits is ≡ b → Told buffer (form b .answer) (form b .buffer)
+    go true e = laid-told (normalText is) buffer (fits-parts is e .small)
+    go false e = (omega arith, omega arith, refl)
+
+pub form-told : (s buffer : List ℕ) → Told buffer (normalForm s buffer .answer) (normalForm s buffer .buffer)
+unfolding normalForm refusedForm
+form-told s buffer = go (eqb (tableOf ofUser s .refusal) 0) refl
+  where
+    number : ℕ
+    number = tableOf ofUser s .refusal
+
+    form : Bool → NormalForm
+    form b = cond b (formOf (meaningOf s) buffer) (record { answer = Refused number; buffer = buffer })
+
+    go : (b : Bool) → eqb number 0 ≡ b → Told buffer (form b .answer) (form b .buffer)
+    go true e = items-told (meaningOf s) buffer
+    go false e = (omega (arith, eqb-false number 0 e), omega (arith, table-sound ofUser s .number), refl)

@@ -1,0 +1,69 @@
+-- Ticket 2026-06: what a table means, "settings and entries as one sequence, with their names, values, sets, flags, `@reboot` and
+-- commands", as bytes without their places.
+-- Assumes nothing.
+use Prim.Native.Nat.{ℕ, suc}
+use mathlib.Core.List.{List, [], _∷_, _++_}
+use lib.ListN.{length}
+use Rattle.bytes.specs.Runs.{between}
+use Rattle.schedule.specs.declared.Schedule.{Schedule}
+use Rattle.crontab.specs.declared.Rules.{Rules}
+use Rattle.crontab.specs.declared.Kind.the-variants.{User}
+use Rattle.crontab.specs.declared.time.When.{When}
+use Rattle.crontab.specs.declared.time.When.the-variants.{Reboot, Timed}
+use Rattle.crontab.specs.declared.line.Line.{Line}
+use Rattle.crontab.specs.declared.line.Line.the-variants as line
+use Rattle.crontab.specs.Lines.{contentOf}
+use Rattle.crontab.specs.Items.{Items, itemsOf}
+use Rattle.crontab.specs.Items as items
+use Rattle.crontab.specs.Settings.{partBytes}
+
+pub data Item : Type 0 where
+  -- name and value
+  setting : List ℕ → List ℕ → Item
+  -- `@reboot`, and its command
+  boot : List ℕ → Item
+  timed : Schedule → List ℕ → Item
+
+-- an entry's time and command
+unfoldable pub entryItem : When → List ℕ → Item
+entryItem Reboot command = boot command
+entryItem (Timed s) command = timed s command
+
+-- how many of them are entries
+unfoldable pub entriesIn : List Item → ℕ
+entriesIn [] = 0
+entriesIn (setting name value ∷ is) = entriesIn is
+entriesIn (boot command ∷ is) = suc (entriesIn is)
+entriesIn (timed s command ∷ is) = suc (entriesIn is)
+
+abbrev pub ofUser : Rules
+ofUser = record { kind = User }
+
+-- ---- a table
+
+-- the items of a table's bytes, up to its end or to the fault that refuses it
+unfoldable pub meanings : List ℕ → Items → List Item
+meanings s items.done = []
+meanings s (items.fault number line column) = []
+meanings s (items.setting line name value later) = setting (partBytes s name) (partBytes s value) ∷ meanings s later
+meanings s (items.entry e later) = entryItem (e .when) (between s (e .start) (e .end)) ∷ meanings s later
+
+-- the meaning of a user's table, if it isn't refused
+unfoldable pub meaningOf : List ℕ → List Item
+meaningOf s = meanings s (itemsOf ofUser s)
+
+-- ---- a line, whatever its length: none or one
+
+unfoldable pub itemIn : List ℕ → Line → List Item
+itemIn s line.Ignored = []
+itemIn s (line.Setting name value) = setting (partBytes s name) (partBytes s value) ∷ []
+itemIn s (line.Entry when start) = entryItem when (between s start (length s)) ∷ []
+itemIn s (line.Refused f) = []
+
+unfoldable pub lineItems : List ℕ → List Item
+lineItems s = itemIn s (contentOf ofUser s)
+
+-- line by line
+unfoldable pub itemsIn : List (List ℕ) → List Item
+itemsIn [] = []
+itemsIn (l ∷ ls) = lineItems l ++ itemsIn ls

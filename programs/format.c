@@ -1,0 +1,114 @@
+/* eremothyn format [-l] [-w] [-d] [FILE...]: user tables in their normal form. */
+
+#include <stdio.h>
+#include <string.h>
+
+#include "diff.h"
+#include "eremothyn.h"
+#include "rewrite.h"
+#include "shared.h"
+
+/* Bit n of the given options is the n-th of these. */
+enum { LIST = 1u << 0, WRITE = 1u << 1, DIFF = 1u << 2 };
+static const struct option OPTIONS[] = {
+    { 'l', "list", "print the names of the files whose text differs" },
+    { 'w', "write", "put the normal text in the place of each file that differs" },
+    { 'd', "diff", "print the differences" },
+    NO_OPTION,
+};
+
+/* Where a table's text is too long: at the first line that is so by itself, or else as a whole. */
+static struct place too_long_at(const struct file *table)
+{
+    const uint64_t too_long = EREMOTHYN_REFUSED + EREMOTHYN_TEXT_TOO_LONG;
+    uint64_t number = 1;
+    uint64_t place = 0;
+    while (place < table->length) {
+        struct part line = line_at(table, place);
+        if (eremothyn_normal_form(line.start, line.length, NULL, 0) == too_long)
+            return (struct place){ number, 1 };
+        number++;
+        place += line.length;
+    }
+    return (struct place){ 0, 0 };
+}
+
+static int refuse(const char *name, const struct file *table, uint64_t refusal)
+{
+    bool is_good = refusal == EREMOTHYN_TEXT_TOO_LONG;
+    struct place place = is_good ? too_long_at(table) : fault_of(table, EREMOTHYN_USER_TABLE);
+    tell_refusal(stderr, name, place, refusal);
+    return REFUSED;
+}
+
+static bool is_same(const struct file *one, const struct file *other)
+{
+    return one->length == other->length && memcmp(one->bytes, other->bytes, one->length) == 0;
+}
+
+/* What the options want of a file whose text differs. */
+static int handle(const char *name, const struct file *table, const struct file *text, unsigned given)
+{
+    if (given & LIST)
+        puts(name);
+    if (given & WRITE) {
+        const char *why = rewrite(name, text);
+        if (why != NULL)
+            return written(fail_for(name, why));
+    }
+    if (given & DIFF)
+        print_diff(name, table, text);
+    return written(DONE);
+}
+
+static int format(const char *name, unsigned given)
+{
+    static struct file table, text;
+    if (!read_file(name, &table))
+        return fail(name);
+    uint64_t length = eremothyn_normal_form(table.bytes, table.length, text.bytes, sizeof text.bytes);
+    if (EREMOTHYN_IS_REFUSED(length))
+        return refuse(name, &table, EREMOTHYN_REFUSAL(length));
+    text.length = length;
+    if (given == 0) {
+        fwrite(text.bytes, 1, text.length, stdout);
+        return written(DONE);
+    }
+    return is_same(&table, &text) ? DONE : handle(name, &table, &text, given);
+}
+
+static bool names_input(const struct arguments *arguments)
+{
+    for (int i = 0; i < arguments->count; i++)
+        if (strcmp(arguments->operands[i], "-") == 0)
+            return true;
+    return false;
+}
+
+static int run(const struct arguments *arguments)
+{
+    static char input[] = "-";
+    char *only[] = { input };
+    struct arguments files = *arguments;
+    if (files.count == 0) {
+        files.count = 1;
+        files.operands = only;
+    }
+    if (files.given & WRITE && names_input(&files))
+        return misuse("standard input can't be rewritten");
+    return each_file(&files, format);
+}
+
+const struct command format_command = {
+    "format",
+    "[FILE...]",
+    "write a user's crontab in its normal form",
+    "Prints the normal text of each FILE, or of standard input where none is named. It has no comments.\n"
+    "With an option it does what that says instead. A FILE that is refused stays as it is, and standard\n"
+    "error says:\n"
+    "  NAME:LINE:COLUMN: refused NUMBER: what is wrong\n"
+    "The exit status is 0 if every file is taken, whether it differs or not, 1 if one is refused, 2 if\n"
+    "one can't be read or written.\n",
+    OPTIONS,
+    run,
+};

@@ -1,0 +1,148 @@
+//! Ticket 2026-06: what a user table means, and the one text that says it. Nothing is known here of what has to be quoted
+//! or of how a step comes to its values: the ways to write a name, a value or a field are tried in the ticket's order, and
+//! the first that reads as what is meant is taken.
+
+#[cfg(test)]
+mod tests;
+
+pub mod samples;
+
+use super::calls::BUFFER_TOO_SHORT;
+use super::{content, lines, read, schedule, Fault, Kind, Line, When, Words};
+use super::{LINE_BYTES, TABLE_BYTES};
+use crate::answer::Answer;
+use crate::schedule::Schedule;
+use std::iter;
+
+const TEXT_TOO_LONG: u64 = 21;
+
+/// A setting or an entry, without its place.
+#[derive(Clone, Copy, Debug, PartialEq, Eq)]
+pub enum Item<'a> {
+    Setting { name: &'a [u8], value: &'a [u8] },
+    Entry { when: When, command: &'a [u8] },
+}
+
+/// The settings and entries of a user table as one sequence.
+pub fn meaning(table: &[u8]) -> Result<Vec<Item<'_>>, Fault> {
+    read(table, Kind::User)?;
+    Ok(lines(table).filter_map(item).collect())
+}
+
+/// What a line means, whatever its length: nothing if it is ignored, or bad.
+pub fn item(line: &[u8]) -> Option<Item<'_>> {
+    match content(line, Kind::User) {
+        Ok(Line::Setting(setting)) => Some(Item::Setting {
+            name: setting.name.of(line),
+            value: setting.value.of(line),
+        }),
+        Ok(Line::Entry(entry)) => Some(Item::Entry {
+            when: entry.when,
+            command: entry.command,
+        }),
+        Ok(Line::Ignored) | Err(_) => None,
+    }
+}
+
+/// Writes a user table's normal text to the front of a buffer, and answers its length.
+pub fn normal_form(table: &[u8], buffer: &mut [u8]) -> Answer {
+    laid(&normal_text(table)?, buffer)
+}
+
+/// Lays a text at the front of a buffer.
+pub fn laid(text: &[u8], buffer: &mut [u8]) -> Answer {
+    let front = buffer.get_mut(..text.len()).ok_or(BUFFER_TOO_SHORT)?;
+    front.copy_from_slice(text);
+    Ok(text.len() as u64)
+}
+
+/// A user table's normal text, if no limit is passed.
+pub fn normal_text(table: &[u8]) -> Result<Vec<u8>, u64> {
+    let items = meaning(table).map_err(|fault| fault.number)?;
+    let text = text(&items);
+    let passes = |line: &[u8]| line.len() > LINE_BYTES;
+    if text.len() > TABLE_BYTES || lines(&text).any(passes) {
+        return Err(TEXT_TOO_LONG);
+    }
+    Ok(text)
+}
+
+/// A line for each item.
+pub fn text(items: &[Item]) -> Vec<u8> {
+    let lines = items.iter().map(|item| [&item.text()[..], b"\n"].concat());
+    lines.flatten().collect()
+}
+
+impl Item<'_> {
+    /// The normal line, without its newline.
+    pub fn text(&self) -> Vec<u8> {
+        match *self {
+            Item::Setting { name, value } => {
+                [&name_text(name)[..], b"=", &value_text(value)].concat()
+            }
+            Item::Entry { when, command } => [time_text(when).as_bytes(), b" ", command].concat(),
+        }
+    }
+}
+
+fn name_text(name: &[u8]) -> Vec<u8> {
+    let meant = Some(Item::Setting { name, value: b"" });
+    ways(name)
+        .find(|way| item(&[way, &b"="[..]].concat()) == meant)
+        .expect("a name that was read")
+}
+
+fn value_text(value: &[u8]) -> Vec<u8> {
+    let meant = Some(Item::Setting { name: b"A", value });
+    ways(value)
+        .find(|way| item(&[b"A=", &way[..]].concat()) == meant)
+        .expect("a value that was read")
+}
+
+/// Bare, in double quotes, in single quotes.
+fn ways(text: &[u8]) -> impl Iterator<Item = Vec<u8>> + '_ {
+    let quotes: [&[u8]; 3] = [b"", b"\"", b"'"];
+    quotes
+        .into_iter()
+        .map(move |quote| [quote, text, quote].concat())
+}
+
+fn time_text(when: When) -> String {
+    match when {
+        When::Reboot => "@reboot".into(),
+        When::Times(schedule) => {
+            let fields = [0, 1, 2, 3, 4].map(|which| field_text(&schedule, which));
+            fields.join(" ")
+        }
+    }
+}
+
+fn field_text(schedule: &Schedule, which: usize) -> String {
+    let set = schedule.numbers()[which];
+    if schedule.stars[which] {
+        let steps = (1..).map(|step| format!("*/{step}"));
+        return iter::once("*".into())
+            .chain(steps)
+            .map_while(|text| Some((values(which, &text)?, text)))
+            .find_map(|(values, text)| (values == set).then_some(text))
+            .expect("a star that was read");
+    }
+    let numbers: Vec<String> = (0..64)
+        .filter(|value| set >> value & 1 == 1)
+        .map(|value| value.to_string())
+        .collect();
+    numbers.join(",")
+}
+
+/// The values that a text gives as one of the five fields, if it is a field.
+fn values(which: usize, text: &str) -> Option<u64> {
+    let mut fields = ["1"; 5];
+    fields[which] = text;
+    let line = fields.join(" ");
+    let words = Words {
+        line: line.as_bytes(),
+        at: 0,
+    };
+    let schedule = schedule(line.len(), words).ok()?;
+    Some(schedule.numbers()[which])
+}
