@@ -2,7 +2,8 @@
 //! algorithms", `civil_from_days` and `days_from_civil`) and of Neri and Schneider ("Euclidean affine functions and their
 //! application to calendar algorithms", 2023). Both count years from March, so that a leap day is the last of its year.
 //! Nothing is checked: a minute has to be on the calendar, and a date has to exist. Each function is called as the
-//! library is, and not inlined; a date comes as one number.
+//! library is, and not inlined; a date comes as one number. With the second way the plain minute walk of ticket 2026-07 works
+//! out its dates.
 
 use test_calls::dates::{packed, Parts};
 
@@ -103,4 +104,40 @@ fn neri_schneider_day((y_g, m_g, d_g): Civil) -> u32 {
     let y_star = 1_461 * y / 4 - c + c / 4;
     let m_star = (979 * m - 2_919) / 32;
     y_star + m_star + (d_g - 1) - MARCH_DAYS_BEFORE_1970
+}
+
+/// Sets by their bits, and whether either day field begins with `*`.
+#[derive(Clone, Copy)]
+pub struct Sets {
+    pub minutes: u64,
+    pub hours: u32,
+    pub days: u32,
+    pub months: u32,
+    pub weekdays: u32,
+    pub both: bool,
+}
+
+/// Whether a minute matches, by its date, which is worked out directly.
+#[inline(always)]
+fn matches(sets: &Sets, minute: u32) -> bool {
+    let (day, time) = (minute / 1_440, minute % 1_440);
+    let (_, month, of_month) = neri_schneider_civil(day);
+    let by_day = sets.days >> of_month & 1;
+    let by_weekday = sets.weekdays >> ((day + 4) % 7) & 1;
+    let by_date = if sets.both {
+        by_day & by_weekday
+    } else {
+        by_day | by_weekday
+    };
+    let by_time = sets.hours >> (time / 60) & (sets.minutes >> (time % 60)) as u32 & 1;
+    sets.months >> month & by_date & by_time & 1 == 1
+}
+
+/// The next firing by the plain walk, minute by minute through one cycle of 400 years; none where nothing matches in it.
+#[inline(never)]
+pub fn minute_walk(sets: &Sets, start: u64) -> Option<u64> {
+    const CYCLE: u32 = 210_379_680;
+    let first = start as u32 + 1;
+    let found = (first..first + CYCLE).find(|&minute| matches(sets, minute));
+    found.map(u64::from)
 }

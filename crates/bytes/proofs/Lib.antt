@@ -4,5 +4,7 @@ pub mod Digits
 pub mod Runs
 pub mod Places
 pub mod Sets
+pub mod LeastBit
+pub mod Together
 pub mod Marks
 pub mod Written

@@ -65,6 +65,10 @@ exists year month day hour minute = leb 1 day && leb day (monthDays year month) 
 unfoldable pub daysBefore : ℕ → ℕ → ℕ → ℕ
 daysBefore year month day = span yearDays firstYear (year - firstYear) + span (monthDays year) 1 (month - 1) + (day - 1)
 
+-- the first day of month number c, which is month c % 12 + 1 of the year c / 12; one that isn't on the calendar begins where it ends
+unfoldable pub monthStart : ℕ → ℕ
+monthStart c = cond (leb firstYear (c / 12) && leb (c / 12) lastYear) (daysBefore (c / 12) (c % 12 + 1) 1) calendarDays
+
 unfoldable pub minuteAt : ℕ → ℕ → ℕ → ℕ → ℕ → ℕ
 minuteAt year month day hour minute = daysBefore year month day * 1440 + hour * 60 + minute
 

@@ -11,7 +11,7 @@ ghost use lib.Dec.{leb};
 ghost use Rattle.calendar.specs.Gregorian.{yearDays};
 ghost use Rattle.calendar.specs.Walk.{span};
 ghost use Rattle.calendar.specs.Refusals.{notOnCalendar};
-ghost use Rattle.calendar.specs.Dates.{firstYear, lastYear, noDate, dateOf, exists, minuteOf};
+ghost use Rattle.calendar.specs.Dates.{firstYear, lastYear, noDate, dateOf, exists, monthStart, minuteOf};
 use direct::date_at;
 use direct::days_before_month;
 use direct::days_before_year;
@@ -26,6 +26,9 @@ pub const LAST_MINUTE: u64 = 4_223_371_679;
 
 // How many days the calendar has.
 pub const CALENDAR_DAYS: u64 = 2_932_897;
+
+// The minutes of the cycle of 400 years, after which the calendar comes again.
+pub const CYCLE_MINUTES: u64 = 210_379_680;
 
 pub const DAY_MINUTES: u64 = 1440;
 
@@ -129,4 +132,16 @@ pub(crate) fn minute_in(
         refusal: 0,
         minute: days * DAY_MINUTES + hour * 60 + minute,
     }
+}
+
+// The first day of a month, counted from 1970-01-01; months are counted through the years, 12 for each. One that isn't on the calendar
+// begins where the calendar ends.
+pub fn month_start(count: u64) -> u64
+    ensures { λ r. ⌜ r ≡ monthStart count ⌝ }
+{
+    let year = count / 12;
+    if (FIRST_YEAR <= year) & (year <= LAST_YEAR) {
+        return days_before_year(year) + days_before_month(year, count % 12 + 1);
+    }
+    CALENDAR_DAYS
 }

@@ -1,20 +1,23 @@
 -- Laws of days: a day by its month, and a minute by its day and its time of day.
 -- Assumes nothing.
 use mathlib.Core.Path.{_≡_, refl, sym, ap, _∙_}
-use mathlib.Core.Bool.{false}
-use Prim.Native.Nat.{ℕ, _+_, _-_, _*_, _%_, _≤_, _<_}
+use mathlib.Core.Bool.{Bool, true, false}
+use Prim.Native.Nat.{ℕ, zero, suc, _+_, _-_, _*_, _/_, _%_, _≤_, _<_}
 use native.Mathlib.Nat.{lt-of-not-le}
 use native.Mathlib.Decide.{decLe}
 use native.Mathlib.Omega.{arith}
-use Rattle.calendar.specs.Dates.{calendarDays, dateAt}
+use borrow.Author.Tests.{le-leb}
+use Rattle.calendar.specs.Gregorian.{leap, monthLength, monthDays}
+use Rattle.calendar.specs.Dates.{calendarDays, dateAt, monthStart}
 use Rattle.calendar.proofs.Minutes.{midnight-weekday}
 use Rattle.calendar.proofs.Months.{lengthOf, firstOf, month-next, month-mono, months-end, day-month, day-day, day-in-month}
 use Rattle.schedule.specs.declared.Schedule.{Schedule}
 use Rattle.bytes.specs.Sets.{hasBit}
 use Rattle.schedule.specs.Match.{matchesDay, matchesOn}
 use Rattle.schedule.specs.Search.{from}
-use Rattle.schedule.specs.Days.{matchesIn}
-use Rattle.schedule.proofs.Search.{from-same, from-part, from-behind}
+use Rattle.schedule.specs.Days.{matchesIn, MonthAfter}
+use Rattle.schedule.proofs.Search.{from-none, from-same, from-part, from-behind}
+use Rattle.schedule.proofs.Dates.{month-lengths}
 
 -- no day matches in a month that isn't in the set
 pub month-out : (s : Schedule) (month first day : ℕ) → hasBit (s .months) month ≡ false → matchesIn s month first day ≡ false
@@ -98,3 +101,48 @@ module _ {s : Schedule} {day c first at : ℕ} (g : Searching s day c first at) 
               from-behind (matchesOn s) calendarDays (first + l) at (omega (arith, g .within)) (omega (arith, searching-end)) (rw in-month at k)
               ∙ g .same;
         }
+
+-- ---- months that aren't in the set are passed
+
+-- every month but the one after the calendar's last begins on it
+begins-on : (c : ℕ) → 23640 ≤ c → c < 120000 → firstOf c < calendarDays
+unfolding lengthOf monthDays
+begins-on c h k =
+    let e : c + 1 + (120000 - (c + 1)) ≡ 120000 = omega arith in
+    omega (arith, some-days c, month-next c h, month-mono (c + 1) (120000 - (c + 1)) (omega arith), ap firstOf e, months-end)
+  where
+    some-days : (c : ℕ) → 1 ≤ lengthOf c
+    some-days c = go (leap (c / 12))
+      where
+        go : (b : Bool) → 1 ≤ monthLength b (c % 12 + 1)
+        go true = omega (arith, month-lengths (c % 12 + 1) (omega arith) (omega arith))
+        go false = omega (arith, month-lengths (c % 12 + 1) (omega arith) (omega arith))
+
+pub searching-skip : {s : Schedule} {day c first : ℕ} (n : ℕ) → Searching s day c first first → c + n ≤ 120000
+    → ((i : ℕ) → c ≤ i → i < c + n → hasBit (s .months) (i % 12 + 1) ≡ false)
+    → Searching s day (c + n) (firstOf (c + n)) (firstOf (c + n))
+searching-skip {s} {day} {c} {first} zero g h none = let e : c + 0 ≡ c = omega arith in rw (e, ← (g .start)) g
+searching-skip {s} {day} {c} {first} (suc n) g h none =
+    let e : c + suc n ≡ c + 1 + n = omega arith in
+    let out = from-none (matchesIn s (c % 12 + 1) first) (first + lengthOf c) first (omega arith) (λ k _ _. month-out s (c % 12 + 1) first k (none c (omega arith) (omega arith))) in
+    let on = searching-on g (rw (g .start) (begins-on c (g .low) (omega arith))) refl refl (omega (arith, out)) in
+    rw e (searching-skip n on (omega arith) (λ i u v. none i (omega arith) (omega arith)))
+
+month-starts : (c : ℕ) → 23640 ≤ c → c ≤ 120000 → monthStart c ≡ firstOf c
+unfolding monthStart firstOf
+month-starts c h k = elim (decLe 120000 c) [ yes e ↦ last (omega arith) | no e ↦ on (lt-of-not-le e) ]
+  where
+    on : c < 120000 → monthStart c ≡ firstOf c
+    on l = rw (le-leb 1970 (c / 12) (omega arith), le-leb (c / 12) 9999 (omega arith))
+
+    last : c ≡ 120000 → monthStart c ≡ firstOf c
+    last e = rw e (sym months-end)
+
+-- from a month in which nothing was found to the next one of the set
+pub searching-after : {s : Schedule} {day c first at l f r : ℕ} → Searching s day c first at → at < calendarDays
+    → l ≡ lengthOf c → f ≡ from (matchesIn s (c % 12 + 1) first) (first + l) at → first + l ≤ f
+    → MonthAfter s c r → Searching s day r (monthStart r) (monthStart r)
+searching-after {s} {day} {c} {first} {at} {l} {f} {r} g h el ef none m =
+    let e : c + 1 + (r - (c + 1)) ≡ r = omega (arith, m .later) in
+    rw (month-starts r (omega (arith, g .low, m .later)) (m .within), ← e)
+    (searching-skip (r - (c + 1)) (searching-on g h el ef none) (omega (arith, m .later, m .within)) (λ i u v. m .none i (omega arith) (omega (arith, m .later))))

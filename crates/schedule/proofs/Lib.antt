@@ -6,6 +6,9 @@ pub mod Recurrence
 pub mod Possible
 pub mod Gap
 pub mod Firing
+pub mod Clocks
+pub mod MonthSets
+pub mod NextMonths
 pub mod Quick
 pub mod KnownDays
 pub mod Theorems

@@ -6,6 +6,7 @@
 --   fires-within, next-within: it is silent for at most `gap` minutes
 --   gap-is, gap-reached: the number, and that it is exactly reached
 --   known-days: the next firings among paper 01's known days
+--   slow-agrees: a plain clock walk, minute by minute, comes to the same at every entry and minute
 -- Assumes nothing.
 use mathlib.Core.Path.{_≡_, refl, sym, _∙_}
 use mathlib.Core.Bool.{Bool, true, false, cond}
@@ -27,6 +28,7 @@ use Rattle.schedule.proofs.Possible.{matching-some}
 use Rattle.schedule.proofs.Gap.{matches-parts}
 pub use Rattle.schedule.proofs.Gap.{can-fire, fires-within, next-within}
 pub use Rattle.schedule.proofs.KnownDays.{known-days, gap-is, gap-reached}
+pub use Rattle.schedule.proofs.Clocks.{slow-agrees}
 
 -- a schedule that matches any minute of the calendar matches one of the cycle
 pub matching-fires : (s : Schedule) (n : ℕ) → n ≤ lastMinute → matches s n ≡ true → canFire s ≡ true

@@ -1,8 +1,10 @@
 -- Days as the search for a firing goes by them: a day within its month, and which days there can be at all. Only the inner
 -- functions' contracts cite these; what a reader must believe is in Match, Search and Next.
 -- Assumes nothing.
-use Prim.Native.Nat.{ℕ, _+_, _-_}
-use mathlib.Core.Bool.{Bool, cond, _&&_, _||_}
+use mathlib.Core.Path.{_≡_}
+use Prim.Native.Nat.{ℕ, _+_, _-_, _*_, _/_, _%_, _^_, _≤_, _<_}
+use mathlib.Core.Bool.{Bool, false, cond, _&&_, _||_}
+use lib.Bits.{bitAnd, bitOr}
 use lib.Dec.{ltb}
 use Rattle.calendar.specs.Gregorian.{monthDays}
 use Rattle.calendar.specs.Dates.{weekdayOf}
@@ -14,6 +16,23 @@ use Rattle.schedule.specs.Search.{from}
 -- a day, counted from 1970-01-01, of a month whose first day is `first`
 unfoldable pub matchesIn : Schedule → ℕ → ℕ → ℕ → Bool
 matchesIn s month first day = matchesDay s month (day - first + 1) (weekdayOf day)
+
+-- the weekdays' set week by week, six times: bit n has the weekday that comes n days after a Sunday
+unfoldable pub weekly : ℕ → ℕ
+weekly set = bitAnd set 127 * 34630287489
+
+-- the days of a month that begins on a weekday, whatever the month: bit n has day n
+unfoldable pub monthSet : Schedule → ℕ → ℕ
+monthSet s weekday =
+    let by-weekday = weekly (s .weekdays) / 2 ^ weekday * 2 in
+    cond (bothMust s) (bitAnd (s .days) by-weekday) (bitOr (s .days) by-weekday)
+
+-- r is the next month after month number c that is in the set, or the calendar's end: no month between them is. Month c is month c % 12 + 1 of
+-- the year c / 12.
+pub record MonthAfter (s : Schedule) (c r : ℕ) : Type 0 where
+  pub later : c < r
+  pub within : r ≤ 120000
+  pub none : (i : ℕ) → c < i → i < r → hasBit (s .months) (i % 12 + 1) ≡ false
 
 -- a month of the set that has a day of the set, in a leap year as 2000
 unfoldable pub hasDate : Schedule → ℕ → Bool

@@ -2,6 +2,7 @@ pub mod Match
 pub mod Search
 pub mod Refusals
 pub mod Next
+pub mod Clocks
 pub mod Days
 pub mod Gap
 pub mod Computing

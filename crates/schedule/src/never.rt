@@ -4,6 +4,7 @@ ghost use Rattle.schedule.specs.Search.{from};
 ghost use Rattle.schedule.specs.Days.{hasDate, someDay};
 ghost use Rattle.schedule.specs.Next.{canFire};
 use crate::Schedule;
+use crate::day::both_must;
 use crate::set::next;
 use crate::time::time_from;
 use bytes::set::has;
@@ -44,8 +45,7 @@ fn some_day(s: Schedule) -> bool
     let by_month = next(s.months as u64, 1, 13) < 13;
     let by_weekday = next(s.weekdays as u64, 0, 7) < 7;
     let by_date = month_with_date(s) < 13;
-    let stars = s.stars;
-    if stars.days | stars.weekdays {
+    if both_must(s) {
         return by_weekday & by_date;
     }
     by_month & (by_weekday | by_date)

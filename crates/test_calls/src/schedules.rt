@@ -1,6 +1,7 @@
 // A schedule's functions, with no text to read.
 ghost use mathlib.Core.Path.{_≡_};
-ghost use Rattle.test_calls.specs.Schedules.{scheduleOf, nextNumber, matchNumber};
+ghost use Rattle.test_calls.specs.Schedules.{scheduleOf, numberOf, nextNumber, clockNumber, matchNumber};
+use schedule::Next;
 use schedule::Schedule;
 use schedule::Stars;
 
@@ -32,7 +33,21 @@ fn schedule_of(
     }
 }
 
-// The minute of the next firing, or 4,294,967,296 and the refusal's number.
+// The next firing after a minute, or its refusal, as a number.
+fn number_of(next: Next, minute: u64) -> u64
+    ensures { λ r. ⌜ r ≡ numberOf next minute ⌝ }
+{
+    if calendar::LAST_MINUTE < minute {
+        return 4_294_967_296 + calendar::NOT_ON_CALENDAR as u64;
+    }
+    let refusal = next.refusal();
+    if refusal == 0 {
+        return next.minute();
+    }
+    4_294_967_296 + refusal as u64
+}
+
+// The next firing after a minute.
 #[no_mangle]
 pub extern "C" fn schedule_next(
     minutes: u64,
@@ -45,16 +60,25 @@ pub extern "C" fn schedule_next(
 ) -> u64
     ensures { λ r. ⌜ r ≡ nextNumber (scheduleOf minutes hours days months weekdays stars) minute ⌝ }
 {
-    if calendar::LAST_MINUTE < minute {
-        return 4_294_967_296 + calendar::NOT_ON_CALENDAR as u64;
-    }
     let s = schedule_of(minutes, hours, days, months, weekdays, stars);
-    let next = schedule::next_firing(s, minute);
-    let refusal = next.refusal();
-    if refusal == 0 {
-        return next.minute();
-    }
-    4_294_967_296 + refusal as u64
+    number_of(schedule::next_firing(s, minute), minute)
+}
+
+// The same by the clock, minute by minute. An entry that never fires takes seconds.
+#[no_mangle]
+pub extern "C" fn schedule_next_by_clock(
+    minutes: u64,
+    hours: u64,
+    days: u64,
+    months: u64,
+    weekdays: u64,
+    stars: u64,
+    minute: u64,
+) -> u64
+    ensures { λ r. ⌜ r ≡ clockNumber (scheduleOf minutes hours days months weekdays stars) minute ⌝ }
+{
+    let s = schedule_of(minutes, hours, days, months, weekdays, stars);
+    number_of(schedule::clock::next_by_clock(s, minute), minute)
 }
 
 // 1 if the minute matches, otherwise 0.

@@ -215,3 +215,42 @@ fn a_firing_is_at_most_the_gap_ahead() {
     let leap_sunday = schedules::next_after(schedule_of("0 0 29 2 */7").numbers(), 62_147_520);
     assert_eq!(leap_sunday, Ok(62_147_520 + GAP));
 }
+
+/// The slow engine of ticket 2026-07, compared with the quick one and with the second program.
+fn by_clock(schedule: &Schedule, minute: u64) -> Answer {
+    let clock = schedules::next_by_clock(schedule.numbers(), minute);
+    assert_eq!(clock, next_after(schedule, minute), "{schedule:x?} after {minute}");
+    clock
+}
+
+/// It walks from minute 0 to the first match, and then from the start to the firing: of both only short ways are asked for.
+#[test]
+fn the_clock_and_the_search_agree() {
+    const NEAR: u64 = 100_000;
+    let mut random = Random::seeded();
+    let mut asked = 0;
+    while asked < 2_000 {
+        let schedule = samples::schedule(&mut random);
+        let minute = samples::start(&mut random);
+        let early = schedule.next_after(0).is_ok_and(|first| first <= NEAR);
+        let near = schedule
+            .next_after(minute)
+            .map_or(LAST_MINUTE - NEAR <= minute, |firing| firing - minute <= NEAR);
+        if early && near {
+            let _ = by_clock(&schedule, minute);
+            asked += 1;
+        }
+    }
+    let every_minute = schedule_of("* * * * *");
+    for minute in [0, 1, LAST_MINUTE - 1, LAST_MINUTE, LAST_MINUTE + 1, u64::MAX] {
+        let _ = by_clock(&every_minute, minute);
+    }
+    assert_eq!(by_clock(&every_minute, LAST_MINUTE), Err(17));
+    assert_eq!(by_clock(&every_minute, LAST_MINUTE + 1), Err(14));
+}
+
+/// The whole cycle is walked.
+#[test]
+fn the_clock_says_never_after_the_whole_cycle() {
+    assert_eq!(by_clock(&schedule_of("0 0 30 2 *"), 0), Err(16));
+}

@@ -1,7 +1,7 @@
 -- `schedule::day::day_from` meets its contract: from the month of the day on, the search goes on with the same answer (`Searching`).
 -- Assumes nothing.
 use mathlib.Core.Path.{_≡_, ap, _∙_}
-use Prim.Native.Nat.{_+_, _*_, _-_, _≤_, _<_}
+use Prim.Native.Nat.{_+_, _*_, _-_, _/_, _%_, _≤_, _<_}
 use native.Mathlib.Omega.{arith}
 use borrow.Author.Needs.{needs}
 use Rattle.calendar.specs.declared.DateAnswer.{DateAnswer}
@@ -11,7 +11,8 @@ use Rattle.calendar.proofs.Minutes.{dateAt-on}
 use Rattle.calendar.proofs.Months.{lengthOf, InMonth, day-in-month}
 use Rattle.calendar.proofs.Minutes.{dateOf-on}
 use Rattle.schedule.proofs.Search.{from-past}
-use Rattle.schedule.proofs.Days.{Searching, searching-starts, searching-inside, searching-end, searching-found, searching-on}
+use Rattle.schedule.proofs.Days.{Searching, searching-starts, searching-inside, searching-end, searching-found, searching-after}
+use Rattle.schedule.proofs.Dates.{month-days-small}
 use Rattle.schedule.proofs.day.day_from.Statement.{statement}
 use Rattle.schedule.proofs.day.day_from.Tie as tie
 
@@ -71,7 +72,8 @@ add-end c = omega (arith, end-on c)
 day-in-month-requires : tie.Need-day-in-month-requires Inv-loop μ-loop
 unfolding lengthOf
 day-in-month-requires c κs =
-    (c .before .before .loop .inv .after, omega (arith, c .before .before .loop .inv .within, c .month-days .ensures), end-on c)
+    let n = c .before .before .loop .count in
+    (c .before .before .loop .inv .after, omega (arith, c .before .before .loop .inv .within, c .month-days .ensures), end-on c, omega (arith, c .month-days .ensures, month-days-small (n / 12) (n % 12 + 1)))
 
 returns-2 : tie.Need-returns-2 Inv-loop μ-loop
 unfolding lengthOf
@@ -82,17 +84,20 @@ returns-2 c =
 inside : (c : tie.Else2 Inv-loop μ-loop) → c .before .before .before .before .loop .count < 120000
 inside c = searching-inside (c .before .before .before .before .loop .inv) (c .before .before .before .loop-test .taken)
 
-add-count-2 : tie.Need-add-count-2 Inv-loop μ-loop
-add-count-2 c = omega (arith, inside c)
+month-after-requires : tie.Need-month-after-requires Inv-loop μ-loop
+month-after-requires c κs = (c .before .before .before .before .loop .inv .low, inside c)
 
 loop-less : tie.Need-loop-less Inv-loop μ-loop
-loop-less c = omega (arith, inside c)
+loop-less c = omega (arith, inside (c .before .before), c .before .month-after .ensures .later)
 
 loop-again : tie.Need-loop-again Inv-loop μ-loop
 unfolding lengthOf
 loop-again c =
-    searching-on (c .before .before .before .before .loop .inv) (c .before .before .before .loop-test .taken)
-    (c .before .before .month-days .ensures) (c .before .day-in-month .ensures) (c .if2 .left)
+    let e = c .before .before in
+    let l = e .before .before .before .before in
+    rw (c .month-start .ensures)
+    (searching-after (l .loop .inv) (e .before .before .before .loop-test .taken)
+    (e .before .before .month-days .ensures) (e .before .day-in-month .ensures) (e .if2 .left) (c .before .month-after .ensures))
 
 returns-3 : tie.Need-returns-3 Inv-loop μ-loop
 returns-3 c = from-past _ _ _ (c .loop-test .left) ∙ c .before .loop .inv .same
@@ -117,7 +122,8 @@ day-from-spec =
     add-end
     day-in-month-requires
     returns-2
-    add-count-2
+    month-after-requires
+    (λ c κs. search needs)
     loop-less
     loop-again
     returns-3)

@@ -1,66 +1,51 @@
--- `schedule::day::day_in_month` meets its contract: the search goes on with the same answer after each day that doesn't match.
+-- `schedule::day::day_in_month` meets its contract: the least day of the month's set.
 -- Assumes nothing.
-use mathlib.Core.Path.{_≡_, refl, sym, _∙_}
-use Prim.Native.Nat.{_-_, _≤_}
+use mathlib.Core.Path.{sym, _∙_}
+use Prim.Native.Nat.{_+_, _-_}
 use native.Mathlib.Omega.{arith}
 use borrow.Author.Needs.{needs}
-use Rattle.calendar.specs.Dates.{weekdayOf}
-use Rattle.schedule.specs.Search.{from}
-use Rattle.schedule.specs.Days.{matchesIn}
-use Rattle.schedule.proofs.Search.{from-stop, from-next, from-past, from-none}
+use Rattle.bytes.specs.Sets.{hasBit}
+use Rattle.schedule.proofs.Search.{Least, from-none, from-least}
 use Rattle.schedule.proofs.Days.{month-out}
+use Rattle.schedule.proofs.MonthSets.{day-by-set}
 use Rattle.schedule.proofs.day.day_in_month.Statement.{statement}
 use Rattle.schedule.proofs.day.day_in_month.Tie as tie
 
-abbrev Inv-loop : tie.InvT-loop
-Inv-loop s month first at end day₀ day =
-    (at ≤ day) × (day ≤ end) × (from (matchesIn s month first) end day ≡ from (matchesIn s month first) end at)
+-- the least value that was found
+least : (c : tie.After-next) → let a = c .before .before .before .before .before .args in
+    Least (hasBit (c .before .month-set .result)) (a .end - a .first + 1) (a .at - a .first + 1) (c .next .result)
+least c = rw (c .next .ensures) (from-least _ _ _ (omega (arith, c .before .before .before .before .before .pre)))
 
-abbrev μ-loop : tie.MeasureT-loop
-μ-loop s month first at end day₀ day = end - day
+add-result : tie.Need-add-result
+add-result c = omega (arith, least c .high, c .before .before .before .before .before .pre)
 
-loop-holds : tie.Need-loop-holds Inv-loop μ-loop
-loop-holds c = (omega arith, omega arith, refl)
+sub-result : tie.Need-sub-result
+sub-result c = omega (arith, least c .low)
 
-returns : tie.Need-returns Inv-loop μ-loop
-unfolding matchesIn weekdayOf
+returns : tie.Need-returns
 returns c =
-    from-stop _ _ _ (c .before .before .loop-test .taken) (sym (c .before .matches-day .ensures) ∙ c .if2 .taken)
-    ∙ c .before .before .before .loop .inv .2
+    let b = c .before .before in
+    let p = b .before .before .before .pre in
+    rw (c .next .ensures, c .before .month-set .ensures)
+    (day-by-set _ _ _ _ (sym (b .before .has .ensures) ∙ b .if1 .taken) (p .3) _ (p .0) (p .1))
 
-loop-again : tie.Need-loop-again Inv-loop μ-loop
-unfolding matchesIn weekdayOf
-loop-again c = (
-  omega arith,
-  omega arith,
-  from-next _ _ _ (c .before .before .loop-test .taken) (sym (c .before .matches-day .ensures) ∙ c .if2 .left)
-      ∙ c .before .before .before .loop .inv .2,
-)
-
-returns-2 : tie.Need-returns-2 Inv-loop μ-loop
-returns-2 c =
-    let e : c .before .before .before .before .before .args .end ≡ c .before .loop .day = omega arith in
-    e ∙ from-past _ _ _ (c .loop-test .left) ∙ c .before .loop .inv .2
-
-returns-3 : tie.Need-returns-3 Inv-loop μ-loop
-returns-3 c = from-none _ _ _ (omega arith) (λ k _ _. month-out _ _ _ _ (sym (c .before .has .ensures) ∙ c .if1 .left))
+returns-2 : tie.Need-returns-2
+returns-2 c = from-none _ _ _ (omega arith) (λ k _ _. month-out _ _ _ _ (sym (c .before .has .ensures) ∙ c .if1 .left))
 
 pub day-in-month-spec : {M : Type 1} → statement M
 day-in-month-spec =
     tie.close
     (tie.spec
-    Inv-loop
-    μ-loop
     (λ c. search needs)
     (λ c κs. search needs)
-    loop-holds
-    (λ c. omega arith)
-    (λ c. omega arith)
-    (λ c. omega arith)
+    (λ c. search needs)
     (λ c κs. search needs)
+    (λ c. search needs)
+    (λ c. search needs)
+    (λ c. search needs)
+    (λ c. search needs)
+    (λ c κs. search needs)
+    add-result
+    sub-result
     returns
-    (λ c. omega arith)
-    (λ c. omega arith)
-    loop-again
-    returns-2
-    returns-3)
+    returns-2)

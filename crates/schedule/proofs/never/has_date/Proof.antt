@@ -10,6 +10,10 @@ use Rattle.schedule.proofs.never.has_date.Tie as tie
 add-end : tie.Need-add-end
 add-end c = omega (arith, c .month-days .ensures, month-days-small 2000 (c .before .before .before .before .args .month))
 
+next-requires : tie.Need-next-requires
+next-requires c κs = let b = c .before in
+    omega (arith, b .month-days .ensures, month-days-small 2000 (b .before .before .before .before .args .month))
+
 returns : tie.Need-returns
 unfolding hasDate
 returns c =
@@ -29,6 +33,6 @@ has-date-spec =
     (λ c κs. search needs)
     add-end
     (λ c. search needs)
-    (λ c κs. search needs)
+    next-requires
     returns
     returns-2)

@@ -1,35 +1,37 @@
--- `schedule::set::next` meets its contract: the search goes on with the same answer after each value that isn't there.
+-- `schedule::set::next` meets its contract: the zeros below the least value, up to the end.
 -- Assumes nothing.
-use mathlib.Core.Path.{_≡_, refl, sym, _∙_}
-use Prim.Native.Nat.{_-_}
+use mathlib.Core.Path.{_≡_, sym}
+use Prim.Native.Nat.{_+_, _-_, _/_, _^_, min}
 use native.Mathlib.Omega.{arith}
+use lib.Count.{trailingZeros, trailing-le}
 use borrow.Author.Needs.{needs}
-use Rattle.bytes.specs.Sets.{hasBit}
-use Rattle.schedule.specs.Search.{from}
-use Rattle.schedule.proofs.Search.{from-stop, from-next, from-past}
+use Rattle.bytes.proofs.LeastBit.{least-zeros}
+use Rattle.schedule.proofs.Search.{from-past}
 use Rattle.schedule.proofs.set.next.Statement.{statement}
 use Rattle.schedule.proofs.set.next.Tie as tie
 
-abbrev Inv-loop : tie.InvT-loop
-Inv-loop set at end n₀ n = from (hasBit set) end n ≡ from (hasBit set) end at
+returns : tie.Need-returns
+returns c = from-past _ _ _ (c .if1 .taken)
 
-abbrev μ-loop : tie.MeasureT-loop
-μ-loop set at end n₀ n = end - n
+cast-found : tie.Need-cast-found
+cast-found c = let a = c .before .args in omega (arith, trailing-le 64 (a .set / 2 ^ (a .at)))
 
-returns : tie.Need-returns Inv-loop μ-loop
-returns c =
-    from-stop _ _ _ (c .before .before .loop-test .taken) (sym (c .before .has .ensures) ∙ c .if1 .taken)
-    ∙ c .before .before .before .loop .inv
+add-found : tie.Need-add-found
+add-found c = let a = c .before .args in omega (arith, trailing-le 64 (a .set / 2 ^ (a .at)))
 
-loop-again : tie.Need-loop-again Inv-loop μ-loop
-loop-again c =
-    from-next _ _ _ (c .before .before .loop-test .taken) (sym (c .before .has .ensures) ∙ c .if1 .left)
-    ∙ c .before .before .before .loop .inv
+returns-2 : tie.Need-returns-2
+returns-2 c =
+    let a = c .before .before .args in
+    let t = trailingZeros 64 (a .set / 2 ^ (a .at)) in
+    let e : min t (a .end - a .at) ≡ t = omega arith in
+    rw e at (sym (least-zeros (a .set) (a .at) (a .end) (omega arith) (c .before .before .pre)))
 
-returns-2 : tie.Need-returns-2 Inv-loop μ-loop
-returns-2 c = from-past _ _ _ (c .loop-test .left) ∙ c .before .loop .inv
+returns-3 : tie.Need-returns-3
+returns-3 c =
+    let a = c .before .before .args in
+    let t = trailingZeros 64 (a .set / 2 ^ (a .at)) in
+    let e : a .at + min t (a .end - a .at) ≡ a .end = omega arith in
+    rw e at (sym (least-zeros (a .set) (a .at) (a .end) (omega arith) (c .before .before .pre)))
 
 pub next-spec : {M : Type 1} → statement M
-next-spec =
-    tie.close
-    (tie.spec Inv-loop μ-loop (λ c. refl) (λ c κs. search needs) returns (λ c. omega arith) (λ c. omega arith) loop-again returns-2)
+next-spec = tie.close (tie.spec returns (λ c. search needs) cast-found add-found returns-2 returns-3)
