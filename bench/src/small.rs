@@ -8,9 +8,6 @@ use second::table::samples::schedule_of;
 use second::table::Kind;
 use test_calls::schedules;
 
-/// For the first entry the answer by table bytes may take so many times as long as the search.
-const GOAL: f64 = 1.5;
-
 const FIELDS: [&str; 5] = [
     "0 0 29 2 *",
     "0 0 29 2 */7",
@@ -38,7 +35,7 @@ pub fn run() {
     for fields in FIELDS {
         next(fields, &starts);
     }
-    println!("times as long as the search alone; goal of the first: at most {GOAL}");
+    println!("times as long as the search alone; the goals of both stand at the minute walk (schedule)");
 
     let title = "small, a setting's name and value, four calls, ns for all";
     print_pair_head(title, "second program");

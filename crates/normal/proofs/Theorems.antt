@@ -8,6 +8,7 @@
 --   equal-meanings, equal-forms, equal-texts: equal meanings write equal bytes, whatever the buffer, and other meanings others
 --   normal-again, form-again: a normal text is written as itself
 --   form-told: a refused call changes no byte, and any call keeps the buffer's length
+--   shortest-step: the n of a field's `*/n` is the smallest that gives its set, over any limits; `field` has it
 -- Assumes nothing.
 use mathlib.Core.Path.{_≡_, refl, sym, ap, _∙_}
 use mathlib.Core.Bool.{Bool, true, false, cond, and-eq-true-iff}
@@ -19,6 +20,7 @@ use lib.Dec.{eqb, leb}
 use borrow.Author.Tests.{leb-true, eqb-false}
 use Rattle.bytes.specs.Laid.{laid}
 use Rattle.crontab.specs.Limits.{maxTable}
+pub use Rattle.field.proofs.Theorems.{shortest-step}
 use Rattle.crontab.specs.Tables.{tableOf}
 use Rattle.crontab.proofs.Theorems.{table-sound}
 use Rattle.normal.specs.declared.NormalAnswer.{NormalAnswer}
