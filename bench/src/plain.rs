@@ -117,20 +117,22 @@ pub struct Sets {
     pub both: bool,
 }
 
-/// Whether a minute matches, by its date, which is worked out directly.
+/// Whether a minute matches, by its date, which is worked out directly. The month is asked first: of the orders tried it is the quickest.
 #[inline(always)]
 fn matches(sets: &Sets, minute: u32) -> bool {
     let (day, time) = (minute / 1_440, minute % 1_440);
     let (_, month, of_month) = neri_schneider_civil(day);
-    let by_day = sets.days >> of_month & 1;
-    let by_weekday = sets.weekdays >> ((day + 4) % 7) & 1;
+    let by_day = sets.days >> of_month;
+    let by_weekday = sets.weekdays >> ((day + 4) % 7);
     let by_date = if sets.both {
         by_day & by_weekday
     } else {
         by_day | by_weekday
     };
-    let by_time = sets.hours >> (time / 60) & (sets.minutes >> (time % 60)) as u32 & 1;
-    sets.months >> month & by_date & by_time & 1 == 1
+    sets.months >> month & 1 != 0
+        && by_date & 1 != 0
+        && sets.hours >> (time / 60) & 1 != 0
+        && sets.minutes >> (time % 60) & 1 != 0
 }
 
 /// The next firing by the plain walk, minute by minute through one cycle of 400 years; none where nothing matches in it.

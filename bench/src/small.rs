@@ -35,7 +35,9 @@ pub fn run() {
     for fields in FIELDS {
         next(fields, &starts);
     }
-    println!("times as long as the search alone; the goals of both stand at the minute walk (schedule)");
+    println!(
+        "times as long as the search alone; the goals of both stand at the minute walk (schedule)"
+    );
 
     let title = "small, a setting's name and value, four calls, ns for all";
     print_pair_head(title, "second program");
