@@ -25,7 +25,7 @@ extern "C" {
 #endif
 
 /* The middle number counts the change requests that have landed. */
-#define EREMOTHYN_VERSION "1.7.0"
+#define EREMOTHYN_VERSION "1.8.0"
 
 /* The last minute of the calendar, 9999-12-31 23:59. */
 #define EREMOTHYN_LAST_MINUTE UINT64_C(4223371679)
@@ -35,6 +35,9 @@ extern "C" {
 #define EREMOTHYN_MAX_LINE 1000
 #define EREMOTHYN_MAX_ENTRIES 512
 #define EREMOTHYN_MAX_NAME 32
+
+/* What a compiled table may have: 7 bytes for each 3 of its normal text, which is so where every line of it is A=. */
+#define EREMOTHYN_MAX_COMPILED 114688
 
 /*
  * Which kind a table is. In a system table, as /etc/crontab is one, a user column stands between the time of each entry and
@@ -72,15 +75,18 @@ extern "C" {
 #define EREMOTHYN_TOO_MANY_ENTRIES UINT64_C(12) /* the 513th entry; column 1 */
 #define EREMOTHYN_USER_MALFORMED UINT64_C(20)   /* user column not of the form, in a system table; its first byte */
 
-/* Refusals of one entry, one minute, one setting, one normal text and one queue of waiting jobs. */
+/* Refusals of one entry, one minute, one setting, one normal text, records and one queue of waiting jobs. */
 #define EREMOTHYN_NO_SUCH_ENTRY UINT64_C(13)   /* no entry of that number */
 #define EREMOTHYN_NOT_ON_CALENDAR UINT64_C(14) /* the minute or the date is not on the calendar */
 #define EREMOTHYN_AT_BOOT_ONLY UINT64_C(15)    /* next firing of an @reboot entry */
 #define EREMOTHYN_NEVER UINT64_C(16)           /* no minute of the 400-year cycle matches */
 #define EREMOTHYN_PAST_THE_END UINT64_C(17)    /* would fire, but not before the calendar ends */
-#define EREMOTHYN_TOO_SHORT UINT64_C(18)       /* a lent buffer is too short for the text */
+#define EREMOTHYN_TOO_SHORT UINT64_C(18)       /* a lent buffer is too short for what is written */
 #define EREMOTHYN_NO_SETTING UINT64_C(19)      /* the line asked for is no setting, or isn't there */
 #define EREMOTHYN_TEXT_TOO_LONG UINT64_C(21)   /* a line of the normal text, or all of it, would pass a table's limits */
+#define EREMOTHYN_RECORD_CUT UINT64_C(22)      /* fewer bytes than a record's length says, or a length below 2 */
+#define EREMOTHYN_RECORD_UNKNOWN UINT64_C(23)  /* a kind of record below 32,768 that isn't 1, 2 or 3 */
+#define EREMOTHYN_RECORD_NO_LINE UINT64_C(24)  /* a record that no line of a table, of any length, could mean */
 #define EREMOTHYN_NOT_A_QUEUE UINT64_C(28)     /* not a queue of this table's entries, or not room for all of them */
 
 /* A refusal in plain words, for a message; the one place that has them. */
@@ -107,12 +113,15 @@ static inline const char *eremothyn_words(uint64_t refusal)
     case EREMOTHYN_AT_BOOT_ONLY: return "fires at boot only";
     case EREMOTHYN_NEVER: return "never fires";
     case EREMOTHYN_PAST_THE_END: return "fires no more before the year 10000";
-    case EREMOTHYN_TOO_SHORT: return "a buffer is too short for the text";
+    case EREMOTHYN_TOO_SHORT: return "a buffer is too short for what is written";
     case EREMOTHYN_NO_SETTING: return "no setting on this line";
     case EREMOTHYN_USER_MALFORMED:
         return "not a user column: user, user:group, user/class or user:group/class, each of 1 to 32 letters, digits, "
                "_, - and ., and - not first";
     case EREMOTHYN_TEXT_TOO_LONG: return "in normal form a line has more than 1000 bytes, or the table more than 49152";
+    case EREMOTHYN_RECORD_CUT: return "the record is cut short, or its length is below 2";
+    case EREMOTHYN_RECORD_UNKNOWN: return "an unknown kind of record, and not one that may be skipped";
+    case EREMOTHYN_RECORD_NO_LINE: return "the record says what no line of a table could mean";
     case EREMOTHYN_NOT_A_QUEUE: return "not a queue of this table's entries, or room for too few of them";
     default: return "no refusal has this number";
     }
@@ -149,9 +158,9 @@ uint64_t eremothyn_weekday(uint64_t minute);
 
 /*
  * Tables. A table is the bytes of a crontab, and the number of its kind stands behind them: EREMOTHYN_USER_TABLE or
- * EREMOTHYN_SYSTEM_TABLE. (eremothyn_normal_form alone takes no kind.) Its entries have the numbers 0, 1 and on, in file
- * order. Every call that takes a table reads it anew, and all but the two that say where a fault is refuse a bad one as
- * eremothyn_check does, before anything else.
+ * EREMOTHYN_SYSTEM_TABLE. (eremothyn_normal_form and eremothyn_compile take no kind.) Its entries have the numbers 0, 1
+ * and on, in file order. Every call that takes a table reads it anew, and all but the two that say where a fault is refuse
+ * a bad one as eremothyn_check does, before anything else.
  */
 
 /* How many entries the table has. */
@@ -228,6 +237,35 @@ uint64_t eremothyn_setting_value_length(const uint8_t *table, uint64_t table_len
  * EREMOTHYN_MAX_TABLE bytes are always room enough.
  */
 uint64_t eremothyn_normal_form(const uint8_t *table, uint64_t table_length, uint8_t *text, uint64_t text_length);
+
+/*
+ * Records: a user table compiled for a narrow link, and read back at its other end. A record is a length of two bytes, a
+ * kind of two bytes and a body; the length counts the kind and the body. Kind 1 is an entry with its times as bits, kind 2
+ * an @reboot entry, kind 3 a setting. `man 5 eremothyn-records` has every byte of them.
+ */
+
+/*
+ * Compiles a user table to records, at the front of a buffer; the bytes behind stay. Answers the length of the records.
+ * There is no kind: the bytes are always read as a user table's. Tables that mean the same have the same records.
+ *
+ * Refused with EREMOTHYN_TEXT_TOO_LONG where eremothyn_normal_form is; then with EREMOTHYN_TOO_SHORT if the buffer is too
+ * short. So EREMOTHYN_MAX_COMPILED bytes are always room enough.
+ */
+uint64_t eremothyn_compile(const uint8_t *table, uint64_t table_length, uint8_t *records, uint64_t records_length);
+
+/*
+ * Writes the normal text of the table that records mean, to the front of a buffer; the bytes behind stay. Answers the
+ * length of the text. A compiled table gives the text that eremothyn_normal_form gives, and that text compiles to the same
+ * records. Records of the kinds from 32,768 on are skipped.
+ *
+ * Refused for the first bad record with EREMOTHYN_RECORD_CUT, EREMOTHYN_RECORD_UNKNOWN or EREMOTHYN_RECORD_NO_LINE, the
+ * first that holds. Where none is bad, refused with EREMOTHYN_TOO_MANY_ENTRIES; then with EREMOTHYN_TEXT_TOO_LONG, as
+ * eremothyn_normal_form is; then with EREMOTHYN_TOO_SHORT. So EREMOTHYN_MAX_TABLE bytes are always room enough.
+ */
+uint64_t eremothyn_decompile(const uint8_t *records, uint64_t records_length, uint8_t *text, uint64_t text_length);
+
+/* The number of the first bad record, from 1, skipped ones counted; 0 where none is bad. */
+uint64_t eremothyn_record_fault(const uint8_t *records, uint64_t records_length);
 
 /*
  * The run queue: a table's waiting jobs, in a room of bytes that the caller lends. An entry stands in the

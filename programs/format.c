@@ -5,6 +5,7 @@
 
 #include "diff.h"
 #include "eremothyn.h"
+#include "refused.h"
 #include "rewrite.h"
 #include "shared.h"
 
@@ -16,30 +17,6 @@ static const struct option OPTIONS[] = {
     { 'd', "diff", "print the differences" },
     NO_OPTION,
 };
-
-/* Where a table's text is too long: at the first line that is so by itself, or else as a whole. */
-static struct place too_long_at(const struct file *table)
-{
-    const uint64_t too_long = EREMOTHYN_REFUSED + EREMOTHYN_TEXT_TOO_LONG;
-    uint64_t number = 1;
-    uint64_t place = 0;
-    while (place < table->length) {
-        struct part line = line_at(table, place);
-        if (eremothyn_normal_form(line.start, line.length, NULL, 0) == too_long)
-            return (struct place){ number, 1 };
-        number++;
-        place += line.length;
-    }
-    return (struct place){ 0, 0 };
-}
-
-static int refuse(const char *name, const struct file *table, uint64_t refusal)
-{
-    bool is_good = refusal == EREMOTHYN_TEXT_TOO_LONG;
-    struct place place = is_good ? too_long_at(table) : fault_of(table, EREMOTHYN_USER_TABLE);
-    tell_refusal(stderr, name, place, refusal);
-    return REFUSED;
-}
 
 static bool is_same(const struct file *one, const struct file *other)
 {
@@ -68,7 +45,7 @@ static int format(const char *name, unsigned given)
         return fail(name);
     uint64_t length = eremothyn_normal_form(table.bytes, table.length, text.bytes, sizeof text.bytes);
     if (EREMOTHYN_IS_REFUSED(length))
-        return refuse(name, &table, EREMOTHYN_REFUSAL(length));
+        return refuse_text(name, &table, EREMOTHYN_REFUSAL(length));
     text.length = length;
     if (given == 0) {
         fwrite(text.bytes, 1, text.length, stdout);
@@ -87,13 +64,7 @@ static bool names_input(const struct arguments *arguments)
 
 static int run(const struct arguments *arguments)
 {
-    static char input[] = "-";
-    char *only[] = { input };
-    struct arguments files = *arguments;
-    if (files.count == 0) {
-        files.count = 1;
-        files.operands = only;
-    }
+    struct arguments files = or_input(arguments);
     if (files.given & WRITE && names_input(&files))
         return misuse("standard input can't be rewritten");
     return each_file(&files, format);

@@ -2,7 +2,9 @@
 
 #define SUBCOMMANDS(ROW) \
     ROW(check) \
-    ROW(format)
+    ROW(format) \
+    ROW(compile) \
+    ROW(decompile)
 
 #include <stdio.h>
 #include <string.h>

@@ -112,19 +112,46 @@ int each_file(const struct arguments *arguments, int (*work)(const char *name, u
     return worst;
 }
 
-bool read_file(const char *name, struct file *file)
+struct arguments or_input(const struct arguments *arguments)
+{
+    static char input[] = "-";
+    static char *only[] = { input };
+    struct arguments files = *arguments;
+    if (files.count == 0) {
+        files.count = 1;
+        files.operands = only;
+    }
+    return files;
+}
+
+int one_file(const struct arguments *arguments, int (*work)(const char *name))
+{
+    if (arguments->count > 1)
+        return misuse("more than one file is named");
+    return work(or_input(arguments).operands[0]);
+}
+
+bool read_run(const char *name, struct run *run)
 {
     bool named = strcmp(name, "-") != 0;
     FILE *from = named ? fopen(name, "rb") : stdin;
     if (from == NULL)
         return false;
     errno = 0;
-    file->length = fread(file->bytes, 1, sizeof file->bytes, from);
+    run->length = fread(run->bytes, 1, run->room, from);
     bool whole = !ferror(from);
     int why = errno != 0 ? errno : EIO;
     if (named)
         fclose(from);
     errno = why;
+    return whole;
+}
+
+bool read_file(const char *name, struct file *file)
+{
+    struct run run = { file->bytes, sizeof file->bytes, 0 };
+    bool whole = read_run(name, &run);
+    file->length = run.length;
     return whole;
 }
 

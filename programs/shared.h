@@ -61,13 +61,29 @@ enum taken take_options(const struct option *options, int count, char **words, s
 /* Does something with each file that is named, in order; answers the highest of the statuses. */
 int each_file(const struct arguments *arguments, int (*work)(const char *name, unsigned given));
 
+/* The same arguments, where no file is named with standard input as the only one. */
+struct arguments or_input(const struct arguments *arguments);
+
+/* Does something with the one file that is named, or with standard input where none is; more are a misuse. */
+int one_file(const struct arguments *arguments, int (*work)(const char *name));
+
+/* Bytes that are read, as many as there is room for. */
+struct run {
+    uint8_t *bytes;
+    uint64_t room;
+    uint64_t length;
+};
+
+/* Reads a file, or standard input by the name "-". If that fails, errno has the reason. */
+bool read_run(const char *name, struct run *run);
+
 /* A file's bytes. There is room for one more than a table may have: the library refuses a longer file, and it isn't cut. */
 struct file {
     uint8_t bytes[EREMOTHYN_MAX_TABLE + 1];
     uint64_t length;
 };
 
-/* Reads a file, or standard input by the name "-". If that fails, errno has the reason. */
+/* The same for a table's file. */
 bool read_file(const char *name, struct file *file);
 
 /* Some of a file's bytes. */

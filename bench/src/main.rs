@@ -6,6 +6,7 @@ mod measure;
 mod normal;
 mod plain;
 mod queue;
+mod records;
 mod schedule;
 mod small;
 mod table;
@@ -13,12 +14,13 @@ mod table;
 use std::env;
 use std::process::ExitCode;
 
-const BENCHMARKS: [(&str, fn()); 6] = [
+const BENCHMARKS: [(&str, fn()); 7] = [
     ("calendar", calendar::run),
     ("schedule", schedule::run),
     ("small", small::run),
     ("table", table::run),
     ("normal", normal::run),
+    ("records", records::run),
     ("queue", queue::run),
 ];
 

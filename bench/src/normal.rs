@@ -19,11 +19,21 @@ const SETTINGS: [&str; 4] = [
 pub fn run() {
     let title = format!("normal, up to {TABLE_BYTES} bytes and {ENTRIES} entries written");
     print_head(&title, &["reading alone", "second program"]);
+    for (which, table) in tables() {
+        compare(which, &table);
+    }
+}
+
+/// Large tables of several sorts, each with a name.
+pub fn tables() -> [(&'static str, Vec<u8>); 4] {
     let written = full(&WRITTEN);
-    compare("as people write it", &written);
-    compare("in normal form already", &text_of(&written));
-    compare("lists in every field", &fitting(&LISTS));
-    compare("settings alone", &fitting(&SETTINGS));
+    let normal = text_of(&written);
+    [
+        ("as people write it", written),
+        ("in normal form already", normal),
+        ("lists in every field", fitting(&LISTS)),
+        ("settings alone", fitting(&SETTINGS)),
+    ]
 }
 
 fn compare(which: &str, table: &[u8]) {
@@ -50,7 +60,7 @@ fn second(table: &[u8]) -> Answer {
     normal_form(table, &mut text)
 }
 
-fn text_of(table: &[u8]) -> Vec<u8> {
+pub fn text_of(table: &[u8]) -> Vec<u8> {
     let mut text = vec![0; TABLE_BYTES];
     let length = Table::of(table).normal_form(&mut text[..]);
     text.truncate(length.expect("a text that fits") as usize);

@@ -6,5 +6,6 @@ pub mod Places
 pub mod Sets
 pub mod LeastBit
 pub mod Together
+pub mod LittleEndian
 pub mod Marks
 pub mod Written

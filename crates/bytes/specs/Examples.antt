@@ -1,10 +1,12 @@
--- The bytes of each kind, all 256 tried in order.
+-- The bytes of each kind, all 256 tried in order; and numbers in bytes.
 -- Assumes nothing.
 use mathlib.Core.Path.{_≡_, refl}
 use mathlib.Core.Bool.{Bool, cond}
 use mathlib.Core.List.{List, [], _∷_}
 use Prim.Native.Nat.{ℕ}
 use Rattle.bytes.specs.Classes.{isBlank, isQuote, isAccount}
+use Rattle.bytes.specs.LittleEndian.{littleEndian, numberOf, width}
+use Rattle.bytes.specs.Rows.{Hold}
 use Rattle.bytes.specs.Sets.{fromOn, upTo}
 use Rattle.bytes.specs.Texts.{text}
 
@@ -27,3 +29,15 @@ quotes = refl
 accounts : bytesOf isAccount ≡ text "-.0123456789ABCDEFGHIJKLMNOPQRSTUVWXYZ_abcdefghijklmnopqrstuvwxyz"
 unfolding those isAccount upTo fromOn
 accounts = refl
+
+-- numbers and their bytes, the low byte first
+inBytes : Hold (λ (n : ℕ). littleEndian 4 n) ((0, 0 ∷ 0 ∷ 0 ∷ 0 ∷ []) ∷ (258, 2 ∷ 1 ∷ 0 ∷ 0 ∷ []) ∷ (4278190337, 1 ∷ 1 ∷ 0 ∷ 255 ∷ []) ∷ [])
+unfolding littleEndian
+inBytes = refl
+
+ofBytes : Hold numberOf (([], 0) ∷ (2 ∷ 1 ∷ [], 258) ∷ (1 ∷ 1 ∷ 0 ∷ 255 ∷ [], 4278190337) ∷ [])
+unfolding numberOf
+ofBytes = refl
+
+widths : Hold width ((0, 1) ∷ (2, 65536) ∷ (4, 4294967296) ∷ (8, 18446744073709551616) ∷ [])
+widths = refl

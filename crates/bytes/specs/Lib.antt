@@ -6,5 +6,6 @@ pub mod Classes
 pub mod Runs
 pub mod Laid
 pub mod Sets
+pub mod LittleEndian
 pub mod Marks
 pub mod Examples

@@ -40,8 +40,8 @@ use Rattle.command.specs.Buffers.{Split, haveRoom, splitStep}
 use Rattle.command.proofs.Theorems.{split-length}
 use Rattle.normal.specs.declared.NormalAnswer.{NormalAnswer}
 use Rattle.normal.specs.declared.NormalAnswer.the-variants as normal
-use Rattle.normal.specs.NormalForms.{normalForm}
-use Rattle.normal.proofs.Theorems.{Told, form-told}
+use Rattle.normal.specs.NormalForms.{NormalForm}
+use Rattle.normal.proofs.Theorems.{Told, FormTold}
 use Rattle.fifo.specs.declared.Ticked.{Ticked}
 use Rattle.fifo.specs.declared.Ticked.the-variants as tick
 use Rattle.fifo.specs.declared.Popped.{Popped}
@@ -198,11 +198,12 @@ stdin-tells rules table i = go (entryIn (tableOf rules table) i) (entry-told rul
 
 -- ---- normal forms
 
-pub form-tells : (table text : List ℕ) → let a = normalForm table text .answer in Tells (byForm a) (normalNumber a)
+-- by what a writer's answer tells
+pub form-tells : (most : ℕ) (before : List ℕ) (f : NormalForm) → most ≤ refusedFrom → FormTold most before f → Tells (byForm (f .answer)) (normalNumber (f .answer))
 unfolding normalNumber
-form-tells table text = go (normalForm table text .answer) (form-told table text)
+form-tells most before f small = go (f .answer)
   where
-    go : (a : NormalAnswer) → Told text a (normalForm table text .buffer) → Tells (byForm a) (normalNumber a)
+    go : (a : NormalAnswer) → Told most before a (f .buffer) → Tells (byForm a) (normalNumber a)
     go (normal.Written size) h = omega (arith, h .0)
     go (normal.Refused number) h = (h .0, refl)
 
@@ -250,12 +251,12 @@ split-stays rules table i shell input = go (entryIn (tableOf rules table) i)
     go (entry.Found e) = step-stays (between table (e .start) (e .end)) shell input
     go (entry.Refused number) = (refl, refl)
 
-pub form-stays : (table text : List ℕ) → let f = normalForm table text in Stays (byForm (f .answer)) text (f .buffer)
-form-stays table text = go (normalForm table text .answer) (form-told table text)
+pub form-stays : (most : ℕ) (before : List ℕ) (f : NormalForm) → FormTold most before f → Stays (byForm (f .answer)) before (f .buffer)
+form-stays most before f = go (f .answer)
   where
-    go : (a : NormalAnswer) → Told text a (normalForm table text .buffer) → Stays (byForm a) text (normalForm table text .buffer)
+    go : (a : NormalAnswer) → Told most before a (f .buffer) → Stays (byForm a) before (f .buffer)
     go (normal.Written size) h = tt
-    go (normal.Refused number) h = h .2
+    go (normal.Refused number) h = h .1
 
 pub tick-keeps : (a : Ticked) (before after : List ℕ) → ((n : ℕ) → a ≡ tick.Refused n → after ≡ before) → Stays (byTick a) before after
 tick-keeps (tick.Joined k) before after h = tt

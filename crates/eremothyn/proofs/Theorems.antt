@@ -20,9 +20,14 @@ use Rattle.schedule.proofs.KnownDays as firings
 use Rattle.field.specs.Computing as field
 use Rattle.crontab.specs.declared.time.When.the-variants.{Timed}
 use Rattle.crontab.specs.declared.table.EntryAnswer.the-variants.{Found}
+use Rattle.crontab.specs.Limits.{maxTable}
 use Rattle.crontab.specs.Tables.{tableOf, entryIn}
 use Rattle.crontab.specs.Firings.{told, nextOf, nextAnswer, nextIn, dueIn}
 use Rattle.crontab.proofs.Theorems.{table-sound, due-told, next-told}
+use Rattle.normal.specs.NormalForms.{normalForm}
+use Rattle.normal.proofs.Theorems.{form-told}
+use Rattle.records.specs.Calls.{compiled, decompiled}
+use Rattle.records.proofs.Theorems.{mostRecords, compiled-told, decompiled-told, fault-told}
 use Rattle.runqueue.specs.Calls.{initTable, tickTable, popTable}
 use Rattle.runqueue.proofs.Theorems.{init-told, tick-told, pop-told, init-stays, tick-stays, pop-stays}
 use Rattle.crontab.specs.Computing.{reading}
@@ -103,7 +108,10 @@ told-apart =
       owner = owner-tells;
       split-command = split-tells;
       stdin-length = stdin-tells;
-      normal-form = form-tells;
+      normal-form = λ table text. form-tells maxTable text (normalForm table text) (omega arith) (form-told table text);
+      compile = λ table records. form-tells mostRecords records (compiled table records) (omega arith) (compiled-told table records);
+      decompile = λ records text. form-tells maxTable text (decompiled records text) (omega arith) (decompiled-told records text);
+      record-fault = λ records h. omega (arith, fault-told records);
       queue-init =
           λ rules table room. let t = tableOf rules table in
           tick-tells (t .count) (initTable t room .answer) (table-sound rules table .few) (init-told t room);
@@ -120,7 +128,9 @@ pub refused-stays : RefusedStays
 refused-stays =
     record {
       split-command = split-stays;
-      normal-form = form-stays;
+      normal-form = λ table text. form-stays maxTable text (normalForm table text) (form-told table text);
+      compile = λ table records. form-stays mostRecords records (compiled table records) (compiled-told table records);
+      decompile = λ records text. form-stays maxTable text (decompiled records text) (decompiled-told records text);
       queue-init = λ rules table room. let s = initTable (tableOf rules table) room in tick-keeps (s .answer) room (s .room) (init-stays (tableOf rules table) room);
       queue-tick =
           λ rules table room minute.

@@ -5,6 +5,7 @@
 use mathlib.Core.Path.{_≡_}
 use Prim.Native.Nat.{ℕ, zero, suc, _+_, _≤_}
 use mathlib.Core.List.{List}
+use lib.ListN.{length}
 use Rattle.calendar.specs.Dates.{dateOf, minuteOf}
 use Rattle.crontab.specs.declared.Rules.{Rules}
 use Rattle.crontab.specs.declared.table.EntryAnswer.{EntryAnswer}
@@ -22,6 +23,7 @@ use Rattle.command.specs.declared.SplitAnswer.the-variants as split
 use Rattle.normal.specs.declared.NormalAnswer.{NormalAnswer}
 use Rattle.normal.specs.declared.NormalAnswer.the-variants as normal
 use Rattle.normal.specs.NormalForms.{normalForm}
+use Rattle.records.specs.Calls.{compiled, decompiled, recordFault}
 use Rattle.fifo.specs.declared.Ticked.{Ticked}
 use Rattle.fifo.specs.declared.Ticked.the-variants as tick
 use Rattle.fifo.specs.declared.Popped.{Popped}
@@ -107,6 +109,10 @@ pub record ToldApart : Type 0 where
       → let a = splitOf rules table i shell input .answer in Tells (bySplit a) (splitNumber a)
   pub stdin-length : (rules : Rules) (table : List ℕ) (i : ℕ) → Tells (byEntry (entryIn (tableOf rules table) i)) (stdinLength rules table i)
   pub normal-form : (table text : List ℕ) → let a = normalForm table text .answer in Tells (byForm a) (normalNumber a)
+  pub compile : (table records : List ℕ) → let a = compiled table records .answer in Tells (byForm a) (normalNumber a)
+  pub decompile : (records text : List ℕ) → let a = decompiled records text .answer in Tells (byForm a) (normalNumber a)
+  -- of bytes that a number of 32 bits can count
+  pub record-fault : (records : List ℕ) → length records ≤ refusedFrom → Tells granted (recordFault records)
   pub queue-init : (rules : Rules) (table room : List ℕ) → let a = initTable (tableOf rules table) room .answer in Tells (byTick a) (tickNumber a)
   pub queue-tick : (rules : Rules) (table room : List ℕ) (minute : ℕ) → let a = tickTable (tableOf rules table) minute room .answer in Tells (byTick a) (tickNumber a)
   pub queue-pop : (rules : Rules) (table room : List ℕ) → let a = popTable (tableOf rules table) room .answer in Tells (byPop a) (popNumber a)
@@ -122,6 +128,8 @@ pub record RefusedStays : Type 0 where
   pub split-command : (rules : Rules) (table : List ℕ) (i : ℕ) (shell input : List ℕ)
       → let s = splitOf rules table i shell input in Stays (bySplit (s .answer)) shell (s .shell) × Stays (bySplit (s .answer)) input (s .input)
   pub normal-form : (table text : List ℕ) → let f = normalForm table text in Stays (byForm (f .answer)) text (f .buffer)
+  pub compile : (table records : List ℕ) → let f = compiled table records in Stays (byForm (f .answer)) records (f .buffer)
+  pub decompile : (records text : List ℕ) → let f = decompiled records text in Stays (byForm (f .answer)) text (f .buffer)
   pub queue-init : (rules : Rules) (table room : List ℕ) → let s = initTable (tableOf rules table) room in Stays (byTick (s .answer)) room (s .room)
   pub queue-tick : (rules : Rules) (table room : List ℕ) (minute : ℕ) → let s = tickTable (tableOf rules table) minute room in Stays (byTick (s .answer)) room (s .room)
   pub queue-pop : (rules : Rules) (table room : List ℕ) → let s = popTable (tableOf rules table) room in Stays (byPop (s .answer)) room (s .room)

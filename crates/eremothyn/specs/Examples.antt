@@ -14,6 +14,7 @@ use Rattle.crontab.specs.Owners.{ownerIn}
 use Rattle.crontab.specs.Settings.{settingIn}
 use Rattle.crontab.specs.Firings.{dueIn, nextIn}
 use Rattle.normal.specs.NormalForms.{normalForm}
+use Rattle.records.specs.Calls.{compiled, decompiled, recordFault}
 use Rattle.runqueue.specs.Calls.{initTable, tickTable, popTable}
 use Rattle.eremothyn.specs.Rules.{rulesOf}
 use Rattle.eremothyn.specs.declared.dates.DatePart.the-variants.{Year, Month, Day, Hour, Minute, Weekday}
@@ -215,6 +216,35 @@ forms : Hold formOn
     ∷ [])
 unfolding answering
 forms = refl
+
+-- ---- ticket 2026-08: a table and a buffer, and the records' length with the buffer as it is then; and back, with the first bad record
+
+abbrev compileOn : List ℕ × List ℕ → ℕ × List ℕ
+compileOn (s, buffer) = let f = compiled s buffer in (normalNumber (f .answer), f .buffer)
+
+compiles : Hold compileOn
+    (((text "# a\n@reboot  b c", text "--------"), (7, 5 ∷ 0 ∷ 2 ∷ 0 ∷ text "b c-"))
+    -- the table's refusal, 21 and 18
+    ∷ ((text "@reboot", text "--------"), (4294967305, text "--------"))
+    ∷ ((growing 836, text "-"), (4294967317, text "-"))
+    ∷ ((text "@reboot x", text "----"), (4294967314, text "----"))
+    ∷ [])
+unfolding answering
+compiles = refl
+
+abbrev decompileOn : List ℕ × List ℕ → ℕ × List ℕ × ℕ
+decompileOn (s, buffer) = let f = decompiled s buffer in (normalNumber (f .answer), f .buffer, recordFault s)
+
+decompiles : Hold decompileOn
+    (((5 ∷ 0 ∷ 2 ∷ 0 ∷ text "b c", text "-------------"), (12, text "@reboot b c\n-", 0))
+    -- 22, 23 and 24 of the second record, behind one that is skipped; 18
+    ∷ ((2 ∷ 0 ∷ 0 ∷ 128 ∷ 9 ∷ 0 ∷ [], text "-"), (4294967318, text "-", 2))
+    ∷ ((2 ∷ 0 ∷ 0 ∷ 128 ∷ 2 ∷ 0 ∷ 0 ∷ 0 ∷ [], text "-"), (4294967319, text "-", 2))
+    ∷ ((2 ∷ 0 ∷ 0 ∷ 128 ∷ 2 ∷ 0 ∷ 2 ∷ 0 ∷ [], text "-"), (4294967320, text "-", 2))
+    ∷ ((3 ∷ 0 ∷ 2 ∷ 0 ∷ 120 ∷ [], text "---------"), (4294967314, text "---------", 0))
+    ∷ [])
+unfolding answering
+decompiles = refl
 
 -- ---- the line of waiting jobs
 

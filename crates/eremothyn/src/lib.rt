@@ -6,6 +6,7 @@ pub mod entries;
 pub mod normal_forms;
 pub mod owners;
 pub mod queue;
+pub mod radio;
 mod rules;
 pub mod settings;
 pub mod tables;

@@ -6,7 +6,7 @@ use crate::answer::REFUSED;
 use normal::NormalAnswer;
 
 // The length of the text, or the refusal.
-fn normal_number(answer: NormalAnswer) -> u64
+pub(crate) fn normal_number(answer: NormalAnswer) -> u64
     ensures { λ r. ⌜ r ≡ normalNumber answer ⌝ }
 {
     match answer {

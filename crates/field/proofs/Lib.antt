@@ -16,6 +16,7 @@ pub mod SetBounds
 pub mod StarTexts
 pub mod ListTexts
 pub mod RoundTrip
+pub mod FieldTests
 pub mod TextBytes
 pub mod Writing
 pub mod Theorems

@@ -39,6 +39,60 @@ use Rattle.field.proofs.NumberTexts.{element-back, list-parts}
 abbrev pub Inside : Limits → List ℕ → Type 0
 Inside l vs = Each (λ (v : ℕ). (l .first ≤ v) × (v < l .bits)) vs
 
+-- ---- the values of a set
+
+-- a value is a member just where the set has it
+pub from-has : (n v k : ℕ) → v ≤ n → n < v + k → isIn n (fromOn v k) ≡ true
+unfolding fromOn isIn
+from-has n v zero h k = absurd (omega arith)
+from-has n v (suc count) h k = elim (decLe n v) [ yes i ↦ let e : v ≡ n = omega arith in rw (eq-eqb v n e) | no i ↦ rw (from-has n (suc v) count (omega arith) (omega arith)) (or-true (eqb v n)) ]
+
+pub having-has : (set n : ℕ) (vs : List ℕ) → isIn n (having set vs) ≡ (isIn n vs && hasBit set n)
+unfolding having isIn
+having-has set n [] = refl
+having-has set n (v ∷ vs) = go (hasBit set v) (eqb v n) refl refl (having-has set n vs)
+  where
+    go : (b t : Bool) → hasBit set v ≡ b → eqb v n ≡ t → isIn n (having set vs) ≡ (isIn n vs && hasBit set n)
+        → isIn n (cond b (v ∷ having set vs) (having set vs)) ≡ ((t || isIn n vs) && hasBit set n)
+    go true true p q e = rw q (sym (rw (eqb-true v n q) at p))
+    go true false p q e = rw q e
+    go false true p q e = let f : hasBit set n ≡ false = rw (eqb-true v n q) at p in rw f (rw f at e ∙ and-false (isIn n vs))
+    go false false p q e = e
+
+module _ (l : Limits) where
+  pub from-inside : (v n : ℕ) → l .first ≤ v → v + n ≤ l .first + (l .bits - l .first) → Inside l (fromOn v n)
+  unfolding fromOn
+  from-inside v zero h k = tt
+  from-inside v (suc n) h k = ((h, omega arith), from-inside (suc v) n (omega arith) (omega arith))
+
+  having-each : (set : ℕ) (vs : List ℕ) → Inside l vs → Inside l (having set vs)
+  unfolding having
+  having-each set [] h = tt
+  having-each set (v ∷ vs) h = go (hasBit set v) (having-each set vs (h .1))
+    where
+      go : (t : Bool) → Inside l (having set vs) → Inside l (cond t (v ∷ having set vs) (having set vs))
+      go true more = (h .0, more)
+      go false more = more
+
+  pub members-inside : (set : ℕ) → Inside l (members l set)
+  unfolding members
+  members-inside set = having-each set _ (from-inside (l .first) (l .bits - l .first) (omega arith) (omega arith))
+
+  pub inside-in : (vs : List ℕ) (v : ℕ) → Inside l vs → isIn v vs ≡ true → (l .first ≤ v) × (v < l .bits)
+  unfolding isIn
+  inside-in [] v h e = absurd (false≢true e)
+  inside-in (w ∷ vs) v h e = go (eqb w v) refl e (λ k. inside-in vs v (h .1) k)
+    where
+      go : (t : Bool) → eqb w v ≡ t → (t || isIn v vs) ≡ true → (isIn v vs ≡ true → (l .first ≤ v) × (v < l .bits)) → (l .first ≤ v) × (v < l .bits)
+      go true q e later = rw (eqb-true w v q) at (h .0)
+      go false q e later = later e
+
+  pub own-bits : (vs : List ℕ) → Inside l vs → map (bitOf l) vs ≡ vs
+  own-bits [] h = refl
+  own-bits (v ∷ vs) h = rw (own-bit l v (h .0 .1), own-bits vs (h .1))
+
+-- ---- the text of values
+
 module _ (l : Limits) (u : Usual l) where
   small : (vs : List ℕ) → Inside l vs → Each (λ (v : ℕ). v < 100) vs
   small vs h = each-so _ _ (λ v i. omega (arith, i .1, u .word, u .within)) vs h
@@ -77,57 +131,6 @@ module _ (l : Limits) (u : Usual l) where
     list-back =
         list-begins ∙ rw (list-parts v vs (small (v ∷ vs) h), are-elements (v ∷ vs) h) (judged-list column 0 (v ∷ vs) h)
 
-  -- ---- the values of a set
-
-  from-inside : (v n : ℕ) → l .first ≤ v → v + n ≤ l .first + (l .bits - l .first) → Inside l (fromOn v n)
-  unfolding fromOn
-  from-inside v zero h k = tt
-  from-inside v (suc n) h k = ((h, omega arith), from-inside (suc v) n (omega arith) (omega arith))
-
-  having-each : (set : ℕ) (vs : List ℕ) → Inside l vs → Inside l (having set vs)
-  unfolding having
-  having-each set [] h = tt
-  having-each set (v ∷ vs) h = go (hasBit set v) (having-each set vs (h .1))
-    where
-      go : (t : Bool) → Inside l (having set vs) → Inside l (cond t (v ∷ having set vs) (having set vs))
-      go true more = (h .0, more)
-      go false more = more
-
-  pub members-inside : (set : ℕ) → Inside l (members l set)
-  unfolding members
-  members-inside set = having-each set _ (from-inside (l .first) (l .bits - l .first) (omega arith) (omega arith))
-
-  -- a value is a member just where the set has it
-  from-has : (n v k : ℕ) → v ≤ n → n < v + k → isIn n (fromOn v k) ≡ true
-  unfolding fromOn isIn
-  from-has n v zero h k = absurd (omega arith)
-  from-has n v (suc count) h k = elim (decLe n v) [ yes i ↦ let e : v ≡ n = omega arith in rw (eq-eqb v n e) | no i ↦ rw (from-has n (suc v) count (omega arith) (omega arith)) (or-true (eqb v n)) ]
-
-  having-has : (set n : ℕ) (vs : List ℕ) → isIn n (having set vs) ≡ (isIn n vs && hasBit set n)
-  unfolding having isIn
-  having-has set n [] = refl
-  having-has set n (v ∷ vs) = go (hasBit set v) (eqb v n) refl refl (having-has set n vs)
-    where
-      go : (b t : Bool) → hasBit set v ≡ b → eqb v n ≡ t → isIn n (having set vs) ≡ (isIn n vs && hasBit set n)
-          → isIn n (cond b (v ∷ having set vs) (having set vs)) ≡ ((t || isIn n vs) && hasBit set n)
-      go true true p q e = rw q (sym (rw (eqb-true v n q) at p))
-      go true false p q e = rw q e
-      go false true p q e = let f : hasBit set n ≡ false = rw (eqb-true v n q) at p in rw f (rw f at e ∙ and-false (isIn n vs))
-      go false false p q e = e
-
-  inside-in : (vs : List ℕ) (v : ℕ) → Inside l vs → isIn v vs ≡ true → (l .first ≤ v) × (v < l .bits)
-  unfolding isIn
-  inside-in [] v h e = absurd (false≢true e)
-  inside-in (w ∷ vs) v h e = go (eqb w v) refl e (λ k. inside-in vs v (h .1) k)
-    where
-      go : (t : Bool) → eqb w v ≡ t → (t || isIn v vs) ≡ true → (isIn v vs ≡ true → (l .first ≤ v) × (v < l .bits)) → (l .first ≤ v) × (v < l .bits)
-      go true q e later = rw (eqb-true w v q) at (h .0)
-      go false q e later = later e
-
-  own-bits : (vs : List ℕ) → Inside l vs → map (bitOf l) vs ≡ vs
-  own-bits [] h = refl
-  own-bits (v ∷ vs) h = rw (own-bit l v (h .0 .1), own-bits vs (h .1))
-
   -- ---- a set that was read
 
   -- the first value of the first element
@@ -152,7 +155,7 @@ module _ (l : Limits) (u : Usual l) where
     unfolding members
     bit-kept n h =
         including-has n (omega (arith, u .word, u .within)) l 0 (members l set)
-        ∙ rw (none-has n, own-bits (members l set) (members-inside set)) (or-false _)
+        ∙ rw (none-has n, own-bits l (members l set) (members-inside l set)) (or-false _)
         ∙ having-has set n (fromOn (l .first) (l .bits - l .first))
         ∙ go (hasBit set n) refl
       where
@@ -166,7 +169,7 @@ module _ (l : Limits) (u : Usual l) where
     pub members-build : including l 0 (members l set) ≡ set
     members-build =
         same-bits (l .bits)
-        (including-fits l (u .enough) 0 (members l set) (pow-pos (l .bits)) (λ v e. let i = inside-in (members l set) v (members-inside set) e in omega (arith, i .1, u .within)))
+        (including-fits l (u .enough) 0 (members l set) (pow-pos (l .bits)) (λ v e. let i = inside-in l (members l set) v (members-inside l set) e in omega (arith, i .1, u .within)))
         (set-fits l (u .enough) column s q)
         bit-kept
 

@@ -3,7 +3,7 @@
 use mathlib.Core.Path.{_≡_, refl, sym, ap, _∙_}
 use mathlib.Core.Bool.{Bool, true, false, not, and-eq-true-iff}
 use mathlib.Core.List.{List, [], _∷_}
-use Prim.Native.Nat.{ℕ, _≤_, _<_}
+use Prim.Native.Nat.{ℕ, _^_, _≤_, _<_}
 use native.Mathlib.Decide.{decLe}
 use native.Mathlib.Omega.{arith}
 use lib.Dec.{eqb}
@@ -14,6 +14,7 @@ use Rattle.field.specs.Values.{including}
 use Rattle.field.specs.Fields.{readField}
 use Rattle.field.specs.Written.{starSet, gives, stepOf, starText, members, listText, fieldText, isField}
 use Rattle.field.proofs.UsualLimits.{Usual}
+use Rattle.field.proofs.SetBounds.{set-fits}
 use Rattle.field.proofs.StarTexts.{star-back, star-read, step-least, step-gives, step-smallest}
 use Rattle.field.proofs.ListTexts.{Inside, list-back, members-inside, members-build, set-some}
 
@@ -45,7 +46,11 @@ module _ (l : Limits) (u : Usual l) where
       ∙ ap (λ (x : ℕ). Values x true) (eqb-true (starSet l (stepOf l set)) set e)
   field-back column set false e =
       let t = and-eq-true-iff (not (eqb set 0)) (eqb (including l 0 (members l set)) set) .0 e in
-      listed column set (members l set) (members-inside l u set) (eqb-true _ set (t .1)) (eqb-false set 0 (not-true (eqb set 0) (t .0)))
+      listed column set (members l set) (members-inside l set) (eqb-true _ set (t .1)) (eqb-false set 0 (not-true (eqb set 0) (t .0)))
+
+  -- and has no bit past the field's
+  pub field-fits : (set : ℕ) (star : Bool) → isField l set star ≡ true → set < 2 ^ (l .bits)
+  field-fits set star e = set-fits l (u .enough) 0 (fieldText l set star) (field-back 0 set star e)
 
   -- a flagged field is written with the smallest step
   pub shortest-step : (set : ℕ) → isField l set true ≡ true → (fieldText l set true ≡ starText (stepOf l set)) × Shortest l set (stepOf l set)

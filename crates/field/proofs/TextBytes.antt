@@ -98,7 +98,7 @@ module _ (l : Limits) (u : Usual l) where
   pub field-bytes : (set : ℕ) (star : Bool) → Each FieldByte (fieldText l set star)
   unfolding fieldText
   field-bytes set true = star-bytes (stepOf l set) (omega (arith, step-least l (u .order) set .high, u .word))
-  field-bytes set false = list-bytes (members l set) (members-inside l u set)
+  field-bytes set false = list-bytes (members l set) (members-inside l set)
 
   -- no blank, so the text is one run
   pub field-solid : (set : ℕ) (star : Bool) → Each (λ (b : ℕ). ofClass Solid b ≡ true) (fieldText l set star)
@@ -117,7 +117,7 @@ module _ (l : Limits) (u : Usual l) where
   field-begins set true e = inl refl
   field-begins set false e =
       let t = and-eq-true-iff (not (eqb set 0)) (eqb (including l 0 (members l set)) set) .0 e in
-      list-begins set (members l set) (members-inside l u set) (eqb-true _ set (t .1)) (eqb-false set 0 (not-true (eqb set 0) (t .0)))
+      list-begins set (members l set) (members-inside l set) (eqb-true _ set (t .1)) (eqb-false set 0 (not-true (eqb set 0) (t .0)))
 
   pub field-length : (set : ℕ) (star : Bool) → length (fieldText l set star) ≤ 192
   unfolding fieldText members

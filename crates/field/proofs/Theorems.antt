@@ -8,7 +8,7 @@
 --   field-number: a refusal is 5 to 8
 -- Of the text of a set and a flag (ticket 2026-06), over usual limits, as the five fields have:
 --   field-proper: what is read may be written
---   field-back: what may be written is read back
+--   field-back, field-fits: what may be written is read back, and has no bit past the field's
 --   shortest-step, plain-star: a flagged field has the smallest step that gives the set, and is `*` just where that is 1
 --   field-bytes, field-solid, field-begins, field-length: its bytes, none of them blank, its first byte, and how many there are at most
 -- Assumes nothing.
@@ -31,7 +31,7 @@ pub use Rattle.field.proofs.Members.{values-members, set-members}
 pub use Rattle.field.proofs.SetBounds.{set-fits, Within, set-within}
 pub use Rattle.field.proofs.Refusals.{FieldNumber, field-number}
 pub use Rattle.field.proofs.UsualLimits.{Usual, minute-usual, hour-usual, day-usual, month-usual, weekday-usual}
-pub use Rattle.field.proofs.RoundTrip.{field-proper, field-back, Shortest, shortest-step, plain-star}
+pub use Rattle.field.proofs.RoundTrip.{field-proper, field-back, field-fits, Shortest, shortest-step, plain-star}
 pub use Rattle.field.proofs.TextBytes.{FieldByte, field-bytes, field-solid, Begins, field-begins, field-length}
 
 -- ---- a plain `*`

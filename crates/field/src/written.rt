@@ -1,5 +1,5 @@
-// The text of a field's set and flag (ticket 2026-06), measured, and written to a lent buffer. The limits are such as the five fields
-// have: their values have bits in a word.
+// The text of a field's set and flag (ticket 2026-06), measured, and written to a lent buffer; and whether a field may mean them. The
+// limits are such as the five fields have: their values have bits in a word.
 ghost use mathlib.Core.Path.{_≡_};
 ghost use mathlib.Core.Bool.{false};
 ghost use Prim.Native.Nat.{_+_, _*_, _≤_, _<_};
@@ -7,7 +7,7 @@ ghost use lib.Dec.{eqb};
 ghost use lib.ListN.{length};
 ghost use Rattle.bytes.specs.Laid.{Wrote};
 ghost use Rattle.field.specs.Steps.{InWord, memberText};
-ghost use Rattle.field.specs.Written.{gives, stepOf, starText, members, listText, fieldText};
+ghost use Rattle.field.specs.Written.{gives, stepOf, starText, members, listText, fieldText, isField};
 use crate::Limits;
 use crate::values::bit_of;
 use crate::values::with_values;
@@ -141,4 +141,18 @@ pub fn write(limits: Limits, set: u64, star: bool, out: &mut [u8], at: usize) ->
         return write_star(n, out, at);
     }
     write_list(limits, set, out, at)
+}
+
+// Whether a field may mean a set and a flag: a step gives the set; or it isn't empty and has no bit but those of the field's values.
+pub fn is_field(limits: Limits, set: u64, star: bool) -> bool
+    requires { ⌜ InWord limits × (limits .first < limits .bits) ⌝ }
+    ensures { λ r. ⌜ r ≡ isField limits set star ⌝ }
+{
+    if star {
+        return is_step(limits, set, step_of(limits, set));
+    }
+    let first = limits.first as u16;
+    let last = limits.bits as u16 - 1;
+    let full = with_values(0, limits, first, last, 1);
+    (set != 0) & (full & set == set)
 }

@@ -8,10 +8,8 @@ use native.Mathlib.Numerals.{add-one}
 use lib.ListN.{length, getD, take, length-take, List·getD-eq-default}
 use lib.Seq.{getD-take}
 use Rattle.fifo.specs.Layout.{numbers, bytes, counted, lineOf, limit}
-
 -- what a u8 is, at every place
-abbrev pub Bytes : List ℕ → Type 0
-Bytes s = (i : ℕ) → getD s i 0 < 256
+pub use Rattle.bytes.proofs.LittleEndian.{Bytes}
 
 -- ---- numbers in bytes
 

@@ -8,26 +8,32 @@
 --   equal-meanings, equal-forms, equal-texts: equal meanings write equal bytes, whatever the buffer, and other meanings others
 --   normal-again, form-again: a normal text is written as itself
 --   form-told: a refused call changes no byte, and any call keeps the buffer's length
+--   schedule-small: the sets of a schedule that passes the test fit the bytes that they have
 --   shortest-step: the n of a field's `*/n` is the smallest that gives its set, over any limits; `field` has it
 -- Assumes nothing.
 use mathlib.Core.Path.{_≡_, refl, sym, ap, _∙_}
 use mathlib.Core.Bool.{Bool, true, false, cond, and-eq-true-iff}
 use mathlib.Core.List.{List, _++_}
-use Prim.Native.Nat.{ℕ, _≤_}
+use Prim.Native.Nat.{ℕ, _≤_, _<_}
 use native.Mathlib.Omega.{arith}
 use lib.ListN.{length, drop, length-append, length-drop}
 use lib.Dec.{eqb, leb}
 use borrow.Author.Tests.{leb-true, eqb-false}
 use Rattle.bytes.specs.Laid.{laid}
+use Rattle.bytes.specs.LittleEndian.{width}
+use Rattle.field.specs.Limits.{minuteLimits, hourLimits, dayLimits, monthLimits, weekdayLimits}
+use Rattle.field.proofs.Theorems.{field-fits, minute-usual, hour-usual, day-usual, month-usual, weekday-usual}
+use Rattle.schedule.specs.declared.Schedule.{Schedule}
 use Rattle.crontab.specs.Limits.{maxTable}
 pub use Rattle.field.proofs.Theorems.{shortest-step}
 use Rattle.crontab.specs.Tables.{tableOf}
-use Rattle.crontab.proofs.Theorems.{table-sound}
 use Rattle.normal.specs.declared.NormalAnswer.{NormalAnswer}
 use Rattle.normal.specs.declared.NormalAnswer.the-variants.{Written, Refused}
 use Rattle.normal.specs.Meanings.{Item, ofUser, meaningOf}
 use Rattle.normal.specs.Texts.{normalText, areShort, fits}
+use Rattle.normal.specs.Proper.{isSchedule}
 use Rattle.normal.specs.NormalForms.{NormalForm, refusedForm, laidForm, formOf, normalForm}
+use Rattle.normal.proofs.EntryTexts.{schedule-parts}
 pub use Rattle.normal.proofs.Lines.{line-proper, line-back}
 pub use Rattle.normal.proofs.Quotes.{name-bare, value-bare}
 pub use Rattle.normal.proofs.Tables.{meaning-lines, meaning-proper, meaning-few, written-good, written-means}
@@ -68,6 +74,20 @@ pub normal-again : (s : List ℕ) → tableOf ofUser s .refusal ≡ 0 → fits (
     → normalText (meaningOf (normalText (meaningOf s))) ≡ normalText (meaningOf s)
 normal-again s good e = ap normalText (read-back s good e .1)
 
+-- ---- the sets of a schedule
+
+-- they fit eight bytes, four, four, two and one
+pub schedule-small : (s : Schedule) → isSchedule s ≡ true
+    → (s .minutes < width 8) × (s .hours < width 4) × (s .days < width 4) × (s .months < width 2) × (s .weekdays < width 1)
+schedule-small s e =
+    let p = schedule-parts s e in (
+      omega (arith, field-fits minuteLimits minute-usual (s .minutes) (s .stars .minutes) (p .minutes)),
+      omega (arith, field-fits hourLimits hour-usual (s .hours) (s .stars .hours) (p .hours)),
+      omega (arith, field-fits dayLimits day-usual (s .days) (s .stars .days) (p .days)),
+      omega (arith, field-fits monthLimits month-usual (s .months) (s .stars .months) (p .months)),
+      omega (arith, field-fits weekdayLimits weekday-usual (s .weekdays) (s .stars .weekdays) (p .weekdays)),
+    )
+
 -- ---- the call
 
 good-form : (s buffer : List ℕ) → tableOf ofUser s .refusal ≡ 0 → normalForm s buffer ≡ formOf (meaningOf s) buffer
@@ -87,45 +107,44 @@ form-again s buffer good e =
 
 -- ---- what comes back
 
--- of a buffer as it was and as it is: a refusal has its number, and changes no byte; what is written is no longer than a table
-abbrev pub Told : List ℕ → NormalAnswer → List ℕ → Type 0
-Told before (Written size) now = (size ≤ maxTable) × (size ≤ length before) × (length now ≡ length before)
-Told before (Refused number) now = (1 ≤ number) × (number ≤ 21) × (now ≡ before)
+-- of a buffer as it was and as it is: a refusal has its number, and changes no byte; what is written has at most so many bytes
+abbrev pub Told : ℕ → List ℕ → NormalAnswer → List ℕ → Type 0
+Told most before (Written size) now = (size ≤ most) × (size ≤ length before) × (length now ≡ length before)
+Told most before (Refused number) now = (1 ≤ number) × (now ≡ before)
 
-laid-told : (t buffer : List ℕ) → length t ≤ maxTable → Told buffer (laidForm t buffer .answer) (laidForm t buffer .buffer)
+abbrev pub FormTold : ℕ → List ℕ → NormalForm → Type 0
+FormTold most before f = Told most before (f .answer) (f .buffer)
+
+pub refused-told : (most number : ℕ) (buffer : List ℕ) → 1 ≤ number → FormTold most buffer (refusedForm number buffer)
+unfolding refusedForm
+refused-told most number buffer h = (h, refl)
+
+pub laid-told : (most : ℕ) (t buffer : List ℕ) → length t ≤ most → FormTold most buffer (laidForm t buffer)
 unfolding laidForm refusedForm laid
-laid-told t buffer small = go (leb (length t) (length buffer)) refl
+laid-told most t buffer small = go (leb (length t) (length buffer)) refl
   where
     form : Bool → NormalForm
     form b = cond b (record { answer = Written (length t); buffer = t ++ drop (length t) buffer }) (record { answer = Refused 18; buffer = buffer })
 
-    go : (b : Bool) → leb (length t) (length buffer) ≡ b → Told buffer (form b .answer) (form b .buffer)
+    go : (b : Bool) → leb (length t) (length buffer) ≡ b → FormTold most buffer (form b)
     go true e =
         let room = leb-true (length t) (length buffer) e in
         (small, room, omega (arith, length-append t (drop (length t) buffer), length-drop (length t) buffer))
-    go false e = (omega arith, omega arith, refl)
+    go false e = (omega arith, refl)
 
-items-told : (is : List Item) (buffer : List ℕ) → Told buffer (formOf is buffer .answer) (formOf is buffer .buffer)
-unfolding formOf refusedForm
+pub items-told : (is : List Item) (buffer : List ℕ) → FormTold maxTable buffer (formOf is buffer)
+unfolding formOf
 items-told is buffer = go (fits is) refl
   where
-    form : Bool → NormalForm
-    form b = cond b (laidForm (normalText is) buffer) (record { answer = Refused 21; buffer = buffer })
+    go : (b : Bool) → fits is ≡ b → FormTold maxTable buffer (cond b (laidForm (normalText is) buffer) (refusedForm 21 buffer))
+    go true e = laid-told maxTable (normalText is) buffer (fits-parts is e .small)
+    go false e = refused-told maxTable 21 buffer (omega arith)
 
-    go : (b : Bool) → fits is ≡ b → Told buffer (form b .answer) (form b .buffer)
-    go true e = laid-told (normalText is) buffer (fits-parts is e .small)
-    go false e = (omega arith, omega arith, refl)
-
-pub form-told : (s buffer : List ℕ) → Told buffer (normalForm s buffer .answer) (normalForm s buffer .buffer)
-unfolding normalForm refusedForm
+pub form-told : (s buffer : List ℕ) → FormTold maxTable buffer (normalForm s buffer)
+unfolding normalForm
 form-told s buffer = go (eqb (tableOf ofUser s .refusal) 0) refl
   where
-    number : ℕ
-    number = tableOf ofUser s .refusal
-
-    form : Bool → NormalForm
-    form b = cond b (formOf (meaningOf s) buffer) (record { answer = Refused number; buffer = buffer })
-
-    go : (b : Bool) → eqb number 0 ≡ b → Told buffer (form b .answer) (form b .buffer)
+    go : (b : Bool) → eqb (tableOf ofUser s .refusal) 0 ≡ b
+        → FormTold maxTable buffer (cond b (formOf (meaningOf s) buffer) (refusedForm (tableOf ofUser s .refusal) buffer))
     go true e = items-told (meaningOf s) buffer
-    go false e = (omega (arith, eqb-false number 0 e), omega (arith, table-sound ofUser s .number), refl)
+    go false e = refused-told maxTable (tableOf ofUser s .refusal) buffer (omega (arith, eqb-false (tableOf ofUser s .refusal) 0 e))

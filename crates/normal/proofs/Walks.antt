@@ -1,5 +1,5 @@
--- Laws of the two walks over a table's lines, one that measures and one that writes: after a step what is left gives the same. And what
--- comes back, by what is measured.
+-- Laws of the two walks over a table's lines, one that measures and one that writes: after a step what is left gives the same. What is written
+-- may be any text that has a part for each line. And what comes back, by what is measured.
 -- Assumes nothing.
 use mathlib.Core.Path.{_≡_, refl, sym, ap, _∙_}
 use mathlib.Core.Bool.{Bool, true, false, cond, _&&_, and-true, and-assoc}
@@ -31,7 +31,7 @@ use Rattle.crontab.proofs.Tables.{verdictFrom, table-verdict}
 use Rattle.crontab.proofs.Theorems.{table-short}
 use Rattle.normal.specs.declared.NormalAnswer.{NormalAnswer}
 use Rattle.normal.specs.declared.NormalAnswer.the-variants as answer
-use Rattle.normal.specs.Meanings.{setting, entryItem, ofUser, meanings, meaningOf}
+use Rattle.normal.specs.Meanings.{Item, setting, entryItem, ofUser, meanings, meaningOf}
 use Rattle.normal.specs.Texts.{itemText, normalText, areShort, fits}
 use Rattle.normal.specs.NormalForms.{refusedForm, laidForm, formOf, normalForm}
 use Rattle.normal.specs.Steps.{Within, lineText, measured}
@@ -188,60 +188,89 @@ module _ (s : List ℕ) where
     unfolding given measureFrom
     measure-refused is = rw (step .gives, is)
 
+-- ---- a text in parts
+
+-- what is written of the items of a table: the parts of its lines, one behind the other
+pub record InParts (s : List ℕ) (part : line.Item → List ℕ) (all : List Item → List ℕ) : Type 0 where
+  pub none : all [] ≡ []
+  pub next : (n : ℕ) (later : Items) (x : line.Item) → Kept x → part x ++ all (meanings s later) ≡ all (meanings s (given n x later))
+
+pub text-parts : (s : List ℕ) → InParts s (lineText s) normalText
+unfolding normalText
+text-parts s = record { none = refl; next = λ n later. given-text s n 0 later }
+
+module _ {s : List ℕ} {part : line.Item → List ℕ} {all : List Item → List ℕ} (parts : InParts s part all) where
+  module _ {c : Cursor} {r : Step} (step : StepIs ofUser s c r) (kept : Kept (r .item)) where
+    parts-next : part (r .item) ++ all (meanings s (itemsAt ofUser s (r .next))) ≡ all (meanings s (itemsAt ofUser s c))
+    parts-next = parts .next (c .line) (itemsAt ofUser s (r .next)) (r .item) kept ∙ rw (step .gives)
+
+    -- its length, part by part
+    pub size-next : (size : ℕ)
+        → size + length (part (r .item)) + length (all (meanings s (itemsAt ofUser s (r .next)))) ≡ size + length (all (meanings s (itemsAt ofUser s c)))
+    size-next size = omega (arith, simp length-append at (ap length parts-next))
+
+  pub size-starts : length s ≤ maxTable → 0 + length (all (meanings s (itemsAt ofUser s start))) ≡ length (all (meaningOf s))
+  unfolding meaningOf
+  size-starts short = rw (items-start ofUser s short) (omega arith)
+
+  pub size-ends : (c : Cursor) (size : ℕ) → length s ≤ c .at → size + length (all (meanings s (itemsAt ofUser s c))) ≡ size
+  unfolding meanings
+  size-ends c size h = rw (items-end ofUser s c h, parts .none) (omega arith)
+
 -- ---- writing
 
 -- the lines up to a cursor are written
-pub record Lined (s before : List ℕ) (c : Cursor) (at : ℕ) (now : List ℕ) : Type 0 where
+pub record Lined (s : List ℕ) (all : List Item → List ℕ) (before : List ℕ) (c : Cursor) (at : ℕ) (now : List ℕ) : Type 0 where
   pub going : Going s c
   pub clean : Clean (itemsAt ofUser s c)
   pub text : List ℕ
   pub wrote : Wrote 0 text before at now
-  pub rest : text ++ normalText (meanings s (itemsAt ofUser s c)) ≡ normalText (meaningOf s)
+  pub rest : text ++ all (meanings s (itemsAt ofUser s c)) ≡ all (meaningOf s)
 
-module _ (s before : List ℕ) (room : length (normalText (meaningOf s)) ≤ length before) where
-  pub lined-starts : tableOf ofUser s .refusal ≡ 0 → Lined s before start 0 before
-  unfolding meaningOf tableOf
-  lined-starts good =
-      let short = table-short ofUser s good in
-      record {
-        going = going-starts s short;
-        clean = rw (items-start ofUser s short) (good-clean (length s) 0 _ (itemsOf ofUser s) (items-sound ofUser s) good);
-        text = [];
-        wrote = wrote-none 0 before (omega arith);
-        rest = rw (items-start ofUser s short);
-      }
+pub lined-starts : (s : List ℕ) (all : List Item → List ℕ) (before : List ℕ) → tableOf ofUser s .refusal ≡ 0 → Lined s all before start 0 before
+unfolding meaningOf tableOf
+lined-starts s all before good =
+    let short = table-short ofUser s good in
+    record {
+      going = going-starts s short;
+      clean = rw (items-start ofUser s short) (good-clean (length s) 0 _ (itemsOf ofUser s) (items-sound ofUser s) good);
+      text = [];
+      wrote = wrote-none 0 before (omega arith);
+      rest = rw (items-start ofUser s short);
+    }
 
-  module _ {c : Cursor} {at : ℕ} {now : List ℕ} (so : Lined s before c at now) where
+module _ {s before : List ℕ} {part : line.Item → List ℕ} {all : List Item → List ℕ} (parts : InParts s part all) where
+  module _ {c : Cursor} {at : ℕ} {now : List ℕ} (so : Lined s all before c at now) where
     module _ {r : Step} (step : StepIs ofUser s c r) where
       kept : Kept (r .item) × Clean (itemsAt ofUser s (r .next))
       kept = given-clean s (c .line) (c .count) (itemsAt ofUser s (r .next)) (r .item) (rw (step .gives) at (so .clean))
 
-      turn : (so .text ++ lineText s (r .item)) ++ normalText (meanings s (itemsAt ofUser s (r .next))) ≡ normalText (meaningOf s)
+      turn : (so .text ++ part (r .item)) ++ all (meanings s (itemsAt ofUser s (r .next))) ≡ all (meaningOf s)
       turn =
-          append-assoc (so .text) (lineText s (r .item)) _
-          ∙ ap (λ (t : List ℕ). so .text ++ t) (given-text s (c .line) (c .count) (itemsAt ofUser s (r .next)) (r .item) (kept .0))
-          ∙ rw (← (step .gives)) (so .rest)
+          append-assoc (so .text) (part (r .item)) _
+          ∙ ap (λ (t : List ℕ). so .text ++ t) (parts-next parts step (kept .0))
+          ∙ so .rest
 
-      pub lined-room : Within s (r .item) × (at + length (lineText s (r .item)) ≤ length now)
-      lined-room =
+      pub lined-room : length (all (meaningOf s)) ≤ length before → Within s (r .item) × (at + length (part (r .item)) ≤ length now)
+      lined-room room =
           (going-within step (so .going), omega (arith, simp length-append at (ap length turn), so .wrote .place, so .wrote .size))
 
-      pub lined-next : (at' : ℕ) (now' : List ℕ) → Wrote at (lineText s (r .item)) now at' now' → Lined s before (r .next) at' now'
+      pub lined-next : (at' : ℕ) (now' : List ℕ) → Wrote at (part (r .item)) now at' now' → Lined s all before (r .next) at' now'
       lined-next at' now' w =
           record {
             going = going-next step (so .going) (kept .0);
             clean = kept .1;
-            text = so .text ++ lineText s (r .item);
+            text = so .text ++ part (r .item);
             wrote = wrote-next (so .wrote) w;
             rest = turn;
           }
 
-    pub lined-ends : length s ≤ c .at → now ≡ laid (normalText (meaningOf s)) before
-    unfolding meanings normalText
+    pub lined-ends : length s ≤ c .at → now ≡ laid (all (meaningOf s)) before
+    unfolding meanings
     lined-ends h =
-        let all : so .text ≡ normalText (meaningOf s) =
-        sym (append-nil (so .text)) ∙ rw (items-end ofUser s c h) at (so .rest) in
-        so .wrote .bytes ∙ rw all (written-front (normalText (meaningOf s)) before)
+        let whole : so .text ≡ all (meaningOf s) =
+        sym (append-nil (so .text)) ∙ rw (items-end ofUser s c h, parts .none) at (so .rest) in
+        so .wrote .bytes ∙ rw whole (written-front (all (meaningOf s)) before)
 
 -- ---- what comes back
 

@@ -19,6 +19,10 @@ use Rattle.normal.specs.Refusals.{tooLong}
 use Rattle.normal.specs.Meanings.{setting, entryItem, ofUser, meaningOf}
 use Rattle.normal.specs.Texts.{doubleQuote, singleQuote, quoted, space, itemText, normalText, fits}
 
+-- no part of a table or of a record is longer: its places have 16 bits
+abbrev pub longest : ℕ
+longest = 65535
+
 -- ---- a setting
 
 unfoldable pub quoteFor : List ℕ → ℕ

@@ -5,10 +5,9 @@ ghost use lib.ListN.{length};
 ghost use Rattle.bytes.specs.Laid.{Wrote};
 ghost use Rattle.field.specs.Steps.{InWord};
 ghost use Rattle.field.specs.Written.{fieldText};
-ghost use Rattle.crontab.specs.Limits.{maxTable};
 ghost use Rattle.normal.specs.Meanings.{entryItem};
 ghost use Rattle.normal.specs.Texts.{scheduleText, itemText};
-ghost use Rattle.normal.specs.Steps.{spaced};
+ghost use Rattle.normal.specs.Steps.{longest, spaced};
 use bytes::write;
 use crontab::time::When;
 use field::Limits;
@@ -52,8 +51,8 @@ fn write_schedule(s: Schedule, out: &mut [u8], at: usize) -> usize
 }
 
 // How long the line is without its newline.
-pub(crate) fn text_length(when: When, command: &[u8]) -> usize
-    requires { ⌜ length (now command) ≤ maxTable ⌝ }
+pub fn text_length(when: When, command: &[u8]) -> usize
+    requires { ⌜ length (now command) ≤ longest ⌝ }
     ensures { λ r. ⌜ (r ≡ length (itemText (entryItem when (now (command .entry))))) × (r ≤ length (now (command .entry)) + 433) ⌝ }
 {
     match when {
@@ -63,7 +62,7 @@ pub(crate) fn text_length(when: When, command: &[u8]) -> usize
 }
 
 // Writes it at a place, where there is room for it, and answers the place behind it.
-pub(crate) fn write(when: When, command: &[u8], out: &mut [u8], at: usize) -> usize
+pub fn write(when: When, command: &[u8], out: &mut [u8], at: usize) -> usize
     requires { ⌜ at + length (itemText (entryItem when (now command))) ≤ length (now out) ⌝ }
     ensures { λ r. ⌜ Wrote at (itemText (entryItem when (now (command .entry)))) (now (out .entry)) r (now (out .exit)) ⌝ }
 {

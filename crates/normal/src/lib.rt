@@ -1,7 +1,8 @@
-// What a user's table means, and its normal text (ticket 2026-06).
-mod entry;
-mod line;
-mod setting;
+// What a user's table means, and its normal text (ticket 2026-06); and what a line can mean.
+pub mod entry;
+pub mod line;
+pub mod proper;
+pub mod setting;
 mod table;
 
 ghost use mathlib.Core.Path.{_≡_};

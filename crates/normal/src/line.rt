@@ -12,14 +12,14 @@ use bytes::write;
 use crontab::item::Item;
 
 // Some bytes of a table.
-fn part(s: &[u8], start: usize, end: usize) -> &[u8]
+pub fn part(s: &[u8], start: usize, end: usize) -> &[u8]
     requires { ⌜ PartOf (now s) start end ⌝ }
     ensures { λ r. ⌜ (now r ≡ between (now (s .entry)) start end) × (length (now r) ≤ length (now (s .entry))) ⌝ }
 {
     &s[start..end]
 }
 
-pub(crate) fn text_length(s: &[u8], item: Item) -> usize
+pub fn text_length(s: &[u8], item: Item) -> usize
     requires { ⌜ (length (now s) ≤ maxTable) × Within (now s) item ⌝ }
     ensures { λ r. ⌜ (r ≡ length (lineText (now (s .entry)) item)) × (r ≤ 2 * maxTable + 434) ⌝ }
 {

@@ -3,10 +3,9 @@ ghost use mathlib.Core.Path.{_≡_};
 ghost use Prim.Native.Nat.{_+_, _≤_};
 ghost use lib.ListN.{length};
 ghost use Rattle.bytes.specs.Laid.{Wrote};
-ghost use Rattle.crontab.specs.Limits.{maxTable};
 ghost use Rattle.normal.specs.Meanings.{setting};
 ghost use Rattle.normal.specs.Texts.{startsOther, isBareName, isBareValue, itemText};
-ghost use Rattle.normal.specs.Steps.{quoteFor, bareOrQuoted};
+ghost use Rattle.normal.specs.Steps.{longest, quoteFor, bareOrQuoted};
 use bytes::class::Class;
 use bytes::class::is_in;
 use bytes::class::is_quote;
@@ -23,13 +22,13 @@ fn starts_other(b: u8) -> bool
     (b == b'#') | starts_entry(b)
 }
 
-fn is_bare_name(name: &[u8]) -> bool
+pub(crate) fn is_bare_name(name: &[u8]) -> bool
     ensures { λ r. ⌜ r ≡ isBareName (now (name .entry)) ⌝ }
 {
     (skip(name, 0, Class::Name) == name.len()) & !starts_other(byte_at(name, 0))
 }
 
-fn is_bare_value(value: &[u8]) -> bool
+pub(crate) fn is_bare_value(value: &[u8]) -> bool
     ensures { λ r. ⌜ r ≡ isBareValue (now (value .entry)) ⌝ }
 {
     let first = byte_at(value, 0);
@@ -48,7 +47,7 @@ fn quote_for(part: &[u8]) -> u8
 
 // How long a name or a value is, bare or in quotes.
 fn part_length(part: &[u8], bare: bool) -> usize
-    requires { ⌜ length (now part) ≤ maxTable ⌝ }
+    requires { ⌜ length (now part) ≤ longest ⌝ }
     ensures { λ r. ⌜ (r ≡ length (bareOrQuoted bare (now (part .entry)))) × (r ≤ length (now (part .entry)) + 2) ⌝ }
 {
     if bare {
@@ -71,8 +70,8 @@ fn write_part(part: &[u8], bare: bool, out: &mut [u8], at: usize) -> usize
 }
 
 // How long the line is without its newline.
-pub(crate) fn text_length(name: &[u8], value: &[u8]) -> usize
-    requires { ⌜ (length (now name) ≤ maxTable) × (length (now value) ≤ maxTable) ⌝ }
+pub fn text_length(name: &[u8], value: &[u8]) -> usize
+    requires { ⌜ (length (now name) ≤ longest) × (length (now value) ≤ longest) ⌝ }
     ensures { λ r. ⌜ (r ≡ length (itemText (setting (now (name .entry)) (now (value .entry))))) × (r ≤ length (now (name .entry)) + length (now (value .entry)) + 5) ⌝ }
 {
     let name_length = part_length(name, is_bare_name(name));
@@ -81,7 +80,7 @@ pub(crate) fn text_length(name: &[u8], value: &[u8]) -> usize
 }
 
 // Writes it at a place, where there is room for it, and answers the place behind it.
-pub(crate) fn write(name: &[u8], value: &[u8], out: &mut [u8], at: usize) -> usize
+pub fn write(name: &[u8], value: &[u8], out: &mut [u8], at: usize) -> usize
     requires { ⌜ at + length (itemText (setting (now name) (now value))) ≤ length (now out) ⌝ }
     ensures { λ r. ⌜ Wrote at (itemText (setting (now (name .entry)) (now (value .entry)))) (now (out .entry)) r (now (out .exit)) ⌝ }
 {

@@ -13,7 +13,8 @@ enum { STACK = 1 << 20, PATTERN = 0xA5, ROOM = 8 * EREMOTHYN_MAX_ENTRIES + 64 };
 static uint8_t stack[STACK];
 static uint8_t room[ROOM], shell[EREMOTHYN_MAX_LINE], input[EREMOTHYN_MAX_LINE];
 static uint8_t table[EREMOTHYN_MAX_TABLE], text[EREMOTHYN_MAX_TABLE];
-static size_t length;
+static uint8_t records[EREMOTHYN_MAX_COMPILED], compiled[EREMOTHYN_MAX_COMPILED];
+static size_t length, records_length;
 static uint64_t kind;
 
 static void check(void) { eremothyn_check(table, length, kind); }
@@ -29,6 +30,9 @@ static void split_command(void)
 static void user_offset(void) { eremothyn_user_offset(table, length, kind, 511); }
 static void setting_value_length(void) { eremothyn_setting_value_length(table, length, kind, 1); }
 static void normal_form(void) { eremothyn_normal_form(table, length, text, sizeof text); }
+static void compile(void) { eremothyn_compile(table, length, compiled, sizeof compiled); }
+static void decompile(void) { eremothyn_decompile(records, records_length, text, sizeof text); }
+static void record_fault(void) { eremothyn_record_fault(records, records_length); }
 static void queue_init(void) { eremothyn_queue_init(table, length, kind, room, sizeof room); }
 static void queue_tick(void) { eremothyn_queue_tick(table, length, kind, room, sizeof room, 0); }
 static void queue_pop(void) { eremothyn_queue_pop(table, length, kind, room, sizeof room); }
@@ -50,6 +54,9 @@ static const struct call {
     {"user_offset", user_offset},
     {"setting_value_length", setting_value_length},
     {"normal_form", normal_form},
+    {"compile", compile},
+    {"decompile", decompile},
+    {"record_fault", record_fault},
     {"queue_init", queue_init},
     {"queue_tick", queue_tick},
     {"queue_pop", queue_pop},
@@ -76,7 +83,7 @@ static size_t touched(void (*make)(void))
     return sizeof stack - untouched;
 }
 
-/* As many lines of a text as fit, in all of the table's bytes if it has any. */
+/* As many lines of a text as fit, in all of the table's bytes if it has any; and its records, or its bytes where it has none. */
 static void fill(const char *line, size_t most)
 {
     size_t size = strlen(line);
@@ -84,6 +91,10 @@ static void fill(const char *line, size_t most)
         memcpy(table + length, line, size);
         length += size;
     }
+    uint64_t answer = eremothyn_compile(table, length, records, sizeof records);
+    records_length = EREMOTHYN_IS_REFUSED(answer) ? length : answer;
+    if (EREMOTHYN_IS_REFUSED(answer))
+        memcpy(records, table, length);
 }
 
 static void measure(size_t most[CALLS])

@@ -87,3 +87,14 @@ pub fn told(output: &Output) -> (String, Option<i32>) {
 pub fn complaint(output: &Output) -> String {
     String::from_utf8_lossy(&output.stderr).into_owned()
 }
+
+/// Standard output, standard error and the exit status, as texts and a number.
+pub fn all(output: &Output) -> (String, String, Option<i32>) {
+    let (text, status) = told(output);
+    (text, complaint(output), status)
+}
+
+/// The same as they should be.
+pub fn is(text: &str, complaint: &str, status: i32) -> (String, String, Option<i32>) {
+    (text.to_string(), complaint.to_string(), Some(status))
+}

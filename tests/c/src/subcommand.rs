@@ -1,6 +1,6 @@
 //! A subcommand of `eremothyn`, built for a test, and the folder that it runs in.
 
-use crate::{build_command, scratch};
+use crate::{build_command, scratch, told};
 use std::ffi::OsStr;
 use std::fs;
 use std::io::Write;
@@ -33,6 +33,17 @@ impl Subcommand {
 
     pub fn read(&self, name: &str) -> Vec<u8> {
         fs::read(self.folder.join(name)).expect("the table is read")
+    }
+
+    /// What `eremothyn check` prints of a file that is refused.
+    pub fn verdict(&self, name: &str) -> String {
+        let check = Command::new(&self.program)
+            .current_dir(&self.folder)
+            .args(["check", name])
+            .output();
+        let (verdict, status) = told(&check.expect("the command runs"));
+        assert_eq!(status, Some(1), "{verdict}");
+        verdict
     }
 
     pub fn run<A: AsRef<OsStr>>(&self, arguments: &[A]) -> Output {

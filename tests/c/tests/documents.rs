@@ -1,6 +1,6 @@
 //! What the README and the manual show is what the commands print, and what PROMISES.md names is there.
 
-use c::{make, root, run, told};
+use c::{make, root, run, scratch, told, word};
 use std::collections::HashSet;
 use std::fs;
 use std::path::Path;
@@ -65,21 +65,81 @@ fn eremothyn_format_prints_what_is_shown() {
     prints_what_is_shown("target/c/eremothyn", "format examples/observatory.crontab");
 }
 
-/// The examples of the page, each a command and what it prints.
-#[test]
-fn the_page_of_format_shows_what_is_printed() {
+/// Runs a script in which `eremothyn` is the command.
+fn script(script: &str) -> (String, Option<i32>) {
     let _ = make(&["all"]);
-    let page = fs::read_to_string(root().join("packaging/eremothyn-format.1")).expect("the page");
-    let (_, rest) = page.split_once(".EX\n$ ").expect("examples");
-    let (examples, _) = rest.split_once(".EE\n").expect("their end");
-    let examples = examples.replace("\\-", "-").replace("\\e", "\\");
-    for example in examples.split("\n$ ") {
-        let (command, text) = example.split_once('\n').expect("a command");
-        let script = format!("PATH=target/c:$PATH; {command}");
-        let (found, status) = told(&run("sh", &["-c", &script]));
-        assert_eq!(found.trim_end(), text.trim_end(), "{command}");
-        assert_eq!(status, Some(0), "{command}");
+    told(&run(
+        "sh",
+        &["-c", &format!("PATH=target/c:$PATH; {script}")],
+    ))
+}
+
+#[test]
+fn records_go_there_and_back_as_shown() {
+    let compile = "target/c/eremothyn compile examples/observatory.crontab";
+    let command = format!("{compile} | target/c/eremothyn decompile | tail -n 2");
+    let (text, status) = script(&command);
+    assert_eq!(status, Some(0));
+    let block = format!("$ {command}\n{text}");
+    assert!(
+        shown().contains(&block),
+        "the README doesn't show:\n{block}"
+    );
+}
+
+/// A page of the manual as it is read.
+fn page(name: &str) -> String {
+    let page = fs::read_to_string(root().join("packaging").join(name)).expect("the page");
+    page.replace("\\-", "-").replace("\\e", "\\")
+}
+
+/// What stands as examples on a page.
+fn examples(page: &str) -> Vec<&str> {
+    let rest = page.split("\n.EX\n").skip(1);
+    rest.map(|rest| rest.split(".EE\n").next().expect("an example"))
+        .collect()
+}
+
+/// The examples of each page, each a command and what it prints.
+#[test]
+fn the_pages_show_what_is_printed() {
+    for name in ["format", "compile", "decompile"] {
+        let page = page(&format!("eremothyn-{name}.1"));
+        let examples = examples(&page)[0];
+        let examples = examples.strip_prefix("$ ").expect("a command");
+        for example in examples.split("\n$ ") {
+            let (command, text) = example.split_once('\n').expect("a command");
+            let (found, status) = script(command);
+            assert_eq!(found.trim_end(), text.trim_end(), "{command}");
+            assert_eq!(status, Some(0), "{command}");
+        }
     }
+}
+
+/// The dump of records on their page, which was made by hand, is what its crontab compiles to, and means its text.
+#[test]
+fn the_page_of_records_shows_what_is_written() {
+    let page = page("eremothyn-records.5");
+    let [table, dump, text] = examples(&page)[..] else {
+        panic!("a crontab, its records and their text");
+    };
+    // The digits stand before the first two spaces of a line.
+    let pairs = dump.lines().flat_map(|line| {
+        let (digits, _) = line.split_once("  ").expect("digits and words");
+        digits.split(' ')
+    });
+    let records: Vec<u8> = pairs
+        .map(|pair| u8::from_str_radix(pair, 16).expect("two hex digits"))
+        .collect();
+    assert!(page.contains(&format!("has these records, of {} bytes:", records.len())));
+    let folder = scratch("documents-records");
+    fs::write(folder.join("table"), table).expect("the table is written");
+    fs::write(folder.join("records"), records).expect("the records are written");
+    let folder = word(&folder);
+    let same = format!("eremothyn compile {folder}/table | cmp - {folder}/records");
+    assert_eq!(script(&same), (String::new(), Some(0)));
+    let back = format!("eremothyn decompile {folder}/records");
+    assert_eq!(script(&back), (text.to_string(), Some(0)));
 }
 
 /// Every word of the code, the definitions and the proofs in a folder, and the names of the edits.

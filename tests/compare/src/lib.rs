@@ -2,5 +2,7 @@
 
 pub mod calendar;
 pub mod queue;
+pub mod records;
 pub mod samples;
 pub mod table;
+mod writing;

@@ -1,6 +1,7 @@
 //! A table lent to the library, and the same table read by the second program. Every call is compared with the second
 //! program's answer. The lent bytes end at guard pages, and the table's are read-only.
 
+mod compiled;
 mod normal;
 
 use eremothyn::{Answer, Table, SYSTEM_TABLE, USER_TABLE};
@@ -199,6 +200,7 @@ impl<'a> Compared<'a> {
         let _ = self.setting(high + random.below(lines + 1));
 
         self.normal_form_into_all();
+        self.compile_into_all();
     }
 
     /// Every call for an entry.

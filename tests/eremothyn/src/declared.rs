@@ -104,4 +104,5 @@ functions_of_a_table! {
 functions_of_a_table! {
     []
     eremothyn_normal_form(text: *mut u8, text_length: u64);
+    eremothyn_compile(records: *mut u8, records_length: u64);
 }

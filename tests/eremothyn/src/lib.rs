@@ -3,6 +3,7 @@
 mod calendar;
 mod declared;
 mod queue;
+mod records;
 mod run;
 mod table;
 
@@ -10,5 +11,6 @@ pub use calendar::{
     day, hour, minute_of_date, minute_of_hour, month, weekday, year, NOT_ON_CALENDAR,
 };
 pub use declared::{Table, SYSTEM_TABLE, USER_TABLE};
+pub use records::Records;
 pub use run::Run;
 pub use second::answer::{Answer, REFUSED};

@@ -1,4 +1,4 @@
-//! What a table says: its fault, its entries, their commands and users, its settings, its normal text.
+//! What a table says: its fault, its entries, their commands and users, its settings, its normal text, its records.
 
 use crate::{Run, Table};
 use second::answer::{from_c, some_from_c, Answer};
@@ -68,6 +68,12 @@ impl Table<'_> {
     pub fn normal_form<'t>(self, text: impl Into<Run<'t>>) -> Answer {
         let text = text.into();
         from_c(unsafe { self.eremothyn_normal_form(text.start, text.length) })
+    }
+
+    /// The length of the records, which are written to the front of a run. The table is read as a user's.
+    pub fn compile<'r>(self, records: impl Into<Run<'r>>) -> Answer {
+        let records = records.into();
+        from_c(unsafe { self.eremothyn_compile(records.start, records.length) })
     }
 
     /// Name offset, name length, value offset and value length of a line's setting.

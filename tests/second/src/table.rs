@@ -4,6 +4,7 @@
 pub mod calls;
 pub mod documents;
 pub mod normal;
+pub mod records;
 pub mod samples;
 mod user_column;
 

@@ -92,13 +92,7 @@ fn a_refused_table_is_told_as_check_tells_it() {
         "a=b\n0 0 * * *",
     ] {
         format.write("table", table);
-        let check = std::process::Command::new(&format.program)
-            .current_dir(&format.folder)
-            .args(["check", "table"])
-            .output()
-            .expect("the command runs");
-        let (verdict, status) = told(&check);
-        assert_eq!(status, Some(1));
+        let verdict = format.verdict("table");
         for options in [
             &["table"][..],
             &["-l", "table"],

@@ -1,18 +1,20 @@
 //! Every function that is lent a table.
 
 use crate::{numbers, rooms};
+use compare::records;
 use compare::samples::kind_number;
 use compare::table::Compared;
 use second::random::Random;
 use second::table::Kind;
 
 /// Every call with a table, under any number as its kind, with numbers of every size, and with buffers and rooms about as
-/// long as is needed.
+/// long as is needed; and the same bytes as records.
 pub fn every_call(random: &mut Random, table: &[u8], kind: u64) {
     let compared = Compared::of_kind(table, kind);
     compared.everything(random);
     any_numbers(random, &compared);
     rooms::every_call(random, table, kind, compared.check());
+    records::Compared::of(table).decompile_into_all();
 }
 
 /// The same bytes as a table of either kind.
@@ -40,7 +42,10 @@ fn any_numbers(random: &mut Random, compared: &Compared) {
         });
         let _ = compared.split_command(entry, about);
     }
-    let needed = compared.normal_text().map_or(0, |text| text.len());
-    let about = needed as u64 + random.below(5);
-    let _ = compared.normal_form(about.saturating_sub(2) as usize);
+    let mut about = |needed: Result<Vec<u8>, u64>| {
+        let needed = needed.map_or(0, |bytes| bytes.len());
+        (needed + random.below(5) as usize).saturating_sub(2)
+    };
+    let _ = compared.normal_form(about(compared.normal_text()));
+    let _ = compared.compile(about(compared.records()));
 }

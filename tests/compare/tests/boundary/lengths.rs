@@ -1,10 +1,12 @@
 //! Lent lengths that are 0, or little, in their low 8, 16 or 32 bits.
 
-use crate::raw::{judged, normal_form, queue_answers, split, table_answers, Place, KINDS};
+use crate::raw::{decompiled, judged, queue_answers, split, table_answers, texts, Place, KINDS};
 use compare::queue::{Case, Compared as Line};
+use compare::records;
 use compare::table::Compared;
 use eremothyn::Answer;
 use guard::{Vast, VAST};
+use second::table::records::compiled;
 
 const TOO_LONG: Answer = Err(1);
 const TABLE: &[u8] = b"@reboot a%b\n* * * * * c\nd=e\n";
@@ -26,6 +28,10 @@ fn many_bytes_of(table: &[u8], kind: u64) {
         }
         // The table is its own text.
         assert_eq!(compared.normal_form(length), Ok(table.len() as u64));
+        let records = compared.records().expect("a good table");
+        assert_eq!(compared.compile(length), Ok(records.len() as u64));
+        let back = records::Compared::of(&records).decompile(length);
+        assert_eq!(back, Ok(table.len() as u64));
         let mut line = Line::fresh(&case, length);
         assert_eq!(line.tick(&case, length, 0), Ok(1));
         assert_eq!(line.pop(&case, length), Ok(Some(0)));
@@ -46,8 +52,8 @@ fn vast_tables() {
             assert_eq!(table_answers(table, 0, 3), [TOO_LONG; 13]);
             assert_eq!(split(table, 0, other, Place::of(b"")), TOO_LONG);
             assert_eq!(queue_answers(table, other), [TOO_LONG; 3]);
-            assert_eq!(normal_form(table, other), TOO_LONG);
-            assert_eq!(normal_form(table, Place::of(b"")), TOO_LONG);
+            assert_eq!(texts(table, [other; 2]), [TOO_LONG; 2]);
+            assert_eq!(texts(table, [Place::of(b""); 2]), [TOO_LONG; 2]);
         }
     }
 }
@@ -62,15 +68,52 @@ fn vast_buffers_and_rooms() {
         (SYSTEM_TABLE, 1, 1),
     ] {
         let table = Place::of(bytes).table().of_kind(kind);
-        let mut runs = [(); 4].map(|_| Vast::of(b"---"));
-        let [shell, input, room, text] =
+        let mut runs = [(); 5].map(|_| Vast::of(b"---"));
+        let [shell, input, room, text, records] =
             runs.each_mut().map(|vast| Place(vast.start(), VAST + more));
+        let compiled = compiled(bytes).expect("a good table");
         assert_eq!(split(table, 0, shell, input), Ok(1));
         assert_eq!(queue_answers(table, room), [Ok(1), Ok(1), Ok(0)]);
-        assert_eq!(normal_form(table, text), Ok(bytes.len() as u64));
-        let [shell, input, _, text] = &mut runs;
+        let lengths = [bytes.len(), compiled.len()].map(|length| Ok(length as u64));
+        assert_eq!(texts(table, [text, records]), lengths);
+        let [shell, input, _, text, records] = &mut runs;
         assert_eq!(shell.page()[..3], *b"a--");
         assert_eq!(input.page()[..3], *b"b--");
         assert_eq!(text.page()[..=bytes.len()], [bytes, b"\0"].concat());
+        assert_eq!(
+            records.page()[..=compiled.len()],
+            [&compiled[..], b"\0"].concat()
+        );
+    }
+}
+
+/// Records of any length are read up to their first bad one: here the first zeros, and behind a good one.
+#[test]
+fn vast_records() {
+    let rows: [(&[u8], u64); 3] = [
+        (b"", 1),
+        (b"\x03\0\x02\0a", 2),
+        (b"\x03\0\x02\0a\x02\0\x01\x80", 3),
+    ];
+    for (front, fault) in rows {
+        let [mut records, mut text] = [front, b"---"].map(Vast::of);
+        let to = Place(text.start(), VAST);
+        for length in [VAST - 1, VAST, VAST + front.len() as u64] {
+            let from = Place(records.start(), length);
+            assert_eq!(decompiled(from, to), (Err(22), fault));
+        }
+        assert_eq!(text.page()[..3], *b"---");
+    }
+}
+
+/// Only the front of a vast buffer is touched by a text.
+#[test]
+fn vast_buffers_for_a_text() {
+    let records = Place(b"\x03\0\x02\0a".as_ptr().cast_mut(), 5);
+    for more in [0, 1] {
+        let mut text = Vast::of(b"------------");
+        let to = Place(text.start(), VAST + more);
+        assert_eq!(decompiled(records, to), (Ok(10), 0));
+        assert_eq!(text.page()[..12], *b"@reboot a\n--");
     }
 }

@@ -1,6 +1,6 @@
 //! A null pointer with length 0 is an empty run of bytes like any other, for every pointer of every function.
 
-use crate::raw::{judged, normal_form, queue_answers, split, table_answers, Place, KINDS};
+use crate::raw::{decompiled, judged, queue_answers, split, table_answers, texts, Place, KINDS};
 use compare::queue::Case;
 use eremothyn::{Answer, Table, REFUSED};
 use guard::Guarded;
@@ -24,8 +24,8 @@ fn no_table() {
             let table = empty.table().of_kind(kind);
             assert_eq!(judged(table), (Ok(0), 0, 0));
             let mut bytes = [7];
-            assert_eq!(normal_form(table, empty), Ok(0));
-            assert_eq!(normal_form(table, Place::of_mut(&mut bytes)), Ok(0));
+            assert_eq!(texts(table, [empty; 2]), [Ok(0); 2]);
+            assert_eq!(texts(table, [Place::of_mut(&mut bytes); 2]), [Ok(0); 2]);
             assert_eq!(bytes, [7]);
             for number in [0, 1, u64::MAX] {
                 let answers = table_answers(table, number, number);
@@ -87,7 +87,30 @@ fn no_buffer_for_a_text() {
     for_each_empty(|empty| {
         for (table, answer) in rows {
             let table = Guarded::read_only(table);
-            assert_eq!(normal_form(Place::of(&table).table(), empty), answer);
+            let table = Place::of(&table).table();
+            assert_eq!(texts(table, [empty; 2]), [answer; 2]);
+        }
+    });
+}
+
+#[test]
+fn no_records_and_no_buffer_for_their_text() {
+    let rows: [(&[u8], Answer, u64); 6] = [
+        (b"", Ok(0), 0),
+        (b"\x02\0\0\x80", Ok(0), 0),
+        (b"\x03\0\x02\0a", TOO_SHORT, 0),
+        (b"\x05\0\x03\0\x01\0a", TOO_SHORT, 0),
+        (b"\x02\0\x02\0", Err(24), 1),
+        (b"\0", Err(22), 1),
+    ];
+    for_each_empty(|empty| {
+        let mut bytes = [7];
+        assert_eq!(decompiled(empty, Place::of_mut(&mut bytes)), (Ok(0), 0));
+        assert_eq!(bytes, [7]);
+        assert_eq!(decompiled(empty, empty), (Ok(0), 0));
+        for (records, answer, fault) in rows {
+            let records = Guarded::read_only(records);
+            assert_eq!(decompiled(Place::of(&records), empty), (answer, fault));
         }
     });
 }

@@ -1,6 +1,6 @@
 //! The C functions with any pointers and lengths, as no slice has them.
 
-use eremothyn::{Answer, Run, Table};
+use eremothyn::{Answer, Records, Run, Table};
 
 /// Numbers of both kinds.
 pub const KINDS: [u64; 5] = [0, 1, 2, 1 << 32, u64::MAX];
@@ -22,6 +22,10 @@ impl Place {
     pub fn table(self) -> Table<'static> {
         // SAFETY: a call that touches what isn't lent kills the process, which is what the tests are for. So below.
         unsafe { Table::at(self.0, self.1) }
+    }
+
+    pub fn records(self) -> Records<'static> {
+        unsafe { Records::at(self.0, self.1) }
     }
 
     pub fn run(self) -> Run<'static> {
@@ -53,8 +57,15 @@ pub fn split(table: Table, entry: u64, shell: Place, input: Place) -> Answer {
     table.split_command(entry, shell.run(), input.run())
 }
 
-pub fn normal_form(table: Table, text: Place) -> Answer {
-    table.normal_form(text.run())
+/// The lengths of the normal text and of the records, each written to a place of its own.
+pub fn texts(table: Table, [text, records]: [Place; 2]) -> [Answer; 2] {
+    [table.normal_form(text.run()), table.compile(records.run())]
+}
+
+/// The length of the text that records mean, and the number of the bad one.
+pub fn decompiled(records: Place, text: Place) -> (Answer, u64) {
+    let records = records.records();
+    (records.decompile(text.run()), records.fault())
 }
 
 /// A fresh line, minute 0 announced, and a request.

@@ -1,17 +1,25 @@
-//! Normal texts written to buffers of every length.
+//! Normal texts and records written to buffers of every length.
 
 use crate::bytes;
+use compare::records;
 use compare::table::Compared;
 use second::random::Random;
 use second::table::normal::samples;
 use second::table::{Kind, LINE_BYTES, TABLE_BYTES};
 
-/// A buffer of every length up to so many beyond what is needed, from 0 or from as much before it.
+/// A buffer of every length up to so many beyond what is needed, from 0 or from as much before it: for the text, for the
+/// records, and for the text that these mean.
 fn write_into_every(table: &[u8], before: usize, beyond: usize) {
     let compared = Compared::of(table);
-    let needed = compared.normal_text().map_or(0, |text| text.len());
-    for length in needed.saturating_sub(before)..=needed + beyond {
+    let records = compared.records().unwrap_or_default();
+    let back = records::Compared::of(&records);
+    let about = |needed: usize| needed.saturating_sub(before)..=needed + beyond;
+    for length in about(compared.normal_text().map_or(0, |text| text.len())) {
         let _ = compared.normal_form(length);
+        let _ = back.decompile(length);
+    }
+    for length in about(records.len()) {
+        let _ = compared.compile(length);
     }
 }
 
@@ -35,8 +43,10 @@ fn tables_of_every_sort_into_any_buffers() {
         for _ in 0..4 {
             let length = random.below(2 * table.len() as u64 + 3);
             let _ = compared.normal_form(length as usize);
+            let _ = compared.compile(length as usize);
         }
         compared.normal_form_into_all();
+        compared.compile_into_all();
     }
 }
 

@@ -22,7 +22,8 @@ fn written(table: &[u8]) -> Result<Vec<u8>, u64> {
     Ok(buffer)
 }
 
-/// The text of a table that has one: it means the same, is its own text, and each line is written by itself.
+/// The text of a table that has one: it means the same, is its own text, each line is written by itself, and it comes back from
+/// the table's records.
 fn written_by_law(table: &[u8]) -> Vec<u8> {
     let shown = table.escape_ascii();
     let text = written(table).unwrap_or_else(|refusal| panic!("{refusal}: {shown}"));
@@ -31,6 +32,7 @@ fn written_by_law(table: &[u8]) -> Vec<u8> {
     let lines = table.split(|&byte| byte == b'\n');
     let apart: Vec<Vec<u8>> = lines.map(|line| written(line).expect("a line")).collect();
     assert_eq!(apart.concat(), text, "{shown}");
+    let _ = Compared::of(table).there_and_back();
     text
 }
 
@@ -301,6 +303,7 @@ fn lines_about_as_long_as_may_be() {
                 let table = [before.as_bytes(), &line, behind.as_bytes()].concat();
                 let compared = Compared::of(&table);
                 compared.normal_form_into_all();
+                compared.compile_into_all();
                 let text = text(&meaning(&table).expect("a good table"));
                 let fits = written <= LINE_BYTES;
                 let expected = |answer: Answer| if fits { answer } else { TOO_LONG };
@@ -380,6 +383,8 @@ fn tables_about_as_long_as_may_be() {
                 expected(TOO_SHORT)
             );
             assert_eq!(compared.normal_form(0), expected(TOO_SHORT));
+            assert_eq!(compared.compile(0), expected(TOO_SHORT));
+            compared.compile_into_all();
         }
     }
 }

@@ -12,7 +12,9 @@ use super::{content, lines, read, schedule, Fault, Kind, Line, When, Words};
 use super::{LINE_BYTES, TABLE_BYTES};
 use crate::answer::Answer;
 use crate::schedule::Schedule;
+use std::collections::HashMap;
 use std::iter;
+use std::sync::OnceLock;
 
 const TEXT_TOO_LONG: u64 = 21;
 
@@ -59,7 +61,11 @@ pub fn laid(text: &[u8], buffer: &mut [u8]) -> Answer {
 /// A user table's normal text, if no limit is passed.
 pub fn normal_text(table: &[u8]) -> Result<Vec<u8>, u64> {
     let items = meaning(table).map_err(|fault| fault.number)?;
-    let text = text(&items);
+    within_limits(text(&items))
+}
+
+/// A text, if no limit is passed.
+pub(super) fn within_limits(text: Vec<u8>) -> Result<Vec<u8>, u64> {
     let passes = |line: &[u8]| line.len() > LINE_BYTES;
     if text.len() > TABLE_BYTES || lines(&text).any(passes) {
         return Err(TEXT_TOO_LONG);
@@ -74,29 +80,30 @@ pub fn text(items: &[Item]) -> Vec<u8> {
 }
 
 impl Item<'_> {
-    /// The normal line, without its newline.
+    /// The normal line of an item that was read, without its newline.
     pub fn text(&self) -> Vec<u8> {
-        match *self {
+        self.written().expect("an item that was read")
+    }
+
+    /// The same of any item, if there is a way to write it.
+    pub fn written(&self) -> Option<Vec<u8>> {
+        Some(match *self {
             Item::Setting { name, value } => {
-                [&name_text(name)[..], b"=", &value_text(value)].concat()
+                [&name_text(name)?[..], b"=", &value_text(value)?].concat()
             }
-            Item::Entry { when, command } => [time_text(when).as_bytes(), b" ", command].concat(),
-        }
+            Item::Entry { when, command } => [time_text(when)?.as_bytes(), b" ", command].concat(),
+        })
     }
 }
 
-fn name_text(name: &[u8]) -> Vec<u8> {
+fn name_text(name: &[u8]) -> Option<Vec<u8>> {
     let meant = Some(Item::Setting { name, value: b"" });
-    ways(name)
-        .find(|way| item(&[way, &b"="[..]].concat()) == meant)
-        .expect("a name that was read")
+    ways(name).find(|way| item(&[way, &b"="[..]].concat()) == meant)
 }
 
-fn value_text(value: &[u8]) -> Vec<u8> {
+fn value_text(value: &[u8]) -> Option<Vec<u8>> {
     let meant = Some(Item::Setting { name: b"A", value });
-    ways(value)
-        .find(|way| item(&[b"A=", &way[..]].concat()) == meant)
-        .expect("a value that was read")
+    ways(value).find(|way| item(&[b"A=", &way[..]].concat()) == meant)
 }
 
 /// Bare, in double quotes, in single quotes.
@@ -107,31 +114,40 @@ fn ways(text: &[u8]) -> impl Iterator<Item = Vec<u8>> + '_ {
         .map(move |quote| [quote, text, quote].concat())
 }
 
-fn time_text(when: When) -> String {
-    match when {
-        When::Reboot => "@reboot".into(),
-        When::Times(schedule) => {
-            let fields = [0, 1, 2, 3, 4].map(|which| field_text(&schedule, which));
-            fields.join(" ")
-        }
-    }
+fn time_text(when: When) -> Option<String> {
+    let When::Times(schedule) = when else {
+        return Some("@reboot".into());
+    };
+    let fields = (0..5).map(|which| field_text(&schedule, which));
+    let fields: Option<Vec<String>> = fields.collect();
+    Some(fields?.join(" "))
 }
 
-fn field_text(schedule: &Schedule, which: usize) -> String {
+fn field_text(schedule: &Schedule, which: usize) -> Option<String> {
     let set = schedule.numbers()[which];
     if schedule.stars[which] {
-        let steps = (1..).map(|step| format!("*/{step}"));
-        return iter::once("*".into())
-            .chain(steps)
-            .map_while(|text| Some((values(which, &text)?, text)))
-            .find_map(|(values, text)| (values == set).then_some(text))
-            .expect("a star that was read");
+        return stars(which).get(&set).cloned();
     }
     let numbers: Vec<String> = (0..64)
         .filter(|value| set >> value & 1 == 1)
         .map(|value| value.to_string())
         .collect();
-    numbers.join(",")
+    Some(numbers.join(","))
+}
+
+/// The sets that a field which begins with a star can have, each with the first text that gives it.
+fn stars(which: usize) -> &'static HashMap<u64, String> {
+    static STARS: OnceLock<[HashMap<u64, String>; 5]> = OnceLock::new();
+    let of_field = |which| {
+        let steps = (1..).map(|step| format!("*/{step}"));
+        let texts = iter::once("*".into()).chain(steps);
+        let mut first = HashMap::new();
+        for (set, text) in texts.map_while(|text| Some((values(which, &text)?, text))) {
+            first.entry(set).or_insert(text);
+        }
+        first
+    };
+    &STARS.get_or_init(|| [0, 1, 2, 3, 4].map(of_field))[which]
 }
 
 /// The values that a text gives as one of the five fields, if it is a field.

@@ -7,19 +7,19 @@ use borrow.Author.Needs.{needs}
 use lib.ListN.{length}
 use Rattle.normal.specs.Meanings.{meaningOf}
 use Rattle.normal.specs.Texts.{normalText}
-use Rattle.normal.proofs.Walks.{Lined, lined-starts, lined-room, lined-next, lined-ends}
+use Rattle.normal.proofs.Walks.{text-parts, Lined, lined-starts, lined-room, lined-next, lined-ends}
 use Rattle.normal.proofs.table.write.Statement.{statement}
 use Rattle.normal.proofs.table.write.Tie as tie
 
 abbrev Inv-loop : tie.InvT-loop
 Inv-loop s out₀ at₀ c₀ out at c =
-    (Lined s out₀ c at out) × (length out ≡ length out₀) × (length (normalText (meaningOf s)) ≤ length out₀)
+    Lined s normalText out₀ c at out × (length out ≡ length out₀) × (length (normalText (meaningOf s)) ≤ length out₀)
 
 abbrev μ-loop : tie.MeasureT-loop
 μ-loop s out₀ at₀ c₀ out at c = length s + 1 - c .at
 
 loop-holds : tie.Need-loop-holds Inv-loop μ-loop
-loop-holds c = let b = c .before .before in (lined-starts _ _ (b .pre .1) (b .pre .0), refl, b .pre .1)
+loop-holds c = let b = c .before .before in (lined-starts _ normalText _ (b .pre .0), refl, b .pre .1)
 
 advance-requires : tie.Need-advance-requires Inv-loop μ-loop
 advance-requires c κs = (c .before .before .loop .inv .0 .going .reached, c .if1 .taken)
@@ -27,7 +27,7 @@ advance-requires c κs = (c .before .before .loop .inv .0 .going .reached, c .if
 write-requires : tie.Need-write-requires Inv-loop μ-loop
 write-requires c κs =
     let inv = c .before .before .before .before .before .loop .inv in
-    lined-room _ _ (inv .2) (inv .0) (c .before .before .advance .ensures)
+    lined-room (text-parts _) (inv .0) (c .before .before .advance .ensures) (inv .2)
 
 loop-less : tie.Need-loop-less Inv-loop μ-loop
 loop-less c = let step = c .before .before .before .before .before .advance .ensures in omega (arith, step .onward, step .reached .place)
@@ -35,11 +35,11 @@ loop-less c = let step = c .before .before .before .before .before .advance .ens
 loop-again : tie.Need-loop-again Inv-loop μ-loop
 loop-again c =
     let inv = c .before .before .before .before .before .before .before .before .loop .inv in
-    let so = lined-next _ _ (inv .2) (inv .0) (c .before .before .before .before .before .advance .ensures) _ _ (c .before .before .write .ensures) in
+    let so = lined-next (text-parts _) (inv .0) (c .before .before .before .before .before .advance .ensures) _ _ (c .before .before .write .ensures) in
     (so, so .wrote .size, inv .2)
 
 returns : tie.Need-returns Inv-loop μ-loop
-returns c = let inv = c .before .before .loop .inv in lined-ends _ _ (inv .2) (inv .0) (c .if1 .left)
+returns c = let inv = c .before .before .loop .inv in lined-ends (text-parts _) (inv .0) (c .if1 .left)
 
 pub write-spec : {M : Type 1} → statement M
 write-spec =

@@ -1,0 +1,42 @@
+// Numbers in bytes, the low byte first.
+ghost use mathlib.Core.Path.{_≡_};
+ghost use Prim.Native.Nat.{_+_, _≤_, _<_};
+ghost use lib.ListN.{length};
+ghost use Rattle.bytes.specs.Runs.{between};
+ghost use Rattle.bytes.specs.Laid.{Wrote};
+ghost use Rattle.bytes.specs.LittleEndian.{littleEndian, numberOf, width};
+
+fn wide(b: u8) -> u64
+    ensures { λ r. ⌜ r ≡ b ⌝ }
+{
+    b as u64
+}
+
+// The number of so many bytes at a place. It is put together from its high byte on.
+pub fn read(s: &[u8], at: usize, size: usize) -> u64
+    requires { ⌜ (at + size ≤ length (now s)) × (size ≤ 8) ⌝ }
+    ensures { λ r. ⌜ (r ≡ numberOf (between (now (s .entry)) at (at + size))) × (r < width size) ⌝ }
+{
+    let mut i = at + size;
+    let mut n: u64 = 0;
+    while at < i {
+        i -= 1;
+        n = n * 256 + wide(s[i]);
+    }
+    n
+}
+
+// Writes a number in so many bytes at a place, where there is room for them, and answers the place behind them.
+pub fn write(out: &mut [u8], at: usize, n: u64, size: usize) -> usize
+    requires { ⌜ at + size ≤ length (now out) ⌝ }
+    ensures { λ r. ⌜ Wrote at (littleEndian size n) (now (out .entry)) r (now (out .exit)) ⌝ }
+{
+    let mut i = 0;
+    let mut rest = n;
+    while i < size {
+        out[at + i] = (rest % 256) as u8;
+        rest /= 256;
+        i += 1;
+    }
+    at + i
+}

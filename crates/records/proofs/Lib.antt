@@ -1,0 +1,9 @@
+pub mod Splits
+pub mod Bodies
+pub mod Means
+pub mod Saids
+pub mod Packing
+pub mod Compiling
+pub mod Readers
+pub mod Decompiling
+pub mod Theorems

@@ -1,0 +1,116 @@
+-- `records::compile::measure` meets its contract: what is measured and what is left of the items always give the same.
+-- Assumes nothing.
+use mathlib.Core.Path.{_≡_, sym, _∙_}
+use Prim.Native.Nat.{_+_, _-_, _*_, _≤_}
+use native.Mathlib.Omega.{arith}
+use borrow.Author.Needs.{needs}
+use borrow.Author.Tests.{lt-ltb}
+use lib.ListN.{length}
+use Rattle.crontab.specs.Limits.{maxTable}
+use Rattle.crontab.specs.Items.{itemsOf}
+use Rattle.crontab.specs.Steps.{itemsAt}
+use Rattle.crontab.proofs.Items.{items-start, items-end}
+use Rattle.normal.specs.Meanings.{ofUser, meanings, meaningOf}
+use Rattle.normal.specs.Steps.{measured}
+use Rattle.normal.proofs.Walks.{last-variant, not-refused, Going, going-starts, going-within, going-next, answered, measureFrom}
+use Rattle.normal.proofs.Walks.{measure-whole, measure-next, measure-refused, size-starts, size-next, size-ends}
+use Rattle.records.specs.Formats.{recordsOf}
+use Rattle.records.proofs.Compiling.{record-parts, packed-refused, packed-written}
+use Rattle.records.proofs.compile.measure.Statement.{statement}
+use Rattle.records.proofs.compile.measure.Tie as tie
+
+abbrev Inv-loop : tie.InvT-loop
+Inv-loop s text₀ size₀ short₀ c₀ text size short c =
+    (measureFrom s short text (itemsAt ofUser s c) ≡ measured s)
+    × Going s c
+    × (text ≤ (2 * maxTable + 434) * c .at)
+    × (size + length (recordsOf (meanings s (itemsAt ofUser s c))) ≡ length (recordsOf (meaningOf s)))
+    × (size ≤ (2 * maxTable + 24) * c .at)
+
+abbrev μ-loop : tie.MeasureT-loop
+μ-loop s text₀ size₀ short₀ c₀ text size short c = length s + 1 - c .at
+
+returns : tie.Need-returns Inv-loop μ-loop
+unfolding itemsOf measureFrom
+returns c = packed-refused _ (sym (sym (measure-whole _) ∙ rw (lt-ltb _ _ (c .if1 .taken))))
+
+loop-holds : tie.Need-loop-holds Inv-loop μ-loop
+loop-holds c =
+    let short = c .if1 .left in (
+      rw (items-start _ _ short) (measure-whole _),
+      going-starts _ short,
+      omega arith,
+      size-starts (record-parts _) short,
+      omega arith,
+    )
+
+advance-requires : tie.Need-advance-requires Inv-loop μ-loop
+advance-requires c κs = (c .before .before .loop .inv .1 .reached, c .if2 .taken)
+
+returns-2 : tie.Need-returns-2 Inv-loop μ-loop
+returns-2 c =
+    let at = c .before .before .before .before .before .before .before .loop in
+    packed-refused _ (measure-refused _ (c .before .before .before .before .advance .ensures) (at .short) (at .text) (c .before .item .given .1) ∙ at .inv .0)
+
+text-length-requires : tie.Need-text-length-requires Inv-loop μ-loop
+text-length-requires c κs =
+    let going = c .before .before .before .before .before .loop .inv .1 in
+    (going .reached .short, going-within (c .before .before .advance .ensures) going)
+
+add-text : tie.Need-add-text Inv-loop μ-loop
+add-text c = let inv = c .before .before .before .before .before .before .loop .inv in omega (arith, inv .1 .reached .short, inv .2, c .text-length .ensures .1)
+
+record-length-requires : tie.Need-record-length-requires Inv-loop μ-loop
+record-length-requires c κs =
+    let going = c .before .before .before .before .before .before .loop .inv .1 in
+    (going .reached .short, going-within (c .before .before .before .advance .ensures) going)
+
+add-size : tie.Need-add-size Inv-loop μ-loop
+add-size c = let inv = c .before .before .before .before .before .before .before .loop .inv in omega (arith, inv .1 .reached .short, inv .4, c .record-length .ensures .1)
+
+loop-less : tie.Need-loop-less Inv-loop μ-loop
+loop-less c = let step = c .before .before .before .before .advance .ensures in omega (arith, step .onward, step .reached .place)
+
+loop-again : tie.Need-loop-again Inv-loop μ-loop
+loop-again c =
+    let at = c .before .before .before .before .before .before .before .loop in
+    let step = c .before .before .before .before .advance .ensures in
+    let kept = not-refused (c .before .before .before .before .advance .result .item) (λ f is. last-variant (rw is at (c .before .before .match .keys2))) in (
+      rw (c .before .text-length .ensures .0) (measure-next _ step (at .short) (at .text) kept ∙ at .inv .0),
+      going-next step (at .inv .1) kept,
+      omega (arith, step .onward, at .inv .2, c .before .text-length .ensures .1),
+      rw (c .record-length .ensures .0) (size-next (record-parts _) step kept (at .size) ∙ at .inv .3),
+      omega (arith, step .onward, at .inv .4, c .record-length .ensures .1),
+    )
+
+returns-3 : tie.Need-returns-3 Inv-loop μ-loop
+unfolding measureFrom answered
+returns-3 c =
+    let at = c .before .before .before .loop in
+    let end = c .before .if2 .left in
+    packed-written _ (rw (items-end _ _ (at .c) end, c .if3 .taken) at (at .inv .0)) (sym (size-ends (record-parts _) (at .c) (at .size) end) ∙ at .inv .3)
+
+returns-4 : tie.Need-returns-4 Inv-loop μ-loop
+unfolding measureFrom answered
+returns-4 c = let at = c .before .before .before .loop in packed-refused _ (rw (items-end _ _ (at .c) (c .before .if2 .left), c .if3 .left) at (at .inv .0))
+
+pub measure-spec : {M : Type 1} → statement M
+measure-spec =
+    tie.close
+    (tie.spec
+    Inv-loop
+    μ-loop
+    returns
+    loop-holds
+    advance-requires
+    (λ c. search needs)
+    returns-2
+    text-length-requires
+    add-text
+    (λ c. omega arith)
+    record-length-requires
+    add-size
+    loop-less
+    loop-again
+    returns-3
+    returns-4)

@@ -1,0 +1,55 @@
+-- `records::compile::write` meets its contract: the records of the lines up to a cursor are written, and those from there on are left.
+-- Assumes nothing.
+use mathlib.Core.Path.{_≡_, refl}
+use Prim.Native.Nat.{_+_, _-_, _≤_}
+use native.Mathlib.Omega.{arith}
+use borrow.Author.Needs.{needs}
+use lib.ListN.{length}
+use Rattle.normal.specs.Meanings.{meaningOf}
+use Rattle.normal.proofs.Walks.{Lined, lined-starts, lined-room, lined-next, lined-ends}
+use Rattle.records.specs.Formats.{recordsOf}
+use Rattle.records.proofs.Compiling.{record-parts}
+use Rattle.records.proofs.compile.write.Statement.{statement}
+use Rattle.records.proofs.compile.write.Tie as tie
+
+abbrev Inv-loop : tie.InvT-loop
+Inv-loop s out₀ at₀ c₀ out at c =
+    Lined s recordsOf out₀ c at out × (length out ≡ length out₀) × (length (recordsOf (meaningOf s)) ≤ length out₀)
+
+abbrev μ-loop : tie.MeasureT-loop
+μ-loop s out₀ at₀ c₀ out at c = length s + 1 - c .at
+
+loop-holds : tie.Need-loop-holds Inv-loop μ-loop
+loop-holds c = let b = c .before .before in (lined-starts _ recordsOf _ (b .pre .0), refl, b .pre .1)
+
+advance-requires : tie.Need-advance-requires Inv-loop μ-loop
+advance-requires c κs = (c .before .before .loop .inv .0 .going .reached, c .if1 .taken)
+
+write-record-requires : tie.Need-write-record-requires Inv-loop μ-loop
+write-record-requires c κs = let inv = c .before .before .before .before .before .loop .inv in lined-room (record-parts _) (inv .0) (c .before .before .advance .ensures) (inv .2)
+
+loop-less : tie.Need-loop-less Inv-loop μ-loop
+loop-less c = let step = c .before .before .before .before .before .advance .ensures in omega (arith, step .onward, step .reached .place)
+
+loop-again : tie.Need-loop-again Inv-loop μ-loop
+loop-again c =
+    let inv = c .before .before .before .before .before .before .before .before .loop .inv in
+    let so = lined-next (record-parts _) (inv .0) (c .before .before .before .before .before .advance .ensures) _ _ (c .before .before .write-record .ensures) in
+    (so, so .wrote .size, inv .2)
+
+returns : tie.Need-returns Inv-loop μ-loop
+returns c = let inv = c .before .before .loop .inv in lined-ends (record-parts _) (inv .0) (c .if1 .left)
+
+pub write-spec : {M : Type 1} → statement M
+write-spec =
+    tie.close
+    (tie.spec
+    Inv-loop
+    μ-loop
+    loop-holds
+    advance-requires
+    write-record-requires
+    loop-less
+    loop-again
+    (λ c. search needs)
+    returns)

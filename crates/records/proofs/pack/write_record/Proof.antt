@@ -1,0 +1,64 @@
+-- `records::pack::write_record` meets its contract, by the kind of the item.
+-- Assumes nothing.
+use native.Mathlib.Omega.{arith}
+use borrow.Author.Needs.{needs}
+use Rattle.bytes.proofs.Written.{wrote-none}
+use Rattle.normal.proofs.Writing.{setting-within, entry-within}
+use Rattle.records.proofs.Packing.{part-none, part-refused, part-setting, part-entry}
+use Rattle.records.proofs.pack.write_record.Statement.{statement}
+use Rattle.records.proofs.pack.write_record.Tie as tie
+
+part-requires : tie.Need-part-requires
+part-requires c κs = setting-within _ _ (c .before .item .given .1) (c .before .before .before .before .before .pre .0) .0
+
+part-requires-2 : tie.Need-part-requires-2
+part-requires-2 c κs = setting-within _ _ (c .before .before .item .given .1) (c .before .before .before .before .before .before .pre .0) .1
+
+write-setting-requires : tie.Need-write-setting-requires
+write-setting-requires c κs =
+    rw (c .before .before .part .ensures .0, c .before .part2 .ensures .0) (rw (part-setting _ _ (c .before .before .before .before .item .given .1)) at (c .before .before .before .before .before .before .before .before .pre .1))
+
+part-requires-3 : tie.Need-part-requires-3
+part-requires-3 c κs = entry-within _ _ (c .before .before .before .item2 .given .1) (c .before .before .before .before .before .before .before .pre .0)
+
+write-entry-requires : tie.Need-write-entry-requires
+write-entry-requires c κs = rw (c .before .part3 .ensures .0) (rw (part-entry _ _ (c .before .before .before .before .before .item2 .given .1)) at (c .before .before .before .before .before .before .before .before .before .pre .1))
+
+returns : tie.Need-returns
+returns c =
+    let b = c .before .before .before .before in
+    rw (part-none _ _ (c .enum-told .given .1)) (wrote-none (b .args .at) (b .args .out .now) (omega (arith, b .pre .1)))
+
+returns-2 : tie.Need-returns-2
+returns-2 c =
+    rw (part-setting _ _ (c .before .before .before .before .before .before .before .item .given .1), ← (c .before .before .before .before .before .part .ensures .0), ← (c .before .before .before .before .part2 .ensures .0)) (c .before .before .write-setting .ensures)
+
+returns-3 : tie.Need-returns-3
+returns-3 c = rw (part-entry _ _ (c .before .before .before .before .before .before .before .before .item2 .given .1), ← (c .before .before .before .before .part3 .ensures .0)) (c .before .before .write-entry .ensures)
+
+returns-4 : tie.Need-returns-4
+returns-4 c =
+    let b = c .before .before .before .before in
+    rw (part-refused _ _ (c .enum-told2 .given .1)) (wrote-none (b .args .at) (b .args .out .now) (omega (arith, b .pre .1)))
+
+pub write-record-spec : {M : Type 1} → statement M
+write-record-spec =
+    tie.close
+    (tie.spec
+    (λ c. search needs)
+    (λ c. search needs)
+    part-requires
+    part-requires-2
+    write-setting-requires
+    (λ c. search needs)
+    (λ c. search needs)
+    (λ c. search needs)
+    part-requires-3
+    write-entry-requires
+    (λ c. search needs)
+    returns
+    (λ c. search needs)
+    returns-2
+    (λ c. search needs)
+    returns-3
+    returns-4)

@@ -1,0 +1,142 @@
+-- Worked examples of ticket 2026-08 by table bytes and by record bytes, checked by computing.
+-- Assumes nothing.
+use mathlib.Core.Path.{refl}
+use mathlib.Core.List.{List, [], _∷_, _++_}
+use Prim.Native.Nat.{ℕ}
+use lib.ListN.{replicate}
+use Rattle.bytes.specs.Texts.{text}
+use Rattle.bytes.specs.Rows.{Hold}
+use Rattle.normal.specs.declared.NormalAnswer.{NormalAnswer}
+use Rattle.normal.specs.declared.NormalAnswer.the-variants.{Written, Refused}
+use Rattle.normal.specs.Meanings.{meaningOf}
+use Rattle.records.specs.Formats.{recordsOf}
+use Rattle.records.specs.Calls.{compiled, decompiled, recordFault}
+use Rattle.records.specs.Computing.{coding}
+
+-- ---- the writer
+
+abbrev records : List ℕ → List ℕ
+records s = recordsOf (meaningOf s)
+
+-- length 23 and kind 1; minute 5, hour 4, days 1 to 31, months 1 to 12, weekdays 0 to 6; stars of day, month and weekday; the command
+abbrev morning : List ℕ
+morning =
+    23 ∷ 0 ∷ 1 ∷ 0
+    ∷ 32 ∷ 0 ∷ 0 ∷ 0 ∷ 0 ∷ 0 ∷ 0 ∷ 0
+    ∷ 16 ∷ 0 ∷ 0 ∷ 0
+    ∷ 254 ∷ 255 ∷ 255 ∷ 255
+    ∷ 254 ∷ 31
+    ∷ 127
+    ∷ 28
+    ∷ text "x"
+
+tables : Hold records
+    (([], [])
+    ∷ (text "5 4 * * * x", morning)
+    -- minute 59 is the fourth bit of the last byte, Sunday is bit 0; stars of minute and hour
+    ∷ (
+      text "*/59 * 31 12 7 %",
+      23 ∷ 0 ∷ 1 ∷ 0
+          ∷ 1 ∷ 0 ∷ 0 ∷ 0 ∷ 0 ∷ 0 ∷ 0 ∷ 8
+          ∷ 255 ∷ 255 ∷ 255 ∷ 0
+          ∷ 0 ∷ 0 ∷ 0 ∷ 128
+          ∷ 0 ∷ 16
+          ∷ 1
+          ∷ 3
+          ∷ text "%",
+    )
+    -- kind 2
+    ∷ (text "@reboot  x y ", 6 ∷ 0 ∷ 2 ∷ 0 ∷ text "x y ")
+    -- kind 3: a name of 2 bytes, and the value without its quotes
+    ∷ (text "AB = 'cd '", 9 ∷ 0 ∷ 3 ∷ 0 ∷ 2 ∷ 0 ∷ text "ABcd ")
+    -- in order, without comments
+    ∷ (text "#\nA=\n@reboot x\nA=", text "" ++ (5 ∷ 0 ∷ 3 ∷ 0 ∷ 1 ∷ 0 ∷ 65 ∷ 3 ∷ 0 ∷ 2 ∷ 0 ∷ 120 ∷ 5 ∷ 0 ∷ 3 ∷ 0 ∷ 1 ∷ 0 ∷ 65 ∷ []))
+    ∷ [])
+unfolding coding
+tables = refl
+
+abbrev compile : List ℕ × List ℕ → NormalAnswer × List ℕ
+compile (s, buffer) = let f = compiled s buffer in (f .answer, f .buffer)
+
+calls : Hold compile
+    (((text "@reboot x", text "123456"), (Written 5, 3 ∷ 0 ∷ 2 ∷ 0 ∷ 120 ∷ text "6"))
+    ∷ ((text "@reboot x", text "1234"), (Refused 18, text "1234"))
+    ∷ ((text "A", text "1234"), (Refused 11, text "1234"))
+    -- its line would be written in 1,001 bytes
+    ∷ ((text "0-59 * * * * " ++ replicate 823 97, text "1"), (Refused 21, text "1"))
+    ∷ [])
+unfolding coding
+calls = refl
+
+-- ---- the reader: the answer and the buffer, and the first bad record
+
+abbrev decompile : List ℕ → NormalAnswer × List ℕ × ℕ
+decompile s = let f = decompiled s (text "123456789012") in (f .answer, f .buffer, recordFault s)
+
+-- refused with a number, for a record
+abbrev bad : ℕ → ℕ → NormalAnswer × List ℕ × ℕ
+bad number n = (Refused number, text "123456789012", n)
+
+-- `@reboot x`
+abbrev good : List ℕ
+good = 3 ∷ 0 ∷ 2 ∷ 0 ∷ 120 ∷ []
+
+read : Hold decompile
+    (([], (Written 0, text "123456789012", 0))
+    ∷ (morning, (Written 12, text "5 4 * * * x\n", 0))
+    ∷ (good, (Written 10, text "@reboot x\n12", 0))
+    ∷ (7 ∷ 0 ∷ 3 ∷ 0 ∷ 1 ∷ 0 ∷ text "Ab ", (Written 7, text "A=\"b \"\n89012", 0))
+    -- kinds from 32,768 are skipped, and count
+    ∷ (2 ∷ 0 ∷ 0 ∷ 128 ∷ good, (Written 10, text "@reboot x\n12", 0))
+    ∷ (4 ∷ 0 ∷ 255 ∷ 255 ∷ 1 ∷ 2 ∷ 1 ∷ [], bad 22 2)
+    -- 22: no length, one below 2, fewer bytes than it says, whatever the kind
+    ∷ (3 ∷ [], bad 22 1)
+    ∷ (1 ∷ 0 ∷ 2 ∷ [], bad 22 1)
+    ∷ (4 ∷ 0 ∷ 2 ∷ 0 ∷ 120 ∷ [], bad 22 1)
+    ∷ (3 ∷ 0 ∷ 9 ∷ 0 ∷ [], bad 22 1)
+    -- 23: kinds 0 and 4, and the last below 32,768
+    ∷ (2 ∷ 0 ∷ 0 ∷ 0 ∷ [], bad 23 1)
+    ∷ (good ++ (2 ∷ 0 ∷ 4 ∷ 0 ∷ []), bad 23 2)
+    ∷ (2 ∷ 0 ∷ 255 ∷ 127 ∷ [], bad 23 1)
+    -- 24: a body too short; a command that is empty or starts with a blank; a newline, and byte 0
+    ∷ (3 ∷ 0 ∷ 1 ∷ 0 ∷ 120 ∷ [], bad 24 1)
+    ∷ (2 ∷ 0 ∷ 2 ∷ 0 ∷ [], bad 24 1)
+    ∷ (3 ∷ 0 ∷ 2 ∷ 0 ∷ 32 ∷ [], bad 24 1)
+    ∷ (4 ∷ 0 ∷ 2 ∷ 0 ∷ 120 ∷ 10 ∷ [], bad 24 1)
+    ∷ (4 ∷ 0 ∷ 2 ∷ 0 ∷ 120 ∷ 0 ∷ [], bad 24 1)
+    -- no name length, an empty name, a name past the body
+    ∷ (3 ∷ 0 ∷ 3 ∷ 0 ∷ 1 ∷ [], bad 24 1)
+    ∷ (5 ∷ 0 ∷ 3 ∷ 0 ∷ 0 ∷ 0 ∷ 65 ∷ [], bad 24 1)
+    ∷ (5 ∷ 0 ∷ 3 ∷ 0 ∷ 2 ∷ 0 ∷ 65 ∷ [], bad 24 1)
+    -- a name and a value that no quotes can hold
+    ∷ (6 ∷ 0 ∷ 3 ∷ 0 ∷ 2 ∷ 0 ∷ text "\"'", bad 24 1)
+    ∷ (7 ∷ 0 ∷ 3 ∷ 0 ∷ 1 ∷ 0 ∷ text "A\"'", bad 24 1)
+    -- the first bad record, and its first refusal
+    ∷ (2 ∷ 0 ∷ 9 ∷ 0 ∷ 2 ∷ 0 ∷ 2 ∷ 0 ∷ 1 ∷ [], bad 23 1)
+    -- a buffer that is too short
+    ∷ (good ++ good, (Refused 18, text "123456789012", 0))
+    ∷ [])
+unfolding coding
+read = refl
+
+-- the sets and the flags of a timed entry, each of them wrong
+abbrev timed : List ℕ → NormalAnswer
+timed schedule = decompiled (23 ∷ 0 ∷ 1 ∷ 0 ∷ schedule ++ text "x") (text "123456789012") .answer
+
+sets : Hold timed
+    -- 0 0 1 1 0
+    ((1 ∷ 0 ∷ 0 ∷ 0 ∷ 0 ∷ 0 ∷ 0 ∷ 0 ∷ 1 ∷ 0 ∷ 0 ∷ 0 ∷ 2 ∷ 0 ∷ 0 ∷ 0 ∷ 2 ∷ 0 ∷ 1 ∷ 0 ∷ [], Written 12)
+    -- an empty set; minute 60, hour 24, day 0, month 0, weekday 7
+    ∷ (0 ∷ 0 ∷ 0 ∷ 0 ∷ 0 ∷ 0 ∷ 0 ∷ 0 ∷ 1 ∷ 0 ∷ 0 ∷ 0 ∷ 2 ∷ 0 ∷ 0 ∷ 0 ∷ 2 ∷ 0 ∷ 1 ∷ 0 ∷ [], Refused 24)
+    ∷ (0 ∷ 0 ∷ 0 ∷ 0 ∷ 0 ∷ 0 ∷ 0 ∷ 16 ∷ 1 ∷ 0 ∷ 0 ∷ 0 ∷ 2 ∷ 0 ∷ 0 ∷ 0 ∷ 2 ∷ 0 ∷ 1 ∷ 0 ∷ [], Refused 24)
+    ∷ (1 ∷ 0 ∷ 0 ∷ 0 ∷ 0 ∷ 0 ∷ 0 ∷ 0 ∷ 0 ∷ 0 ∷ 0 ∷ 1 ∷ 2 ∷ 0 ∷ 0 ∷ 0 ∷ 2 ∷ 0 ∷ 1 ∷ 0 ∷ [], Refused 24)
+    ∷ (1 ∷ 0 ∷ 0 ∷ 0 ∷ 0 ∷ 0 ∷ 0 ∷ 0 ∷ 1 ∷ 0 ∷ 0 ∷ 0 ∷ 1 ∷ 0 ∷ 0 ∷ 0 ∷ 2 ∷ 0 ∷ 1 ∷ 0 ∷ [], Refused 24)
+    ∷ (1 ∷ 0 ∷ 0 ∷ 0 ∷ 0 ∷ 0 ∷ 0 ∷ 0 ∷ 1 ∷ 0 ∷ 0 ∷ 0 ∷ 2 ∷ 0 ∷ 0 ∷ 0 ∷ 1 ∷ 0 ∷ 1 ∷ 0 ∷ [], Refused 24)
+    ∷ (1 ∷ 0 ∷ 0 ∷ 0 ∷ 0 ∷ 0 ∷ 0 ∷ 0 ∷ 1 ∷ 0 ∷ 0 ∷ 0 ∷ 2 ∷ 0 ∷ 0 ∷ 0 ∷ 2 ∷ 0 ∷ 128 ∷ 0 ∷ [], Refused 24)
+    -- `*/7` gives Sunday alone, which takes 14 bytes; no step gives minute 1 alone; a flag above the fifth
+    ∷ (1 ∷ 0 ∷ 0 ∷ 0 ∷ 0 ∷ 0 ∷ 0 ∷ 0 ∷ 1 ∷ 0 ∷ 0 ∷ 0 ∷ 2 ∷ 0 ∷ 0 ∷ 0 ∷ 2 ∷ 0 ∷ 1 ∷ 16 ∷ [], Refused 18)
+    ∷ (2 ∷ 0 ∷ 0 ∷ 0 ∷ 0 ∷ 0 ∷ 0 ∷ 0 ∷ 1 ∷ 0 ∷ 0 ∷ 0 ∷ 2 ∷ 0 ∷ 0 ∷ 0 ∷ 2 ∷ 0 ∷ 1 ∷ 1 ∷ [], Refused 24)
+    ∷ (1 ∷ 0 ∷ 0 ∷ 0 ∷ 0 ∷ 0 ∷ 0 ∷ 0 ∷ 1 ∷ 0 ∷ 0 ∷ 0 ∷ 2 ∷ 0 ∷ 0 ∷ 0 ∷ 2 ∷ 0 ∷ 1 ∷ 32 ∷ [], Refused 24)
+    ∷ [])
+unfolding coding
+sets = refl

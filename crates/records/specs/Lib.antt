@@ -1,0 +1,9 @@
+pub mod Refusals
+pub mod Formats
+pub mod Readings
+pub mod Calls
+pub mod Writers
+pub mod WriterSteps
+pub mod ReaderSteps
+pub mod Computing
+pub mod Examples

@@ -1,0 +1,82 @@
+-- What the functions inside promise each other. What a reader must believe is in Formats, Readings and Calls.
+-- Assumes nothing.
+use mathlib.Core.Path.{_≡_}
+use Prim.Native.Nat.{ℕ, _+_, _-_, _≤_, _<_}
+use mathlib.Core.Bool.{cond, _&&_}
+use mathlib.Core.List.{List, [], _∷_, _++_}
+use lib.ListN.{length, drop}
+use lib.Dec.{eqb, leb}
+use Rattle.bytes.specs.Classes.{newline}
+use Rattle.bytes.specs.Runs.{between}
+use Rattle.crontab.specs.Limits.{maxTable, maxLine, maxEntries}
+use Rattle.crontab.specs.Refusals.{tooManyEntries}
+use Rattle.normal.specs.declared.NormalAnswer.{NormalAnswer}
+use Rattle.normal.specs.declared.NormalAnswer.the-variants as answer
+use Rattle.normal.specs.Refusals.{tooLong}
+use Rattle.normal.specs.Meanings.{setting, entryItem, entriesIn}
+use Rattle.normal.specs.Texts.{itemText, normalText, fits}
+use Rattle.records.specs.declared.body.Content.{Content}
+use Rattle.records.specs.declared.body.Content.the-variants.{Skipped, Entry, Setting, Refused}
+use Rattle.records.specs.declared.record.Step.{Step}
+use Rattle.records.specs.declared.decompile.Total.{Total}
+use Rattle.records.specs.Readings.{split, afterRecord, saidFrom, saidOf, itemsSaid, refusalSaid}
+use Rattle.records.specs.Readings as said
+use Rattle.records.specs.Writers.{longestBody}
+
+-- ---- one record
+
+-- what is found in a body
+unfoldable pub found : List ℕ → Content → said.Content
+found body Skipped = said.skipped
+found body (Entry when start) = said.means (entryItem when (drop start body))
+found body (Setting value) = said.means (setting (between body 2 value) (drop value body))
+found body (Refused number) = said.refused number
+
+-- its parts stand in the body
+abbrev pub Within : List ℕ → Content → Type 0
+Within body Skipped = Unit {0}
+Within body (Entry when start) = start ≤ length body
+Within body (Setting value) = (2 ≤ value) × (value ≤ length body)
+Within body (Refused number) = Unit {0}
+
+-- a step from a place: the record there, and where its body stands. The next record starts at the body's end.
+pub record StepIs (s : List ℕ) (at : ℕ) (r : Step) : Type 0 where
+  pub gives : (n : ℕ) → saidFrom n (split (drop at s)) ≡ afterRecord n (found (between s (r .start) (r .end)) (r .content)) (saidFrom (n + 1) (split (drop (r .end) s)))
+  pub onward : at < r .end
+  pub order : r .start ≤ r .end
+  pub within : r .end ≤ length s
+  pub short : r .end ≤ r .start + longestBody
+  pub parts : Within (between s (r .start) (r .end)) (r .content)
+
+-- ---- the line of what is found, with its newline
+
+unfoldable pub lineFound : List ℕ → Content → List ℕ
+lineFound body Skipped = []
+lineFound body (Entry when start) = itemText (entryItem when (drop start body)) ++ newline ∷ []
+lineFound body (Setting value) = itemText (setting (between body 2 value) (drop value body)) ++ newline ∷ []
+lineFound body (Refused number) = []
+
+-- ---- all records
+
+-- what is answered where the buffer has room
+unfoldable pub measured : List ℕ → NormalAnswer
+measured s =
+    let refusal = refusalSaid (saidOf s) in
+    let items = itemsSaid (saidOf s) in
+    cond (eqb refusal 0)
+    (cond (leb (entriesIn items) maxEntries)
+    (cond (fits items) (answer.Written (length (normalText items))) (answer.Refused tooLong))
+    (answer.Refused tooManyEntries))
+    (answer.Refused refusal)
+
+-- a total with so many entries more, and a line of so many bytes: it grows while all fits
+unfoldable pub grown : Total → ℕ → ℕ → Total
+grown t entries size =
+    let fits = t .fits && (leb size (maxLine + 1) && leb (t .size + size) maxTable) in
+    record { count = t .count + entries; size = cond fits (t .size + size) (t .size); fits = fits }
+
+unfoldable pub entriesFound : Content → ℕ
+entriesFound Skipped = 0
+entriesFound (Entry when start) = 1
+entriesFound (Setting value) = 0
+entriesFound (Refused number) = 0

@@ -1,0 +1,89 @@
+// A table in two walks over its lines: one measures its records and its normal text, the other writes the records.
+ghost use mathlib.Core.Path.{_≡_};
+ghost use Prim.Native.Nat.{_≤_};
+ghost use lib.ListN.{length};
+ghost use Rattle.bytes.specs.Laid.{laid};
+ghost use Rattle.crontab.specs.Tables.{tableOf};
+ghost use Rattle.normal.specs.Meanings.{ofUser, meaningOf};
+ghost use Rattle.records.specs.Formats.{recordsOf};
+ghost use Rattle.records.specs.Calls.{compiled};
+ghost use Rattle.records.specs.WriterSteps.{packedSize};
+use crate::pack;
+use crontab::Kind;
+use crontab::MAX_LINE;
+use crontab::MAX_TABLE;
+use crontab::Rules;
+use crontab::TABLE_TOO_LONG;
+use crontab::item;
+use crontab::item::Item;
+use normal::NormalAnswer;
+use normal::TOO_LONG;
+use normal::TOO_SHORT;
+use normal::line;
+
+const OF_USER: Rules = Rules { kind: Kind::User };
+
+// What is answered where the buffer has room. The table's own refusal comes before a line that would be too long, wherever that stands.
+fn measure(s: &[u8]) -> NormalAnswer
+    ensures { λ r. ⌜ r ≡ packedSize (now (s .entry)) ⌝ }
+{
+    if MAX_TABLE < s.len() {
+        return NormalAnswer::Refused {
+            number: TABLE_TOO_LONG,
+        };
+    }
+    let mut text: usize = 0;
+    let mut size: usize = 0;
+    let mut short = true;
+    let mut c = item::START;
+    while c.at < s.len() {
+        let step = item::advance(s, OF_USER, c);
+        c = step.next;
+        let item = step.item;
+        if let Item::Refused(fault) = item {
+            return NormalAnswer::Refused {
+                number: fault.number,
+            };
+        }
+        let length = line::text_length(s, item);
+        text += length;
+        short = short & (length <= MAX_LINE + 1);
+        size += pack::record_length(s, item);
+    }
+    if short & (text <= MAX_TABLE) {
+        return NormalAnswer::Written { size };
+    }
+    NormalAnswer::Refused { number: TOO_LONG }
+}
+
+// Writes the records of a good table to the front of a buffer that has room for them.
+fn write(s: &[u8], out: &mut [u8])
+    requires { ⌜ (tableOf ofUser (now s) .refusal ≡ 0) × (length (recordsOf (meaningOf (now s))) ≤ length (now out)) ⌝ }
+    ensures { λ _. ⌜ now (out .exit) ≡ laid (recordsOf (meaningOf (now (s .entry)))) (now (out .entry)) ⌝ }
+{
+    let mut at = 0;
+    let mut c = item::START;
+    while c.at < s.len() {
+        let step = item::advance(s, OF_USER, c);
+        c = step.next;
+        let item = step.item;
+        at = pack::write_record(s, item, out, at);
+    }
+}
+
+// Writes a table's records to the front of a buffer; where it is refused, writes nothing.
+pub fn compile(table: &[u8], records: &mut [u8]) -> NormalAnswer
+    ensures answer { λ r. ⌜ r ≡ compiled (now (table .entry)) (now (records .entry)) .answer ⌝ }
+    ensures records { λ _. ⌜ now (records .exit) ≡ compiled (now (table .entry)) (now (records .entry)) .buffer ⌝ }
+{
+    match measure(table) {
+        NormalAnswer::Written { size } => {
+            if records.len() < size {
+                return NormalAnswer::Refused { number: TOO_SHORT };
+            }
+            write(table, records);
+            NormalAnswer::Written { size }
+        }
+        NormalAnswer::Refused { number } => NormalAnswer::Refused { number },
+    }
+}

@@ -1,0 +1,50 @@
+/* eremothyn compile [-f] [FILE]: a user table as records, for a narrow link. */
+
+#define _XOPEN_SOURCE 700
+
+#include <stdio.h>
+#include <unistd.h>
+
+#include "eremothyn.h"
+#include "refused.h"
+#include "shared.h"
+
+/* Bit n of the given options is the n-th of these. */
+enum { FORCE = 1u << 0 };
+static const struct option OPTIONS[] = {
+    { 'f', "force", "write records to a terminal, too" },
+    NO_OPTION,
+};
+
+static int compile(const char *name)
+{
+    static struct file table;
+    static uint8_t records[EREMOTHYN_MAX_COMPILED];
+    if (!read_file(name, &table))
+        return fail(name);
+    uint64_t length = eremothyn_compile(table.bytes, table.length, records, sizeof records);
+    if (EREMOTHYN_IS_REFUSED(length))
+        return refuse_text(name, &table, EREMOTHYN_REFUSAL(length));
+    fwrite(records, 1, length, stdout);
+    return written(DONE);
+}
+
+static int run(const struct arguments *arguments)
+{
+    if (!(arguments->given & FORCE) && isatty(STDOUT_FILENO))
+        return misuse("records aren't written to a terminal, unless by -f");
+    return one_file(arguments, compile);
+}
+
+const struct command compile_command = {
+    "compile",
+    "[FILE]",
+    "write a user's crontab as records, for a narrow link",
+    "Writes the records of FILE, or of standard input where none is named. 'eremothyn decompile' reads them.\n"
+    "If FILE is refused, nothing is written, and standard error says:\n"
+    "  NAME:LINE:COLUMN: refused NUMBER: what is wrong\n"
+    "The exit status is 0 if the file is taken, 1 if it is refused, 2 if it can't be read or standard\n"
+    "output can't be written or is a terminal.\n",
+    OPTIONS,
+    run,
+};

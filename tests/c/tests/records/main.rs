@@ -1,0 +1,6 @@
+//! `eremothyn compile` and `eremothyn decompile`: tables as records, and records as text.
+
+mod compiling;
+mod decompiling;
+mod errors;
+mod pipes;
