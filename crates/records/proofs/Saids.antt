@@ -63,7 +63,7 @@ skipped-content kind body e = rw e
 
 pub kept-alike : (m n : ℕ) (rs : List Record) (tail : List ℕ) → All Framed rs
     → Alike (saidFrom m (split (bytesOf rs ++ tail))) (saidFrom n (split (bytesOf (kept rs) ++ tail)))
-unfolding bytesOf kept afterRecord
+unfolding bytesOf kept afterRecord isSkipped
 kept-alike m n [] tail h = from-alike m n (split tail)
 kept-alike m n (r ∷ rs) tail h =
     rw (append-assoc (recordOf (r .kind) (r .body)) (bytesOf rs) tail, said-record m r (bytesOf rs ++ tail) (h .0))

@@ -174,6 +174,15 @@ decompile-compile s records text size e =
     let w = compiled-so s records size e in
     rw (w .bytes) (said-form (recordsOf (meaningOf s)) text (meaningOf s) (table-said s (w .good) (w .fit)) ∙ few-form s text (w .good))
 
+-- and where the text has room, it is read: the writer makes nothing that the reader refuses
+pub decompile-written : (s records text : List ℕ) (size : ℕ) → compiled s records .answer ≡ Written size
+    → length (normalText (meaningOf s)) ≤ length text
+    → decompiled (take size (compiled s records .buffer)) text .answer ≡ Written (length (normalText (meaningOf s)))
+unfolding normalForm formOf laidForm
+decompile-written s records text size e room =
+    let w = compiled-so s records size e in
+    rw (decompile-compile s records text size e, w .good, w .fit, le-leb (length (normalText (meaningOf s))) (length text) room)
+
 -- tables that mean the same have the same records
 pub equal-records : (s t buffer : List ℕ) → tableOf ofUser s .refusal ≡ 0 → tableOf ofUser t .refusal ≡ 0 → meaningOf s ≡ meaningOf t
     → compiled s buffer ≡ compiled t buffer

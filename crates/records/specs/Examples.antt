@@ -2,7 +2,7 @@
 -- Assumes nothing.
 use mathlib.Core.Path.{refl}
 use mathlib.Core.List.{List, [], _∷_, _++_}
-use Prim.Native.Nat.{ℕ}
+use Prim.Native.Nat.{ℕ, zero, suc}
 use lib.ListN.{replicate}
 use Rattle.bytes.specs.Texts.{text}
 use Rattle.bytes.specs.Rows.{Hold}
@@ -45,6 +45,15 @@ tables : Hold records
           ∷ 3
           ∷ text "%",
     )
+    -- the star of the day alone, and of the month alone
+    ∷ (
+      text "0 0 * 1 0 x",
+      23 ∷ 0 ∷ 1 ∷ 0 ∷ 1 ∷ 0 ∷ 0 ∷ 0 ∷ 0 ∷ 0 ∷ 0 ∷ 0 ∷ 1 ∷ 0 ∷ 0 ∷ 0 ∷ 254 ∷ 255 ∷ 255 ∷ 255 ∷ 2 ∷ 0 ∷ 1 ∷ 4 ∷ text "x",
+    )
+    ∷ (
+      text "0 0 1 * 0 x",
+      23 ∷ 0 ∷ 1 ∷ 0 ∷ 1 ∷ 0 ∷ 0 ∷ 0 ∷ 0 ∷ 0 ∷ 0 ∷ 0 ∷ 1 ∷ 0 ∷ 0 ∷ 0 ∷ 2 ∷ 0 ∷ 0 ∷ 0 ∷ 254 ∷ 31 ∷ 1 ∷ 8 ∷ text "x",
+    )
     -- kind 2
     ∷ (text "@reboot  x y ", 6 ∷ 0 ∷ 2 ∷ 0 ∷ text "x y ")
     -- kind 3: a name of 2 bytes, and the value without its quotes
@@ -55,6 +64,14 @@ tables : Hold records
 unfolding coding
 tables = refl
 
+times : ℕ → List ℕ → List ℕ
+times zero s = []
+times (suc n) s = s ++ times n s
+
+-- a line that is written in 178 bytes and n more
+abbrev long : ℕ → List ℕ
+long n = text "0-59 * * * * " ++ replicate n 97
+
 abbrev compile : List ℕ × List ℕ → NormalAnswer × List ℕ
 compile (s, buffer) = let f = compiled s buffer in (f .answer, f .buffer)
 
@@ -64,8 +81,13 @@ calls : Hold compile
     ∷ ((text "A", text "1234"), (Refused 11, text "1234"))
     -- its line would be written in 1,001 bytes
     ∷ ((text "0-59 * * * * " ++ replicate 823 97, text "1"), (Refused 21, text "1"))
+    -- the table's refusal comes before it
+    ∷ ((long 823 ++ text "\nA", []), (Refused 11, []))
+    -- 49 lines of 1,001 written bytes are a table, and 50 aren't
+    ∷ ((times 49 (long 822 ++ text "\n"), []), (Refused 18, []))
+    ∷ ((times 50 (long 822 ++ text "\n"), []), (Refused 21, []))
     ∷ [])
-unfolding coding
+unfolding times coding
 calls = refl
 
 -- ---- the reader: the answer and the buffer, and the first bad record
@@ -113,10 +135,17 @@ read : Hold decompile
     ∷ (7 ∷ 0 ∷ 3 ∷ 0 ∷ 1 ∷ 0 ∷ text "A\"'", bad 24 1)
     -- the first bad record, and its first refusal
     ∷ (2 ∷ 0 ∷ 9 ∷ 0 ∷ 2 ∷ 0 ∷ 2 ∷ 0 ∷ 1 ∷ [], bad 23 1)
+    -- a length of 0; a record that would be skipped, cut short
+    ∷ (0 ∷ 0 ∷ [], bad 22 1)
+    ∷ (3 ∷ 0 ∷ 0 ∷ 128 ∷ [], bad 22 1)
+    -- an entry whose line would have 1,001 bytes; one entry too many, which comes before it; a bad record, which comes before all of them
+    ∷ (227 ∷ 3 ∷ 2 ∷ 0 ∷ replicate 993 120, bad 21 0)
+    ∷ (227 ∷ 3 ∷ 2 ∷ 0 ∷ replicate 993 120 ++ times 512 good, bad 12 0)
+    ∷ (227 ∷ 3 ∷ 2 ∷ 0 ∷ replicate 993 120 ++ times 512 good ++ (2 ∷ 0 ∷ 9 ∷ 0 ∷ []), bad 23 514)
     -- a buffer that is too short
     ∷ (good ++ good, (Refused 18, text "123456789012", 0))
     ∷ [])
-unfolding coding
+unfolding times coding
 read = refl
 
 -- the sets and the flags of a timed entry, each of them wrong

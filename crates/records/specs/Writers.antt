@@ -50,7 +50,7 @@ bytesOf (r ∷ rs) = recordOf (r .kind) (r .body) ++ bytesOf rs
 -- without those that are skipped
 unfoldable pub kept : List Record → List Record
 kept [] = []
-kept (r ∷ rs) = let more = kept rs in cond (isSkipped (r .kind)) more (r ∷ more)
+kept (r ∷ rs) = let more = kept rs in cond (leb skippedFrom (r .kind)) more (r ∷ more)
 
 -- ---- a later writer
 
