@@ -5,8 +5,9 @@
  *     daemon [-s] FILE PACE FROM TO [FROM TO]...
  *
  * With -s the file is a system table, as /etc/crontab is one, and whom a job runs as is shown with it. PACE is how many jobs
- * may start in a minute. FROM and TO are dates such as 1970-01-01T00:00. With more than one pair the clock jumps, and the
- * queue of waiting jobs goes on as it stands.
+ * may start in a minute. FROM and TO are dates in UTC such as 1970-01-01T00:00. With more than one pair the clock jumps, and
+ * the queue of waiting jobs goes on as it stands. For an entry that CRON_TZ gives a clock of its own, what that clock shows
+ * stands behind the date in UTC.
  *
  * A real daemon has the minute from the clock, time(NULL) / 60, which is UTC; it sleeps until the next one, announces those
  * that it slept through as well, in their order, and starts what this one only shows. When its crontab changes, it makes
@@ -26,10 +27,11 @@
 
 enum { DONE = 0, REFUSED = 1, FAILED = 2 };
 
-/* A crontab, its kind, and the queue of its waiting jobs. */
+/* A crontab, its kind, how many minutes each entry's clock is ahead of UTC, and the queue of its waiting jobs. */
 struct site {
     struct table_file table;
     uint64_t kind;
+    int ahead[EREMOTHYN_MAX_ENTRIES];
     uint8_t queue[EREMOTHYN_ROOM(EREMOTHYN_MAX_ENTRIES)];
     uint64_t waiting;
 };
@@ -57,6 +59,21 @@ static void print_date(uint64_t minute)
            answered("minute_of_hour", eremothyn_minute_of_hour(minute)));
 }
 
+/* What an entry's own clock shows at a minute, if that isn't UTC. At the calendar's ends it may show a date off it. */
+static void print_local(const struct site *site, uint64_t entry, uint64_t minute)
+{
+    int ahead = site->ahead[entry];
+    if (ahead == 0)
+        return;
+    fputs("  local ", stdout);
+    /* A minute below 0 becomes a large number. */
+    uint64_t local = minute + (uint64_t)ahead;
+    if (local > EREMOTHYN_LAST_MINUTE)
+        fputs("off the calendar", stdout);
+    else
+        print_date(local);
+}
+
 /* A text between bars: a newline as \n, a backslash as \\, and what a terminal would not show as itself as \xHH. */
 static void print_text(const uint8_t *text, uint64_t length)
 {
@@ -74,8 +91,41 @@ static void print_text(const uint8_t *text, uint64_t length)
     putchar('|');
 }
 
-/* The settings of a table, by the numbers of its lines: a line that has none is refused, and that is no fault. */
-static void print_settings(const struct site *site)
+/* A name or a value of a setting. */
+struct part {
+    const uint8_t *text;
+    uint64_t length;
+};
+
+static bool is_cron_tz(struct part name)
+{
+    return name.length == strlen("CRON_TZ") && memcmp(name.text, "CRON_TZ", name.length) == 0;
+}
+
+/* The number in two digits. */
+static int two_digits(const uint8_t *text)
+{
+    return 10 * (text[0] - '0') + text[1] - '0';
+}
+
+/*
+ * Sets the clocks of the entries behind a CRON_TZ: as many stand before it as the table up to its line has. Its value is a
+ * sign, two digits, a colon and two digits, or the table would have been refused.
+ */
+static void set_clocks(struct site *site, struct part name, struct part value)
+{
+    const uint8_t *table = site->table.bytes;
+    uint64_t start = (uint64_t)(name.text - table);
+    while (start > 0 && table[start - 1] != '\n')
+        start--;
+    int minutes = 60 * two_digits(value.text + 1) + two_digits(value.text + 4);
+    uint64_t entry = answered("check", eremothyn_check(table, start, site->kind));
+    for (; entry < EREMOTHYN_MAX_ENTRIES; entry++)
+        site->ahead[entry] = value.text[0] == '-' ? -minutes : minutes;
+}
+
+/* Takes the settings of a table, by the numbers of its lines: a line that has none is refused, and that is no fault. */
+static void take_settings(struct site *site)
 {
     const uint8_t *table = site->table.bytes;
     uint64_t length = site->table.length, kind = site->kind;
@@ -83,16 +133,20 @@ static void print_settings(const struct site *site)
     for (uint64_t i = 0; i < length; i++)
         lines += table[i] == '\n';
     for (uint64_t line = 1; line <= lines; line++) {
-        uint64_t name = eremothyn_setting_name_offset(table, length, kind, line);
-        if (name == EREMOTHYN_REFUSED + EREMOTHYN_NO_SETTING)
+        uint64_t offset = eremothyn_setting_name_offset(table, length, kind, line);
+        if (offset == EREMOTHYN_REFUSED + EREMOTHYN_NO_SETTING)
             continue;
-        uint64_t value = answered("setting", eremothyn_setting_value_offset(table, length, kind, line));
+        struct part name = { table + answered("setting", offset),
+                             answered("setting", eremothyn_setting_name_length(table, length, kind, line)) };
+        struct part value = { table + answered("setting", eremothyn_setting_value_offset(table, length, kind, line)),
+                              answered("setting", eremothyn_setting_value_length(table, length, kind, line)) };
         fputs("setting   ", stdout);
-        print_text(table + answered("setting", name),
-                   answered("setting", eremothyn_setting_name_length(table, length, kind, line)));
+        print_text(name.text, name.length);
         fputs(" = ", stdout);
-        print_text(table + value, answered("setting", eremothyn_setting_value_length(table, length, kind, line)));
+        print_text(value.text, value.length);
         putchar('\n');
+        if (is_cron_tz(name))
+            set_clocks(site, name, value);
     }
 }
 
@@ -110,6 +164,7 @@ static void print_next(const struct site *site, uint64_t entry, uint64_t minute)
     default:
         fputs("next ", stdout);
         print_date(answered("next", next));
+        print_local(site, entry, next);
         putchar('\n');
     }
 }
@@ -149,6 +204,7 @@ static void start(const struct site *site, uint64_t entry, uint64_t minute)
     printf("  start entry %2" PRIu64 "  ", entry);
     print_text(shell, shell_length);
     print_user(site, entry);
+    print_local(site, entry, minute);
     putchar('\n');
     if (input_length != EREMOTHYN_NO_INPUT) {
         printf("%38s  ", "standard input");
@@ -179,7 +235,7 @@ static void live(struct site *site, uint64_t minute, uint64_t pace)
     }
 }
 
-/* Reads the crontab, shows its settings and when its entries fire next, and makes the queue. */
+/* Reads the crontab, shows its settings and when its entries fire next, sets their clocks, and makes the queue. */
 static int boot(struct site *site, const char *name, uint64_t first)
 {
     if (!read_table(name, &site->table)) {
@@ -195,7 +251,7 @@ static int boot(struct site *site, const char *name, uint64_t first)
                 EREMOTHYN_REFUSAL(entries), eremothyn_words(EREMOTHYN_REFUSAL(entries)));
         return REFUSED;
     }
-    print_settings(site);
+    take_settings(site);
     for (uint64_t entry = 0; entry < entries; entry++)
         print_next(site, entry, first);
     site->waiting = answered("queue_init", eremothyn_queue_init(table, length, kind, site->queue, sizeof site->queue));

@@ -1,8 +1,12 @@
 /*
  * Eremothyn: a crontab engine. C99 and C++; link with liberemothyn.a.
  *
- * Minutes count from 0, which is 1970-01-01 00:00, a Thursday, to EREMOTHYN_LAST_MINUTE, which is 9999-12-31 23:59.
- * The calendar is the proleptic Gregorian one, without time zones or daylight saving.
+ * All minutes are UTC: those that are announced, asked about and answered. They count from 0, which is 1970-01-01 00:00, a
+ * Thursday, to EREMOTHYN_LAST_MINUTE, which is 9999-12-31 23:59. The calendar is the proleptic Gregorian one.
+ *
+ * A setting CRON_TZ in a table gives the entries after it a local clock, until the next one: its value is what that clock is
+ * ahead of UTC, as +05:30 or -03:00. An entry fires by its own clock, and before the first CRON_TZ that is UTC. There are no
+ * named time zones and there is no daylight saving.
  *
  * A run of bytes is a pointer to them and their number; every other parameter and every answer is a uint64_t. Any values
  * and any bytes may be passed: what has no answer is refused. A refusal is EREMOTHYN_REFUSED plus its number; no other
@@ -25,7 +29,7 @@ extern "C" {
 #endif
 
 /* The middle number counts the change requests that have landed. */
-#define EREMOTHYN_VERSION "1.8.0"
+#define EREMOTHYN_VERSION "1.9.0"
 
 /* The last minute of the calendar, 9999-12-31 23:59. */
 #define EREMOTHYN_LAST_MINUTE UINT64_C(4223371679)
@@ -59,7 +63,7 @@ extern "C" {
 
 /*
  * Refusals of a table. 1 comes first, then the first bad line decides: on it 2, then 3, in comments too, then the line is
- * read from left to right, and 12 comes last. Lines and columns count from 1.
+ * read from left to right, a setting's form before its value, and 12 comes last. Lines and columns count from 1.
  */
 #define EREMOTHYN_TABLE_TOO_LONG UINT64_C(1)    /* over 49,152 bytes; line 0, column 0 */
 #define EREMOTHYN_LINE_TOO_LONG UINT64_C(2)     /* over 1,000 bytes without its newline; column 1,001 */
@@ -74,6 +78,7 @@ extern "C" {
 #define EREMOTHYN_BAD_SETTING UINT64_C(11)      /* setting not of the form; the first non-blank byte */
 #define EREMOTHYN_TOO_MANY_ENTRIES UINT64_C(12) /* the 513th entry; column 1 */
 #define EREMOTHYN_USER_MALFORMED UINT64_C(20)   /* user column not of the form, in a system table; its first byte */
+#define EREMOTHYN_OFFSET_MALFORMED UINT64_C(25) /* value of CRON_TZ no offset; after = and blanks */
 
 /* Refusals of one entry, one minute, one setting, one normal text, records and one queue of waiting jobs. */
 #define EREMOTHYN_NO_SUCH_ENTRY UINT64_C(13)   /* no entry of that number */
@@ -85,7 +90,7 @@ extern "C" {
 #define EREMOTHYN_NO_SETTING UINT64_C(19)      /* the line asked for is no setting, or isn't there */
 #define EREMOTHYN_TEXT_TOO_LONG UINT64_C(21)   /* a line of the normal text, or all of it, would pass a table's limits */
 #define EREMOTHYN_RECORD_CUT UINT64_C(22)      /* fewer bytes than a record's length says, or a length below 2 */
-#define EREMOTHYN_RECORD_UNKNOWN UINT64_C(23)  /* a kind of record below 32,768 that isn't 1, 2 or 3 */
+#define EREMOTHYN_RECORD_UNKNOWN UINT64_C(23)  /* a kind of record below 32,768 that isn't 1 to 4 */
 #define EREMOTHYN_RECORD_NO_LINE UINT64_C(24)  /* a record that no line of a table, of any length, could mean */
 #define EREMOTHYN_NOT_A_QUEUE UINT64_C(28)     /* not a queue of this table's entries, or not room for all of them */
 
@@ -118,6 +123,8 @@ static inline const char *eremothyn_words(uint64_t refusal)
     case EREMOTHYN_USER_MALFORMED:
         return "not a user column: user, user:group, user/class or user:group/class, each of 1 to 32 letters, digits, "
                "_, - and ., and - not first";
+    case EREMOTHYN_OFFSET_MALFORMED:
+        return "not an offset from UTC: CRON_TZ is -12:00 to +14:00, as +05:30, with a sign and two digits each";
     case EREMOTHYN_TEXT_TOO_LONG: return "in normal form a line has more than 1000 bytes, or the table more than 49152";
     case EREMOTHYN_RECORD_CUT: return "the record is cut short, or its length is below 2";
     case EREMOTHYN_RECORD_UNKNOWN: return "an unknown kind of record, and not one that may be skipped";
@@ -134,8 +141,8 @@ static inline const char *eremothyn_words(uint64_t refusal)
 uint64_t eremothyn_minute_of_date(uint64_t year, uint64_t month, uint64_t day, uint64_t hour, uint64_t minute);
 
 /*
- * The parts of a minute's date. Each is refused with EREMOTHYN_NOT_ON_CALENDAR if the minute is above
- * EREMOTHYN_LAST_MINUTE, and otherwise answers:
+ * The parts of a minute's date; for a local date, add the offset to the minute first. Each is refused with
+ * EREMOTHYN_NOT_ON_CALENDAR if the minute is above EREMOTHYN_LAST_MINUTE, and otherwise answers:
  */
 
 /* 1970 to 9999. */
@@ -171,7 +178,8 @@ uint64_t eremothyn_fault_line(const uint8_t *table, uint64_t table_length, uint6
 uint64_t eremothyn_fault_column(const uint8_t *table, uint64_t table_length, uint64_t kind);
 
 /*
- * Whether an entry is due at a minute: 1 or 0, and 0 for an @reboot entry. Refused with EREMOTHYN_NO_SUCH_ENTRY, then
+ * Whether an entry is due at a minute: 1 or 0, and 0 for an @reboot entry. It is 0, too, while the entry's own clock shows a
+ * minute off the calendar, which can be so for some hours at the calendar's ends. Refused with EREMOTHYN_NO_SUCH_ENTRY, then
  * EREMOTHYN_NOT_ON_CALENDAR.
  */
 uint64_t eremothyn_due(const uint8_t *table, uint64_t table_length, uint64_t kind, uint64_t entry, uint64_t minute);
@@ -241,7 +249,7 @@ uint64_t eremothyn_normal_form(const uint8_t *table, uint64_t table_length, uint
 /*
  * Records: a user table compiled for a narrow link, and read back at its other end. A record is a length of two bytes, a
  * kind of two bytes and a body; the length counts the kind and the body. Kind 1 is an entry with its times as bits, kind 2
- * an @reboot entry, kind 3 a setting. `man 5 eremothyn-records` has every byte of them.
+ * an @reboot entry, kind 3 a setting, kind 4 the setting CRON_TZ. `man 5 eremothyn-records` has every byte of them.
  */
 
 /*
@@ -281,7 +289,7 @@ uint64_t eremothyn_queue_init(const uint8_t *table, uint64_t table_length, uint6
                               uint64_t room_length);
 
 /*
- * Announces a minute: each time-based entry that matches it and isn't waiting joins at the back, in file order. Answers
+ * Announces a minute: each time-based entry that is due and isn't waiting joins at the back, in file order. Answers
  * how many joined. Refused with EREMOTHYN_NOT_A_QUEUE for bytes that name an entry which the table doesn't have, or one
  * twice, then EREMOTHYN_NOT_ON_CALENDAR. Minutes may repeat or go back.
  */

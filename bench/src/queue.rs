@@ -5,6 +5,7 @@ use crate::measure::{in_turn, nanoseconds, print_pair, print_pair_head, round};
 use crate::table::entries_alone;
 use eremothyn::Table;
 use second::queue::Queue;
+use second::table::offset::{text, WEST};
 use second::table::{read, Kind, ENTRIES, TABLE_BYTES};
 use std::hint::black_box;
 use std::time::Instant;
@@ -68,6 +69,10 @@ pub fn run() {
     beside_reading("tick, all join", &table, &empty, |line| {
         library_tick(&table, line, ALL_DUE).is_ok()
     });
+    let clocks = with_clocks();
+    beside_reading("tick, all join, 64 clocks", &clocks, &empty, |line| {
+        library_tick(&clocks, line, ALL_DUE) == joined
+    });
     beside_reading("pop, all wait", &table, &waiting, |line| pop(line).is_ok());
     println!("times as long as reading; goals: a tick where all wait at most 1.3, a pop 1.1");
 }
@@ -121,4 +126,17 @@ fn full() -> Vec<u8> {
         "0-59/5 0-23 1-31 1-12 *",
     ];
     entries_alone(&fields.map(|fields| format!("{fields} /usr/local/bin/camera --expose ")))
+}
+
+/// As many entries, and a local clock for each eight, whole tens of minutes ahead of UTC.
+fn with_clocks() -> Vec<u8> {
+    let lines = (0..ENTRIES).map(|number| {
+        let entry = format!("{:x<93}\n", "*/10 * * * * /usr/local/bin/camera --expose ");
+        let clock = format!("CRON_TZ={}\n", text(WEST + 20 * (number as i64 / 8)));
+        match number % 8 {
+            0 => clock + &entry,
+            _ => entry,
+        }
+    });
+    lines.collect::<String>().into_bytes()
 }

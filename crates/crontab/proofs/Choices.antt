@@ -1,6 +1,6 @@
 -- Laws of the entries that are chosen, entry by entry.
 -- Assumes nothing.
-use mathlib.Core.Path.{_≡_, refl}
+use mathlib.Core.Path.{_≡_, refl, sym, ap, _∙_}
 use mathlib.Core.Bool.{cond}
 use mathlib.Core.List.{List}
 use Prim.Native.Nat.{ℕ, _+_, _<_}
@@ -8,12 +8,21 @@ use native.Mathlib.Numerals.{add-one}
 use native.Mathlib.Omega.{arith}
 use lib.ListN.{length, set}
 use lib.Seq.{getD-set-same, getD-set-other}
+use lib.IntN.{ℤ}
+use mir.Syntax.{w32}
+use mir.Val.{toZ, ofZ}
 use Rattle.bytes.specs.Marks.{mark, marksOf}
 use Rattle.bytes.proofs.Marks.{marks-same}
+use Rattle.schedule.specs.declared.local.LocalDate.{LocalDate}
+use Rattle.schedule.specs.Local.{InZones}
 use Rattle.crontab.specs.declared.entry.Entry.{Entry}
 use Rattle.crontab.specs.declared.chosen.Which.{Which}
+use Rattle.crontab.specs.declared.chosen.Which.the-variants.{At}
 use Rattle.crontab.specs.Tables.{blankEntry, refusedTable}
-use Rattle.crontab.specs.Choices.{isChosen, markWords, refusedChoice, choice, chosenIn}
+use Rattle.crontab.specs.Choices.{isChosen, dateUnder, markWords, refusedChoice, choice, chosenIn}
+use Rattle.crontab.specs.Firings.{firesOn}
+use Rattle.crontab.proofs.Offsets.{kept}
+use Rattle.crontab.proofs.Firings.{fires-under}
 
 -- one entry more
 pub chosen-more : (which : Which) (es : List Entry) (k : ℕ) (e : Entry) → k < length es
@@ -29,3 +38,16 @@ chosen-more which es k e h =
 pub chosen-refused : (which : Which) (number line column : ℕ) → refusedChoice number ≡ chosenIn which (refusedTable number line column)
 unfolding refusedChoice chosenIn refusedTable marksOf
 chosen-refused which number line column = refl
+
+-- an entry that fires on the local date under its offset
+pub chosen-at : {which : Which} {m : ℕ} (e : Entry) {d : LocalDate} → which ≡ At m → d ≡ dateUnder which (e .offset) → firesOn e d ≡ isChosen which e
+unfolding isChosen dateUnder
+chosen-at {which} {m} e is p = rw (p, is) (fires-under e m)
+
+-- the date under an offset that was read back
+module _ (which : Which) (z : ℤ) {d : LocalDate} (h : InZones z) where
+  pub date-kept : d ≡ dateUnder which (toZ w32 (ofZ w32 z)) → d ≡ dateUnder which z
+  date-kept p = p ∙ ap (dateUnder which) (kept h)
+
+  pub date-back : d ≡ dateUnder which z → d ≡ dateUnder which (toZ w32 (ofZ w32 z))
+  date-back p = p ∙ ap (dateUnder which) (sym (kept h))

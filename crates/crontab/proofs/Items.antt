@@ -1,11 +1,12 @@
 -- Laws of the walk over a table's lines: what a step from a cursor gives, and where the walk starts and ends.
 -- Assumes nothing.
-use mathlib.Core.Path.{_≡_, refl, _∙_}
+use mathlib.Core.Path.{_≡_, refl, sym, subst, _∙_}
 use mathlib.Core.List.{List}
 use Prim.Native.Nat.{ℕ, _+_, _-_, _≤_, _<_}
 use native.Mathlib.Omega.{arith}
 use lib.ListN.{length, take, drop, length-drop, drop-of-length-le}
 use lib.Seq.{length-take-le}
+use lib.IntN.{ℤ}
 use borrow.Author.Tests.{lt-ltb, le-ltb}
 use Rattle.bytes.specs.declared.class.Class.the-variants.{Not}
 use Rattle.bytes.proofs.Runs.{skipped-from, skipped-within}
@@ -17,22 +18,26 @@ use Rattle.crontab.specs.declared.line.Line.the-variants as line
 use Rattle.crontab.specs.declared.item.Cursor.{Cursor}
 use Rattle.crontab.specs.declared.item.Item.{Item}
 use Rattle.crontab.specs.declared.item.Item.the-variants as item
+use Rattle.schedule.specs.Local.{InZones}
+use Rattle.crontab.specs.declared.offset.Zone.{Zone}
+use Rattle.crontab.specs.Offsets.{utc, inForce}
 use Rattle.crontab.specs.Limits.{maxTable, maxLine, maxEntries}
 use Rattle.crontab.specs.Lines.{linesOf, readLine}
 use Rattle.crontab.specs.Items.{done, moved, placed, afterLine, itemsFrom, itemsOf}
-use Rattle.crontab.specs.Steps.{itemsAt, Reached, given, counted, StepIs}
+use Rattle.crontab.specs.Steps.{itemsAt, behind, Reached, given, counted, Under, StepIs}
 use Rattle.crontab.proofs.Lines.{lineEnd, lines-first, next-start}
-use Rattle.crontab.proofs.Proper.{entry-proper}
+use Rattle.crontab.proofs.Offsets.{force-in}
+use Rattle.crontab.proofs.Proper.{setting-proper, entry-proper}
 
 abbrev pub start : Cursor
-start = record { at = 0; line = 1; count = 0 }
+start = record { at = 0; line = 1; count = 0; offset = utc }
 
 pub items-start : (rules : Rules) (s : List ℕ) → length s ≤ maxTable → itemsAt rules s start ≡ itemsOf rules s
 unfolding itemsAt itemsOf
 items-start rules s h = rw (le-ltb maxTable (length s) h)
 
 pub start-reached : (s : List ℕ) → length s ≤ maxTable → Reached s start
-start-reached s h = record { short = h; place = omega arith; lines = omega arith; few = omega arith }
+start-reached s h = record { short = h; place = omega arith; lines = omega arith; few = omega arith; zone = omega arith }
 
 pub items-end : (rules : Rules) (s : List ℕ) (c : Cursor) → length s ≤ c .at → itemsAt rules s c ≡ done
 unfolding itemsAt itemsFrom linesOf
@@ -43,8 +48,8 @@ module _ (rules : Rules) (s : List ℕ) (c : Cursor) (end : ℕ) (reached : Reac
   abbrev bytes : List ℕ
   bytes = take (end - c .at) (drop (c .at) s)
 
-  abbrev behind : ℕ → Cursor
-  behind k = record { at = end + 1; line = c .line + 1; count = k }
+  abbrev next : ℕ → ℤ → Cursor
+  next k o = behind c end k o
 
   from : c .at ≤ end
   from = rw found (skipped-from (Not 10) s (c .at))
@@ -52,35 +57,68 @@ module _ (rules : Rules) (s : List ℕ) (c : Cursor) (end : ℕ) (reached : Reac
   within : end ≤ length s
   within = rw found (skipped-within (Not 10) s (c .at) (omega arith))
 
+  pub line-ends : (end ≤ maxTable) × (c .line ≤ maxTable + 2)
+  line-ends = (omega (arith, within, reached .short), omega (arith, inside, reached .short, reached .lines))
+
   size : length bytes ≡ end - c .at
   size = length-take-le (end - c .at) (drop (c .at) s) (omega (arith, within, length-drop (c .at) s))
 
-  here : itemsAt rules s c ≡ afterLine (c .at) (c .line) (end - c .at) (c .count) (readLine rules bytes) (λ k. itemsAt rules s (behind k))
+  here : itemsAt rules s c
+      ≡ afterLine (c .at) (c .line) (end - c .at) (c .count) (c .offset) (readLine rules bytes) (λ k o. itemsAt rules s (next k o))
   unfolding itemsAt itemsFrom
   here = rw (lines-first s (c .at) end inside found, next-start s (c .at) end inside found, size)
 
-  step-is : (i : Item) (k : ℕ) → itemsAt rules s c ≡ given (c .line) i (itemsAt rules s (behind k)) → k ≡ counted i (c .count) → k ≤ maxEntries
-      → StepIs rules s c (record { item = i; next = behind k })
-  step-is i k g e few =
+  step-is : (i : Item) (k : ℕ) (o : ℤ) → itemsAt rules s c ≡ given (c .line) i (itemsAt rules s (next k o)) → k ≡ counted i (c .count) → k ≤ maxEntries
+      → InZones o → Under (c .offset) i → StepIs rules s c (record { item = i; next = next k o })
+  step-is i k o g e few zone under =
       record {
         gives = g;
         onward = omega (arith, from);
-        reached = record { short = reached .short; place = omega (arith, within); lines = omega (arith, from, reached .lines); few = few };
+        reached =
+            record {
+              short = reached .short;
+              place = omega (arith, within);
+              lines = omega (arith, from, reached .lines);
+              few = few;
+              zone = zone;
+            };
         counts = e;
+        under = under;
       }
 
-  pub step-nothing : readLine rules bytes ≡ line.Ignored → StepIs rules s c (record { item = item.Nothing; next = behind (c .count) })
-  unfolding afterLine given counted
-  step-nothing is = step-is item.Nothing (c .count) (here ∙ rw is) refl (reached .few)
+  -- the offset that is read back from a cursor
+  module _ {o : ℤ} (same : o ≡ c .offset) where
+    in-zones : InZones o
+    in-zones = subst InZones (sym same) (reached .zone)
 
-  pub step-setting : {name value : Part} → readLine rules bytes ≡ line.Setting name value
-      → StepIs rules s c (record { item = item.Setting (moved (c .at) name) (moved (c .at) value); next = behind (c .count) })
-  unfolding afterLine given counted
-  step-setting {name} {value} is = step-is (item.Setting (moved (c .at) name) (moved (c .at) value)) (c .count) (here ∙ rw is) refl (reached .few)
+    pub step-nothing : readLine rules bytes ≡ line.Ignored → StepIs rules s c (record { item = item.Nothing; next = next (c .count) o })
+    unfolding afterLine given counted
+    step-nothing is = step-is item.Nothing (c .count) o (here ∙ rw (is, same)) refl (reached .few) in-zones tt
 
-  pub step-refused : {f : Fault} → readLine rules bytes ≡ line.Refused f → StepIs rules s c (record { item = item.Refused f; next = behind (c .count) })
+    pub step-refused : {f : Fault} → readLine rules bytes ≡ line.Refused f → StepIs rules s c (record { item = item.Refused f; next = next (c .count) o })
+    unfolding afterLine given counted
+    step-refused {f} is = step-is (item.Refused f) (c .count) o (here ∙ rw is) refl (reached .few) in-zones tt
+
+    pub step-entry : {when : When} {first : ℕ} → readLine rules bytes ≡ line.Entry when first → c .count < maxEntries
+        → StepIs rules s c (record { item = item.Entry (placed (c .at) (c .line) (end - c .at) (c .offset) when first); next = next (c .count + 1) o })
+    unfolding afterLine given counted
+    step-entry {when} {first} is h =
+        step-is (item.Entry (placed (c .at) (c .line) (end - c .at) (c .offset) when first)) (c .count + 1) o
+        (here ∙ rw (is, lt-ltb (c .count) maxEntries h, same)) refl (omega arith) in-zones refl
+
+    pub step-full : {when : When} {first : ℕ} → readLine rules bytes ≡ line.Entry when first → maxEntries ≤ c .count
+        → StepIs rules s c (record { item = item.Refused (record { number = 12; column = 1 }); next = next (c .count) o })
+    unfolding afterLine given counted
+    step-full is h =
+        step-is (item.Refused (record { number = 12; column = 1 })) (c .count) o (here ∙ rw (is, le-ltb (c .count) maxEntries h)) refl
+        (reached .few) in-zones tt
+
+  pub step-setting : {name value : Part} {zone : Zone} {o : ℤ} → readLine rules bytes ≡ line.Setting name value zone → o ≡ inForce zone (c .offset)
+      → StepIs rules s c (record { item = item.Setting (moved (c .at) name) (moved (c .at) value); next = next (c .count) o })
   unfolding afterLine given counted
-  step-refused {f} is = step-is (item.Refused f) (c .count) (here ∙ rw is) refl (reached .few)
+  step-setting {name} {value} {zone} {o} is same =
+      step-is (item.Setting (moved (c .at) name) (moved (c .at) value)) (c .count) o (here ∙ rw (is, same)) refl (reached .few)
+      (subst InZones (sym same) (force-in zone (c .offset) (setting-proper rules bytes is .3) (reached .zone))) tt
 
   module _ {when : When} {first : ℕ} (is : readLine rules bytes ≡ line.Entry when first) where
     -- its places have 16 bits
@@ -90,14 +128,3 @@ module _ (rules : Rules) (s : List ℕ) (c : Cursor) (end : ℕ) (reached : Reac
         let n = reached .short in
         let l = reached .lines in
         (omega arith, omega arith, omega (arith, p .0, p .1), omega (arith, p .0, size))
-
-    pub step-entry : c .count < maxEntries
-        → StepIs rules s c (record { item = item.Entry (placed (c .at) (c .line) (end - c .at) when first); next = behind (c .count + 1) })
-    unfolding afterLine given counted
-    step-entry h =
-        step-is (item.Entry (placed (c .at) (c .line) (end - c .at) when first)) (c .count + 1)
-        (here ∙ rw (is, lt-ltb (c .count) maxEntries h)) refl (omega arith)
-
-    pub step-full : maxEntries ≤ c .count → StepIs rules s c (record { item = item.Refused (record { number = 12; column = 1 }); next = behind (c .count) })
-    unfolding afterLine given counted
-    step-full h = step-is (item.Refused (record { number = 12; column = 1 })) (c .count) (here ∙ rw (is, le-ltb (c .count) maxEntries h)) refl (reached .few)

@@ -2,7 +2,10 @@ pub mod Words
 pub mod Users
 pub mod Owners
 pub mod Times
+pub mod Texts
+pub mod Offsets
 pub mod Proper
+pub mod Zones
 pub mod Lines
 pub mod Items
 pub mod Sound

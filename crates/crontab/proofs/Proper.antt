@@ -10,10 +10,9 @@ use lib.ListN.{length, drop, getD, length-drop}
 use lib.Dec.{eqb, leb, ltb}
 use lib.Seq.{length-take-le}
 use borrow.Author.Tests.{ltb-true, ltb-false, leb-false, eqb-true}
-use Rattle.bytes.specs.declared.class.Class.the-variants.{Blank, Solid, Name, Not}
-use Rattle.bytes.specs.Classes.{isQuote}
-use Rattle.bytes.specs.Runs.{skipped, trimmed, between}
-use Rattle.bytes.proofs.Runs.{skipped-from, skipped-within, byte-within, trimmed-le}
+use Rattle.bytes.specs.declared.class.Class.the-variants.{Blank, Solid, Not}
+use Rattle.bytes.specs.Runs.{skipped, between}
+use Rattle.bytes.proofs.Runs.{skipped-from, skipped-within, byte-within}
 use Rattle.field.specs.declared.Limits.{Limits}
 use Rattle.field.specs.declared.Answer.{Answer}
 use Rattle.field.specs.declared.Answer.the-variants as answer
@@ -35,7 +34,7 @@ use Rattle.crontab.specs.declared.line.Line.{Line}
 use Rattle.crontab.specs.declared.line.Line.the-variants as line
 use Rattle.crontab.specs.Limits.{maxLine}
 use Rattle.crontab.specs.Times.{answered, fieldAt, after, fieldsAt}
-use Rattle.crontab.specs.Words.{wordOf, afterWord, wordAt}
+use Rattle.crontab.specs.Words.{same, wordOf, afterWord, wordAt}
 use Rattle.crontab.specs.declared.Kind.{Kind}
 use Rattle.crontab.specs.declared.Kind.the-variants.{User, System}
 use Rattle.crontab.specs.declared.user.Column.{Column}
@@ -43,25 +42,28 @@ use Rattle.crontab.specs.declared.user.Column.the-variants.{Named}
 use Rattle.crontab.specs.declared.user.Column.the-variants as column
 use Rattle.crontab.specs.Users.{columnAt}
 use Rattle.crontab.specs.Entries.{timeAt, withCommand, afterOwner, withUser, byKind, afterTime, entryAt}
-use Rattle.crontab.specs.Assignments.{quotedAt, nonEmpty, nameAt, closed, valueAt, afterEquals, afterName, settingAt}
+use Rattle.crontab.specs.declared.offset.Zone.{Zone}
+use Rattle.crontab.specs.declared.offset.Zone.the-variants.{Same}
+use Rattle.crontab.specs.declared.offset.OffsetAnswer.the-variants.{Minutes}
+use Rattle.crontab.specs.declared.offset.OffsetAnswer.the-variants as offset
+use Rattle.crontab.specs.Offsets.{zoneName, isOffset, offsetOf, readOffset, Zoned}
+use Rattle.crontab.specs.Assignments.{valueAt, afterOffset, withOffset, zoned, afterEquals, afterName, settingAt}
 use Rattle.crontab.specs.Lines.{startsEntry, contentFrom, contentOf, readLine}
 use Rattle.crontab.proofs.Times.{fieldBytes}
-
--- a part of n bytes
-pub record Inside (n : ℕ) (p : Part) : Type 0 where
-  pub order : p .start ≤ p .end
-  pub within : p .end ≤ n
+use Rattle.crontab.proofs.Offsets.{zone-in}
+pub use Rattle.crontab.proofs.Texts.{Inside}
+use Rattle.crontab.proofs.Texts.{TextInside, name-inside, value-inside}
 
 -- the refusals of lines, with no column behind the last
 pub record Numbered (last number column : ℕ) : Type 0 where
   pub from : 1 ≤ number
-  pub to : number ≤ 20
+  pub to : number ≤ 25
   pub inside : column ≤ last
 
 -- a line of n bytes
 abbrev pub Proper : ℕ → Line → Type 0
 Proper n line.Ignored = Unit {0}
-Proper n (line.Setting name value) = (n ≤ maxLine) × (Inside n name) × (Inside n value)
+Proper n (line.Setting name value zone) = (n ≤ maxLine) × (Inside n name) × (Inside n value) × Zoned zone
 Proper n (line.Entry when start) = (n ≤ maxLine) × (start < n)
 Proper n (line.Refused fault) = Numbered (maxLine + 1) (fault .number) (fault .column)
 
@@ -166,63 +168,34 @@ module _ (s : List ℕ) (short : length s ≤ maxLine) where
 
   -- ---- a setting
 
-  abbrev TextInside : Text → Type 0
-  TextInside Malformed = Unit {0}
-  TextInside (Found p next) = Inside (length s) p
-
-  quoted-inside : (at : ℕ) → TextInside (quotedAt s at)
-  unfolding quotedAt
-  quoted-inside at = go (ltb (skipped (Not (getD s at 0)) s (at + 1)) (length s)) refl
+  offset-proper : (at : ℕ) (name value : Part) → at ≤ length s → Inside (length s) name → Inside (length s) value
+      → Proper (length s) (withOffset s at name value)
+  unfolding withOffset readOffset afterOffset
+  offset-proper at name value k n v = go (isOffset shown) refl
     where
-      end : ℕ
-      end = skipped (Not (getD s at 0)) s (at + 1)
+      shown : List ℕ
+      shown = between s (value .start) (value .end)
 
-      go : (t : Bool) → ltb end (length s) ≡ t → TextInside (cond t (Found (record { start = at + 1; end = end }) (end + 1)) Malformed)
-      go true p =
-          let h : end < length s = ltb-true _ _ p in
-          record { order = skipped-from _ s (at + 1); within = omega arith }
-      go false p = tt
+      go : (t : Bool) → isOffset shown ≡ t → Proper (length s) (afterOffset at name value (cond t (Minutes (offsetOf shown)) offset.Malformed))
+      go true e = (short, n, v, zone-in shown e)
+      go false e = record { from = omega arith; to = omega arith; inside = omega arith }
 
-  non-empty-inside : (t : Text) → TextInside t → TextInside (nonEmpty t)
-  unfolding nonEmpty
-  non-empty-inside Malformed h = tt
-  non-empty-inside (Found p next) h = go (ltb (p .start) (p .end))
+  zoned-proper : (at : ℕ) (name value : Part) → at ≤ length s → Inside (length s) name → Inside (length s) value
+      → Proper (length s) (zoned s at name value)
+  unfolding zoned
+  zoned-proper at name value k n v = go (same (between s (name .start) (name .end)) zoneName)
     where
-      go : (t : Bool) → TextInside (cond t (Found p next) Malformed)
-      go true = h
-      go false = tt
+      go : (t : Bool) → Proper (length s) (cond t (withOffset s at name value) (line.Setting name value Same))
+      go true = offset-proper at name value k n v
+      go false = (short, n, v, tt)
 
-  closed-inside : (t : Text) → TextInside t → TextInside (closed s t)
-  unfolding closed
-  closed-inside Malformed h = tt
-  closed-inside (Found p next) h = go (leb (length s) (skipped Blank s next))
-    where
-      go : (t : Bool) → TextInside (cond t (Found p next) Malformed)
-      go true = h
-      go false = tt
-
-  name-inside : (at : ℕ) → at ≤ length s → TextInside (nameAt s at)
-  unfolding nameAt
-  name-inside at h = non-empty-inside _ (go (isQuote (getD s at 0)))
-    where
-      go : (t : Bool) → TextInside (cond t (quotedAt s at) (Found (record { start = at; end = skipped Name s at }) (skipped Name s at)))
-      go true = quoted-inside at
-      go false = record { order = skipped-from Name s at; within = skipped-within Name s at h }
-
-  value-inside : (at : ℕ) → at ≤ length s → TextInside (valueAt s at)
-  unfolding valueAt
-  value-inside at h = go (isQuote (getD s at 0))
-    where
-      go : (t : Bool) → TextInside (cond t (closed s (quotedAt s at)) (Found (record { start = at; end = at + trimmed (drop at s) }) (length s)))
-      go true = closed-inside _ (quoted-inside at)
-      go false = record { order = omega arith; within = omega (arith, trimmed-le (drop at s), length-drop at s) }
-
-  equals-proper : (at : ℕ) (name : Part) (v : Text) → at ≤ length s → Inside (length s) name → TextInside v → Proper (length s) (afterEquals at name v)
+  equals-proper : (at start : ℕ) (name : Part) (v : Text) → at ≤ length s → start ≤ length s → Inside (length s) name → TextInside s v
+      → Proper (length s) (afterEquals s at start name v)
   unfolding afterEquals
-  equals-proper at name Malformed k n h = record { from = omega arith; to = omega arith; inside = omega arith }
-  equals-proper at name (Found value next) k n h = (short, n, h)
+  equals-proper at start name Malformed k l n h = record { from = omega arith; to = omega arith; inside = omega arith }
+  equals-proper at start name (Found value next) k l n h = zoned-proper start name value l n h
 
-  name-proper : (at : ℕ) (t : Text) → at ≤ length s → TextInside t → Proper (length s) (afterName s at t)
+  name-proper : (at : ℕ) (t : Text) → at ≤ length s → TextInside s t → Proper (length s) (afterName s at t)
   unfolding afterName
   name-proper at Malformed i h = record { from = omega arith; to = omega arith; inside = omega arith }
   name-proper at (Found name next) i h = go (eqb (getD s equals 0) 61) refl
@@ -230,12 +203,16 @@ module _ (s : List ℕ) (short : length s ≤ maxLine) where
       equals : ℕ
       equals = skipped Blank s next
 
+      start : ℕ
+      start = skipped Blank s (equals + 1)
+
       go : (b : Bool) → eqb (getD s equals 0) 61 ≡ b
-          → Proper (length s) (cond b (afterEquals at name (valueAt s (skipped Blank s (equals + 1)))) (line.Refused (record { number = 11; column = at + 1 })))
+          → Proper (length s) (cond b (afterEquals s at start name (valueAt s start)) (line.Refused (record { number = 11; column = at + 1 })))
       go true p =
           let e : getD s equals 0 ≡ 61 = eqb-true _ _ p in
           let k : equals < length s = byte-within s equals (omega arith) in
-          equals-proper at name _ i h (value-inside _ (skipped-within Blank s (equals + 1) (omega arith)))
+          let l : start ≤ length s = skipped-within Blank s (equals + 1) (omega arith) in
+          equals-proper at start name _ i l h (value-inside s _ l)
       go false p = record { from = omega arith; to = omega arith; inside = omega arith }
 
   -- ---- by the first byte that isn't blank
@@ -247,7 +224,7 @@ module _ (s : List ℕ) (short : length s ≤ maxLine) where
       go : (a b : Bool) → Proper (length s) (cond a line.Ignored (cond b (entryAt rules s at) (settingAt s at)))
       go true b = tt
       go false true = time-proper rules _ (time-fault s at h)
-      go false false = name-proper at _ h (name-inside at h)
+      go false false = name-proper at _ h (name-inside s at h)
 
   content-proper : (rules : Rules) → Proper (length s) (contentOf rules s)
   unfolding contentOf
@@ -269,8 +246,8 @@ line-proper rules s = go (ltb maxLine (length s)) (ltb (skipped (Not 0) s 0) (le
     go false true p = record { from = omega arith; to = omega arith; inside = omega (arith, ltb-false maxLine (length s) p, skipped-within (Not 0) s 0 (omega arith)) }
     go false false p = content-proper s (ltb-false _ _ p) rules
 
-pub setting-proper : (rules : Rules) (s : List ℕ) {name value : Part} → readLine rules s ≡ line.Setting name value
-    → (length s ≤ maxLine) × (Inside (length s) name) × (Inside (length s) value)
+pub setting-proper : (rules : Rules) (s : List ℕ) {name value : Part} {zone : Zone} → readLine rules s ≡ line.Setting name value zone
+    → (length s ≤ maxLine) × (Inside (length s) name) × (Inside (length s) value) × Zoned zone
 setting-proper rules s p = rw p at (line-proper rules s)
 
 pub entry-proper : (rules : Rules) (s : List ℕ) {when : When} {start : ℕ} → readLine rules s ≡ line.Entry when start → (length s ≤ maxLine) × (start < length s)

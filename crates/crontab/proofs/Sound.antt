@@ -8,15 +8,19 @@ use Prim.Native.Nat.{ℕ, suc, _+_, _≤_, _<_}
 use native.Mathlib.Omega.{arith}
 use lib.ListN.{length}
 use lib.Dec.{eqb, ltb}
+use lib.IntN.{ℤ}
 use borrow.Author.Tests.{ltb-true, ltb-false}
 use Rattle.crontab.specs.declared.Rules.{Rules}
 use Rattle.crontab.specs.declared.Part.{Part}
 use Rattle.crontab.specs.declared.entry.Entry.{Entry}
 use Rattle.crontab.specs.declared.line.Line.{Line}
 use Rattle.crontab.specs.declared.line.Line.the-variants as line
+use Rattle.schedule.specs.Local.{InZones}
+use Rattle.crontab.specs.Offsets.{utc, inForce}
 use Rattle.crontab.specs.Limits.{maxTable, maxLine, maxEntries}
 use Rattle.crontab.specs.Lines.{onto, linesOf, readLine}
 use Rattle.crontab.specs.Items.{Items, done, fault, setting, entry, moved, placed, afterLine, itemsFrom, itemsOf}
+use Rattle.crontab.proofs.Offsets.{force-in}
 use Rattle.crontab.proofs.Proper.{Inside, Proper, line-proper}
 
 -- ---- where lines stand
@@ -45,16 +49,17 @@ lines-placed (b ∷ s) n at h = go (eqb b 10) (lines-placed s n (at + 1) (omega 
 
 -- ---- items of n bytes, behind k entries
 
--- an entry's command is some bytes of n, on a line that isn't too long
+-- an entry's command is some bytes of n, on a line that isn't too long, and its offset is one that may be
 pub record Sound (n : ℕ) (e : Entry) : Type 0 where
   pub line : e .at ≤ e .start
   pub short : e .end ≤ e .at + maxLine
   pub some : e .start < e .end
   pub within : e .end ≤ n
+  pub zone : InZones (e .offset)
 
 abbrev pub SoundItems : ℕ → ℕ → Items → Type 0
 SoundItems n k done = Unit {0}
-SoundItems n k (fault number line column) = (1 ≤ number) × (number ≤ 20) × (line ≤ maxTable + 1) × (column ≤ maxLine + 1)
+SoundItems n k (fault number line column) = (1 ≤ number) × (number ≤ 25) × (line ≤ maxTable + 1) × (column ≤ maxLine + 1)
 SoundItems n k (setting line name value later) = (Inside n name) × (Inside n value) × SoundItems n k later
 SoundItems n k (entry e later) = (Sound n e) × (k < maxEntries) × SoundItems n (k + 1) later
 
@@ -65,28 +70,32 @@ module _ (n at size : ℕ) (h : at + size ≤ n) (short : n ≤ maxTable) where
       let b = i .within in
       record { order = omega arith; within = omega arith }
 
-  line-sound : (m k : ℕ) (x : Line) (later : ℕ → Items) → m ≤ at + 1 → Proper size x → ((j : ℕ) → SoundItems n j (later j)) → SoundItems n k (afterLine at m size k x later)
+  line-sound : (m k : ℕ) (o : ℤ) (x : Line) (later : ℕ → ℤ → Items) → m ≤ at + 1 → InZones o → Proper size x
+      → ((j : ℕ) (p : ℤ) → InZones p → SoundItems n j (later j p)) → SoundItems n k (afterLine at m size k o x later)
   unfolding afterLine
-  line-sound m k line.Ignored later i p q = q k
-  line-sound m k (line.Setting name value) later i p q = (moved-inside name (p .1), moved-inside value (p .2), q k)
-  line-sound m k (line.Refused f) later i p q = (p .from, let t = p .to in omega arith, omega arith, p .inside)
-  line-sound m k (line.Entry when start) later i p q = go (ltb k maxEntries) refl
+  line-sound m k o line.Ignored later i z p q = q k o z
+  line-sound m k o (line.Setting name value zone) later i z p q =
+      (moved-inside name (p .1), moved-inside value (p .2), q k (inForce zone o) (force-in zone o (p .3) z))
+  line-sound m k o (line.Refused f) later i z p q = (p .from, let t = p .to in omega arith, omega arith, p .inside)
+  line-sound m k o (line.Entry when start) later i z p q = go (ltb k maxEntries) refl
     where
-      go : (t : Bool) → ltb k maxEntries ≡ t → SoundItems n k (cond t (entry (placed at m size when start) (later (k + 1))) (fault 12 m 1))
-      go true e = (record { line = omega arith; short = omega (arith, p .0); some = omega (arith, p .1); within = h }, ltb-true _ _ e, q (k + 1))
+      go : (t : Bool) → ltb k maxEntries ≡ t → SoundItems n k (cond t (entry (placed at m size o when start) (later (k + 1) o)) (fault 12 m 1))
+      go true e =
+          (record { line = omega arith; short = omega (arith, p .0); some = omega (arith, p .1); within = h; zone = z }, ltb-true _ _ e, q (k + 1) o z)
       go false e = (omega arith, omega arith, omega arith, omega arith)
 
-from-sound : (rules : Rules) (n at m k : ℕ) (ls : List (List ℕ)) → n ≤ maxTable → m ≤ at + 1 → Placed n at ls → SoundItems n k (itemsFrom rules at m k ls)
+from-sound : (rules : Rules) (n at m k : ℕ) (o : ℤ) (ls : List (List ℕ)) → n ≤ maxTable → m ≤ at + 1 → InZones o → Placed n at ls
+    → SoundItems n k (itemsFrom rules at m k o ls)
 unfolding itemsFrom
-from-sound rules n at m k [] short i w = tt
-from-sound rules n at m k (l ∷ ls) short i w =
-    line-sound n at (length l) (w .0) short m k (readLine rules l) _ i (line-proper rules l)
-    (λ j. from-sound rules n (at + length l + 1) (m + 1) j ls short (omega arith) (w .1))
+from-sound rules n at m k o [] short i z w = tt
+from-sound rules n at m k o (l ∷ ls) short i z w =
+    line-sound n at (length l) (w .0) short m k o (readLine rules l) _ i z (line-proper rules l)
+    (λ j p y. from-sound rules n (at + length l + 1) (m + 1) j p ls short (omega arith) y (w .1))
 
 pub items-sound : (rules : Rules) (s : List ℕ) → SoundItems (length s) 0 (itemsOf rules s)
 unfolding itemsOf
 items-sound rules s = go (ltb maxTable (length s)) refl
   where
-    go : (t : Bool) → ltb maxTable (length s) ≡ t → SoundItems (length s) 0 (cond t (fault 1 0 0) (itemsFrom rules 0 1 0 (linesOf s)))
+    go : (t : Bool) → ltb maxTable (length s) ≡ t → SoundItems (length s) 0 (cond t (fault 1 0 0) (itemsFrom rules 0 1 0 utc (linesOf s)))
     go true e = (omega arith, omega arith, omega arith, omega arith)
-    go false e = from-sound rules (length s) 0 1 0 (linesOf s) (ltb-false maxTable (length s) e) (omega arith) (lines-placed s (length s) 0 (omega arith))
+    go false e = from-sound rules (length s) 0 1 0 utc (linesOf s) (ltb-false maxTable (length s) e) (omega arith) (omega arith) (lines-placed s (length s) 0 (omega arith))

@@ -4,8 +4,10 @@
 --   owner-inside, owner-short: where an owner's parts stand
 --   behind-time: an owner is read from the column that was judged, the one behind the time
 --   setting-inside, setting-short: where name and value stand
+--   zoned-is, setting-says: what a setting says of the offset, by its shown name and value; one that is read may stand
 --   due-told, next-told: what is said of an entry, refused or not
---   next-in-gap: a next firing that is told is at most 21,036,960 minutes ahead
+--   next-in-gap: a next firing that is told is at most 21,036,960 minutes ahead, and 720 more from before 1970 locally
+--   next-in-gap-on: no more from minute 720 on, where no offset leads before 1970
 -- Assumes nothing.
 use mathlib.Core.Path.{_≡_, refl, sym, _∙_}
 use mathlib.Core.Bool.{Bool, true, false, cond}
@@ -17,14 +19,14 @@ use native.Mathlib.Omega.{arith}
 use lib.ListN.{length, getD, set, drop, length-set, length-drop}
 use lib.Seq.{getD-set-same, getD-set-other, length-take-le}
 use lib.Dec.{eqb, leb, ltb}
-use borrow.Author.Tests.{ltb-true, ltb-false, eqb-true, eqb-false}
+use borrow.Author.Tests.{le-ltb, ltb-true, ltb-false, eqb-true, eqb-false}
 use Rattle.calendar.specs.Dates.{lastMinute}
 use Rattle.schedule.specs.declared.Schedule.{Schedule}
 use Rattle.schedule.specs.declared.Next.{Next}
 use Rattle.schedule.specs.declared.Next.the-variants as next
-use Rattle.schedule.specs.Next.{nextAfter}
+use Rattle.schedule.specs.Local.{ahead, nextAfterIn, gapIn}
 use Rattle.schedule.specs.Gap.{gap}
-use Rattle.schedule.proofs.Theorems.{next-on-calendar, next-within}
+use Rattle.schedule.proofs.Theorems.{next-on-calendar-in, next-within-in}
 use Rattle.crontab.specs.declared.Rules.{Rules}
 use Rattle.crontab.specs.declared.Part.{Part}
 use Rattle.crontab.specs.declared.Kind.{Kind}
@@ -48,6 +50,7 @@ use Rattle.crontab.specs.declared.firing.NextAnswer.{NextAnswer}
 use Rattle.crontab.specs.declared.firing.NextAnswer.the-variants.{At, Refused}
 use Rattle.crontab.specs.Limits.{maxTable, maxLine, maxEntries}
 use Rattle.crontab.specs.Lines.{linesOf}
+use Rattle.crontab.specs.Offsets.{utc}
 use Rattle.crontab.specs.Items.{Items, done, fault, setting, entry, moved, itemsFrom, itemsOf}
 use Rattle.crontab.specs.Tables.{blankEntry, noEntries, refusedTable, emptyTable, withEntry, withItems, tableOf, entryIn}
 use Rattle.crontab.specs.Settings.{refusedSetting, shown, settingFrom, settingIn}
@@ -56,12 +59,13 @@ use Rattle.crontab.proofs.Proper.{Inside}
 use Rattle.crontab.proofs.Sound.{Sound, SoundItems, items-sound}
 use Rattle.crontab.proofs.Tables.{entryFrom, table-entry}
 pub use Rattle.crontab.proofs.Owners.{behind-time}
+pub use Rattle.crontab.proofs.Zones.{zoned-is, setting-says}
 
 -- ---- a table
 
 -- A table of n bytes. Its entries are sound, and a refused one has none; a good one has no place of fault.
 pub record SoundTable (n : ℕ) (t : Table) : Type 0 where
-  pub number : t .refusal ≤ 20
+  pub number : t .refusal ≤ 25
   pub few : t .count ≤ maxEntries
   pub full : length (t .entries) ≡ maxEntries
   pub each : (i : ℕ) → i < t .count → Sound n (getD (t .entries) i blankEntry)
@@ -71,7 +75,7 @@ pub record SoundTable (n : ℕ) (t : Table) : Type 0 where
   pub column-few : t .column ≤ maxLine + 1
 
 module _ (n : ℕ) where
-  refused-sound : (number line column : ℕ) → 1 ≤ number → number ≤ 20 → line ≤ maxTable + 1 → column ≤ maxLine + 1 → SoundTable n (refusedTable number line column)
+  refused-sound : (number line column : ℕ) → 1 ≤ number → number ≤ 25 → line ≤ maxTable + 1 → column ≤ maxLine + 1 → SoundTable n (refusedTable number line column)
   unfolding refusedTable noEntries
   refused-sound number line column h k i j =
       record {
@@ -142,7 +146,7 @@ unfolding tableOf itemsOf withItems refusedTable
 table-short rules s = go (ltb maxTable (length s)) refl
   where
     go : (b : Bool) → ltb maxTable (length s) ≡ b
-        → withItems emptyTable (cond b (fault 1 0 0) (itemsFrom rules 0 1 0 (linesOf s))) .refusal ≡ 0 → length s ≤ maxTable
+        → withItems emptyTable (cond b (fault 1 0 0) (itemsFrom rules 0 1 0 utc (linesOf s))) .refusal ≡ 0 → length s ≤ maxTable
     go true e z = absurd (omega arith)
     go false e z = ltb-false maxTable (length s) e
 
@@ -280,7 +284,7 @@ unfolding settingIn itemsOf settingFrom refusedSetting
 setting-short rules s k = go (ltb maxTable (length s)) refl
   where
     go : (b : Bool) → ltb maxTable (length s) ≡ b
-        → settingFrom (refusedSetting 19) k (cond b (fault 1 0 0) (itemsFrom rules 0 1 0 (linesOf s))) .refusal ≡ 0 → length s ≤ maxTable
+        → settingFrom (refusedSetting 19) k (cond b (fault 1 0 0) (itemsFrom rules 0 1 0 utc (linesOf s))) .refusal ≡ 0 → length s ≤ maxTable
     go true e z = absurd (omega arith)
     go false e z = ltb-false maxTable (length s) e
 
@@ -316,15 +320,18 @@ next-of : (e : Entry) (m : ℕ) → NextTold (nextOf e m)
 unfolding nextOf told
 next-of e m = go (leb m lastMinute) (e .when)
   where
-    firing : (times : Schedule) (x : Next) → nextAfter times m ≡ x → NextTold (told x)
-    firing times (next.At n) p = next-on-calendar times m n p
+    o : ℕ
+    o = ahead (e .offset)
+
+    firing : (times : Schedule) (x : Next) → nextAfterIn times o m ≡ x → NextTold (told x)
+    firing times (next.At n) p = next-on-calendar-in times o m n p
     firing times next.Never p = omega arith
     firing times next.PastEnd p = omega arith
 
-    go : (b : Bool) (when : When) → NextTold (cond b (byWhen when (Refused 15) (λ s. told (nextAfter s m))) (Refused 14))
+    go : (b : Bool) (when : When) → NextTold (cond b (byWhen when (Refused 15) (λ s. told (nextAfterIn s o m))) (Refused 14))
     go false when = omega arith
     go true Reboot = omega arith
-    go true (Timed times) = firing times (nextAfter times m) refl
+    go true (Timed times) = firing times (nextAfterIn times o m) refl
 
 pub next-told : (rules : Rules) (s : List ℕ) (i m : ℕ) → NextTold (nextIn (tableOf rules s) i m)
 unfolding nextIn nextAnswer
@@ -334,7 +341,7 @@ next-told rules s i m = go (entryIn (tableOf rules s) i) (entry-told rules s i)
     go (answer.Found e) h = next-of e m
     go (answer.Refused number) h = h
 
--- ---- a next firing that is told is at most 21,036,960 minutes ahead
+-- ---- a next firing that is told is at most 21,036,960 minutes ahead, and 720 more where the minute is before 1970 locally
 
 found : (x : Next) (n : ℕ) → told x ≡ At n → x ≡ next.At n
 unfolding told
@@ -342,19 +349,36 @@ found (next.At m) n e = cc
 found next.Never n e = absurd (let z : _≡_ {A = ℕ} 0 1 = cc in omega arith)
 found next.PastEnd n e = absurd (let z : _≡_ {A = ℕ} 0 1 = cc in omega arith)
 
-entry-within : (e : Entry) (m n : ℕ) → nextOf e m ≡ At n → n ≤ m + gap
+entry-within : (e : Entry) (m n : ℕ) → nextOf e m ≡ At n → n ≤ m + gapIn (ahead (e .offset)) m
 unfolding nextOf
 entry-within e m n p = go (leb m lastMinute) (e .when) p
   where
-    go : (t : Bool) (when : When) → cond t (byWhen when (Refused 15) (λ s. told (nextAfter s m))) (Refused 14) ≡ At n → n ≤ m + gap
+    o : ℕ
+    o = ahead (e .offset)
+
+    go : (t : Bool) (when : When) → cond t (byWhen when (Refused 15) (λ s. told (nextAfterIn s o m))) (Refused 14) ≡ At n → n ≤ m + gapIn o m
     go false when p = absurd (let z : _≡_ {A = ℕ} 0 1 = cc in omega arith)
     go true Reboot p = absurd (let z : _≡_ {A = ℕ} 0 1 = cc in omega arith)
-    go true (Timed times) p = next-within times m n (found (nextAfter times m) n p)
+    go true (Timed times) p = next-within-in times o m n (found (nextAfterIn times o m) n p)
 
-pub next-in-gap : (t : Table) (i m n : ℕ) → nextIn t i m ≡ At n → n ≤ m + gap
+-- the gap from a minute on, for an entry that is found
+abbrev pub gapOf : EntryAnswer → ℕ → ℕ
+gapOf (answer.Found e) m = gapIn (ahead (e .offset)) m
+gapOf (answer.Refused number) m = gap
+
+pub next-in-gap : (t : Table) (i m n : ℕ) → nextIn t i m ≡ At n → n ≤ m + gapOf (entryIn t i) m
 unfolding nextIn nextAnswer
 next-in-gap t i m n p = go (entryIn t i) p
   where
-    go : (a : EntryAnswer) → nextAnswer a m ≡ At n → n ≤ m + gap
+    go : (a : EntryAnswer) → nextAnswer a m ≡ At n → n ≤ m + gapOf a m
     go (answer.Found e) p = entry-within e m n p
     go (answer.Refused number) p = absurd (let z : _≡_ {A = ℕ} 0 1 = cc in omega arith)
+
+pub next-in-gap-on : (t : Table) (i m n : ℕ) → 720 ≤ m → nextIn t i m ≡ At n → n ≤ m + gap
+next-in-gap-on t i m n h p = go (entryIn t i) (next-in-gap t i m n p)
+  where
+    go : (a : EntryAnswer) → n ≤ m + gapOf a m → n ≤ m + gap
+    go (answer.Found e) k =
+        let j : n ≤ m + (gap + 0) = rw (le-ltb (m + ahead (e .offset)) 720 (omega arith)) at k in
+        omega arith
+    go (answer.Refused number) k = k

@@ -99,6 +99,9 @@ module _ {rules : Rules} {s : List ℕ} {c : Cursor} {r : Step} (step : StepIs r
     unfolding given settingFrom
     setting-refused is = rw (left is)
 
+  pub entry-under : {e : Entry} → r .item ≡ item.Entry e → e .offset ≡ c .offset
+  entry-under is = rw is at (step .under)
+
   -- the entries' array has a place for one more
   pub entry-room : {e : Entry} → r .item ≡ item.Entry e → c .count < maxEntries
   unfolding counted

@@ -1,5 +1,5 @@
 -- Paper 01, "Setting": name, optional blanks, `=`, optional blanks, value. Any other line of this kind is refused at its first byte
--- that isn't blank.
+-- that isn't blank. Ticket 2026-09: one of the name `CRON_TZ` whose value is no offset is refused where its value starts.
 -- Assumes nothing.
 use Prim.Native.Nat.{ℕ, _+_}
 use mathlib.Core.Bool.{cond}
@@ -12,9 +12,14 @@ use Rattle.crontab.specs.declared.assignment.Text.{Text}
 use Rattle.crontab.specs.declared.assignment.Text.the-variants.{Found, Malformed}
 use Rattle.crontab.specs.declared.line.Line.{Line}
 use Rattle.crontab.specs.declared.line.Line.the-variants.{Setting, Refused}
-use Rattle.crontab.specs.Refusals.{badSetting}
+use Rattle.crontab.specs.declared.offset.Zone.the-variants.{Same, Offset}
+use Rattle.crontab.specs.declared.offset.OffsetAnswer.{OffsetAnswer}
+use Rattle.crontab.specs.declared.offset.OffsetAnswer.the-variants as offset
+use Rattle.crontab.specs.Refusals.{badSetting, badOffset}
 use Rattle.bytes.specs.Classes.{equalsSign, isQuote}
-use Rattle.bytes.specs.Runs.{skipped, trimmed}
+use Rattle.bytes.specs.Runs.{skipped, trimmed, between}
+use Rattle.crontab.specs.Words.{same}
+use Rattle.crontab.specs.Offsets.{zoneName, readOffset}
 
 -- from the quote at a place to the next quote of its kind
 unfoldable pub quotedAt : List ℕ → ℕ → Text
@@ -46,16 +51,29 @@ valueAt s at =
 
 -- ---- the setting whose name starts at a place
 
-unfoldable pub afterEquals : ℕ → Part → Text → Line
-afterEquals at name Malformed = Refused (record { number = badSetting; column = at + 1 })
-afterEquals at name (Found value next) = Setting name value
+-- 25: at the first byte after `=` and blanks, or one past the line
+unfoldable pub afterOffset : ℕ → Part → Part → OffsetAnswer → Line
+afterOffset at name value offset.Malformed = Refused (record { number = badOffset; column = at + 1 })
+afterOffset at name value (offset.Minutes minutes) = Setting name value (Offset minutes)
+
+unfoldable pub withOffset : List ℕ → ℕ → Part → Part → Line
+withOffset s at name value = afterOffset at name value (readOffset (between s (value .start) (value .end)))
+
+-- the setting whose value starts at a place
+unfoldable pub zoned : List ℕ → ℕ → Part → Part → Line
+zoned s at name value = cond (same (between s (name .start) (name .end)) zoneName) (withOffset s at name value) (Setting name value Same)
+
+unfoldable pub afterEquals : List ℕ → ℕ → ℕ → Part → Text → Line
+afterEquals s at start name Malformed = Refused (record { number = badSetting; column = at + 1 })
+afterEquals s at start name (Found value next) = zoned s start name value
 
 unfoldable pub afterName : List ℕ → ℕ → Text → Line
 afterName s at Malformed = Refused (record { number = badSetting; column = at + 1 })
 afterName s at (Found name next) =
     let equals = skipped Blank s next in
+    let start = skipped Blank s (equals + 1) in
     cond (eqb (getD s equals 0) equalsSign)
-    (afterEquals at name (valueAt s (skipped Blank s (equals + 1))))
+    (afterEquals s at start name (valueAt s start))
     (Refused (record { number = badSetting; column = at + 1 }))
 
 unfoldable pub settingAt : List ℕ → ℕ → Line

@@ -3,7 +3,9 @@
 use Rattle.bytes.specs.Classes.{isAccount}
 use Rattle.bytes.specs.Runs.{skipped, trimmed, between}
 use Rattle.field.specs.Computing as field
-use Rattle.crontab.specs.Assignments.{quotedAt, nonEmpty, nameAt, closed, valueAt, afterEquals, afterName, settingAt}
+use Rattle.schedule.specs.Computing.{firing}
+use Rattle.crontab.specs.Offsets.{isFormed, twoDigits, hoursOf, restOf, minutesOf, isBehind, furthest, isOffset, signed, offsetOf, readOffset, zoneOf, mayStand, inForce}
+use Rattle.crontab.specs.Assignments.{quotedAt, nonEmpty, nameAt, closed, valueAt, afterOffset, withOffset, zoned, afterEquals, afterName, settingAt}
 use Rattle.crontab.specs.Times.{answered, fieldAt, after, fieldsAt}
 use Rattle.crontab.specs.Words.{same, meanings, known, wordFor, chosen, wordIn, wordOf, afterWord, wordAt}
 use Rattle.crontab.specs.Users.{accountAt, accountAfter, andThen, ended, columnAt}
@@ -13,11 +15,18 @@ use Rattle.crontab.specs.Items.{afterLine, itemsFrom, itemsOf}
 use Rattle.crontab.specs.Tables.{noEntries, refusedTable, emptyTable, withEntry, withItems, tableOf, entryIn, commandIn}
 use Rattle.crontab.specs.Owners.{namedOwner, behind, timeRuns, lineOwner, shifted, ownerFrom, ownerOf, ownerAnswer}
 use Rattle.crontab.specs.Settings.{refusedSetting, settingFrom, settingIn}
+use Rattle.crontab.specs.Firings.{isBoot, firesOn, firesAt, dueOf, dueAnswer, dueIn}
 
 unfoldable pub reading : Unit {0}
 unfolding field.reading isAccount skipped trimmed between quotedAt nonEmpty nameAt closed valueAt afterEquals afterName settingAt answered
     fieldAt after fieldsAt same meanings known wordFor chosen wordIn wordOf afterWord wordAt accountAt accountAfter andThen ended columnAt
     timeAt withCommand afterOwner withUser afterTime entryAt onto linesOf startsEntry contentFrom contentOf readLine afterLine itemsFrom
     itemsOf noEntries refusedTable emptyTable withEntry withItems tableOf entryIn commandIn refusedSetting settingFrom settingIn
+    isFormed twoDigits hoursOf restOf minutesOf isBehind furthest isOffset signed offsetOf readOffset zoneOf mayStand inForce afterOffset withOffset zoned
     namedOwner behind timeRuns lineOwner shifted ownerFrom ownerOf ownerAnswer
 reading = tt
+
+-- and all that an entry is due by
+unfoldable pub zoning : Unit {0}
+unfolding reading firing isBoot firesOn firesAt dueOf dueAnswer dueIn
+zoning = tt

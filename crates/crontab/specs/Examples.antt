@@ -5,8 +5,10 @@ use mathlib.Core.Path.{refl}
 use mathlib.Core.Bool.{Bool, true, false}
 use mathlib.Core.List.{List, [], _∷_, _++_}
 use lib.ListN.{replicate}
+use lib.IntN.{ℤ, pos, negsuc}
 use Rattle.bytes.specs.Texts.{text}
 use Rattle.bytes.specs.Rows.{Hold}
+use Rattle.calendar.specs.Dates.{lastMinute}
 use Rattle.bytes.specs.Sets.{setOf, upTo}
 use Rattle.crontab.specs.declared.Part.{Part}
 use Rattle.crontab.specs.declared.Rules.{Rules}
@@ -15,16 +17,26 @@ use Rattle.crontab.specs.declared.time.When.{When}
 use Rattle.crontab.specs.declared.time.When.the-variants.{Reboot, Timed}
 use Rattle.crontab.specs.declared.line.Line.{Line}
 use Rattle.crontab.specs.declared.line.Line.the-variants.{Ignored, Setting, Entry, Refused}
+use Rattle.crontab.specs.declared.offset.Zone.the-variants.{Same, Offset}
+use Rattle.crontab.specs.declared.firing.DueAnswer.{DueAnswer}
+use Rattle.crontab.specs.declared.firing.DueAnswer.the-variants.{Yes, No}
+use Rattle.crontab.specs.declared.firing.DueAnswer.the-variants as due
 use Rattle.crontab.specs.declared.table.EntryAnswer.{EntryAnswer}
 use Rattle.crontab.specs.declared.table.EntryAnswer.the-variants as answer
 use Rattle.crontab.specs.Limits.{maxTable, maxLine, maxEntries, maxAccount}
 use Rattle.crontab.specs.Users.{absent}
+use Rattle.crontab.specs.Offsets.{utc}
 use Rattle.crontab.specs.Owners.{ownerIn}
 use Rattle.crontab.specs.Lines.{readLine}
 use Rattle.crontab.specs.Items.{itemsOf}
 use Rattle.crontab.specs.Tables.{tableOf, entryIn, commandIn}
 use Rattle.crontab.specs.Settings.{settingIn, partBytes}
-use Rattle.crontab.specs.Computing.{reading}
+use Rattle.schedule.specs.Next.{canFire}
+use Rattle.schedule.specs.Local.{firingFromIn, firingAfterIn, nextAfterIn}
+use Rattle.crontab.specs.declared.firing.NextAnswer.{NextAnswer}
+use Rattle.crontab.specs.declared.firing.NextAnswer.the-variants as next
+use Rattle.crontab.specs.Firings.{dueIn, told, nextOf, nextAnswer, nextIn}
+use Rattle.crontab.specs.Computing.{reading, zoning}
 
 -- ---- lines of a user's table
 
@@ -77,7 +89,11 @@ refused number column = Refused (record { number = number; column = column })
 
 -- name and value from a place to before another
 abbrev setting : ℕ → ℕ → ℕ → ℕ → Line
-setting n m v w = Setting (record { start = n; end = m }) (record { start = v; end = w })
+setting n m v w = Setting (record { start = n; end = m }) (record { start = v; end = w }) Same
+
+-- one of the offset, in minutes
+abbrev zone : ℕ → ℕ → ℕ → ℕ → ℤ → Line
+zone n m v w minutes = Setting (record { start = n; end = m }) (record { start = v; end = w }) (Offset minutes)
 
 lines-read : Hold (readLine ofUser)
     -- at the first field
@@ -140,6 +156,46 @@ lines-read : Hold (readLine ofUser)
 unfolding reading
 lines-read = refl
 
+-- ticket 2026-09: settings of the offset
+offsets-read : Hold (readLine ofUser)
+    -- from the furthest behind UTC to the furthest ahead of it, and a minute further
+    ((text "CRON_TZ=+14:00", zone 0 7 8 14 (pos 840))
+    ∷ (text "CRON_TZ=+14:01", refused 25 9)
+    ∷ (text "CRON_TZ=-12:00", zone 0 7 8 14 (negsuc 719))
+    ∷ (text "CRON_TZ=-12:01", refused 25 9)
+    ∷ (text "CRON_TZ=-00:01", zone 0 7 8 14 (negsuc 0))
+    ∷ (text "CRON_TZ=-00:00", zone 0 7 8 14 (pos 0))
+    ∷ (text "CRON_TZ=+09:59", zone 0 7 8 14 (pos 599))
+    -- the value without its quotes and the last blanks; the name too may be quoted
+    ∷ (text "CRON_TZ = +01:00 ", zone 0 7 10 16 (pos 60))
+    ∷ (text "\"CRON_TZ\"= '+01:00' ", zone 1 8 12 18 (pos 60))
+    -- no offset: at the first byte after `=` and blanks, which may be a quote, or one past the line
+    ∷ (text "CRON_TZ=+1:00", refused 25 9)
+    ∷ (text "CRON_TZ=01:00", refused 25 9)
+    ∷ (text "CRON_TZ= +01:60", refused 25 10)
+    ∷ (text "CRON_TZ=+01:00x", refused 25 9)
+    ∷ (text "CRON_TZ=+01.00", refused 25 9)
+    ∷ (text "CRON_TZ=+0a:00", refused 25 9)
+    ∷ (text "CRON_TZ=+a1:00", refused 25 9)
+    ∷ (text "CRON_TZ=+00:/9", refused 25 9)
+    ∷ (text "CRON_TZ=+00:0:", refused 25 9)
+    ∷ (text "CRON_TZ=*01:00", refused 25 9)
+    ∷ (text "CRON_TZ=UTC", refused 25 9)
+    ∷ (text "CRON_TZ = \"+01:00 \"", refused 25 11)
+    ∷ (text "CRON_TZ=''", refused 25 9)
+    ∷ (text "CRON_TZ= ", refused 25 10)
+    ∷ (text " CRON_TZ=", refused 25 10)
+    -- a bad setting comes first
+    ∷ (text " CRON_TZ=\"x", refused 11 2)
+    -- other names
+    ∷ (text "cron_tz=x", setting 0 7 8 9)
+    ∷ (text "CRON_TZX=x", setting 0 8 9 10)
+    ∷ (text "CRON_T=x", setting 0 6 7 8)
+    ∷ (text "' CRON_TZ'=x", setting 1 9 11 12)
+    ∷ [])
+unfolding reading
+offsets-read = refl
+
 -- ticket 2026-04: lines of a system table
 system-lines-read : Hold (readLine ofSystem)
     -- the command stands behind the user
@@ -169,6 +225,8 @@ system-lines-read : Hold (readLine ofSystem)
     ∷ (text "@reboot a:" ++ replicate (maxAccount + 1) 97 ++ text " x", refused 20 9)
     -- settings and comments as in a user's
     ∷ (text "A=b", setting 0 1 2 3)
+    ∷ (text "CRON_TZ=-01:30", zone 0 7 8 14 (negsuc 89))
+    ∷ (text "CRON_TZ=1", refused 25 9)
     ∷ (text "#", Ignored)
     ∷ [])
 unfolding reading
@@ -213,12 +271,25 @@ abbrev found : ℕ → EntryAnswer × List ℕ
 found i = let e = entryIn (tableOf ofUser three) i in (e, commandIn three e)
 
 entries-found : Hold found
-    ((0, (answer.Found (record { when = Reboot; line = 2; at = 4; start = 13; end = 17 }), text "x y "))
-    ∷ (1, (answer.Found (record { when = hourly; line = 3; at = 18; start = 28; end = 29 }), text "z"))
+    ((0, (answer.Found (record { when = Reboot; line = 2; at = 4; start = 13; end = 17; offset = utc }), text "x y "))
+    ∷ (1, (answer.Found (record { when = hourly; line = 3; at = 18; start = 28; end = 29; offset = utc }), text "z"))
     ∷ (2, (answer.Refused 13, []))
     ∷ [])
 unfolding reading
 entries-found = refl
+
+-- ticket 2026-09: an entry is under the last offset before it; before the first, and after another setting, none changes
+abbrev zones : List ℕ
+zones = text "@reboot a\nCRON_TZ=-03:30\n@reboot b\nA=+01:00\n@reboot c\n'CRON_TZ'='+05:45'\n#\n\n@reboot d\n@reboot e\nCRON_TZ=-00:00\n@reboot f"
+
+abbrev underOf : EntryAnswer → ℤ
+underOf (answer.Found e) = e .offset
+underOf (answer.Refused number) = pos number
+
+under-offset : Hold (λ i. underOf (entryIn (tableOf ofUser zones) i))
+    ((0, pos 0) ∷ (1, negsuc 209) ∷ (2, negsuc 209) ∷ (3, pos 345) ∷ (4, pos 345) ∷ (5, pos 0) ∷ (6, pos 13) ∷ [])
+unfolding reading
+under-offset = refl
 
 abbrev named : ℕ → ℕ × List ℕ × List ℕ
 named n = let a = settingIn (itemsOf ofUser three) n in (a .refusal, partBytes three (a .name), partBytes three (a .value))
@@ -257,3 +328,50 @@ owners-found = refl
 nobody-found : Hold (owned ofUser) ((0, (0, absent ∷ absent ∷ absent ∷ [])) ∷ (3, (13, absent ∷ absent ∷ absent ∷ [])) ∷ [])
 unfolding reading
 nobody-found = refl
+
+-- ---- ticket 2026-09: whether an entry is due, by its local minute
+
+dueAt : List ℕ → ℕ → DueAnswer
+dueAt s m = dueIn (tableOf ofUser s) 0 m
+
+-- an hour ahead, midnight is at 23:00
+due-ahead : Hold (dueAt (text "CRON_TZ=+01:00\n0 0 * * * x\n"))
+    ((1380, Yes)
+    ∷ (1440, No)
+    ∷ (0, No)
+    ∷ [])
+unfolding dueAt zoning
+due-ahead = refl
+
+-- before 1970 locally, and from there on
+due-behind : Hold (dueAt (text "CRON_TZ=-12:00\n* * * * * x\n")) ((0, No) ∷ (719, No) ∷ (720, Yes) ∷ [])
+unfolding dueAt zoning
+due-behind = refl
+
+-- up to the local calendar's end, after it, and after that of UTC, which comes later in the one and earlier in the other
+due-last : Hold (dueAt (text "CRON_TZ=+14:00\n* * * * * x\n"))
+    ((lastMinute, No)
+    ∷ (4223370839, Yes)
+    ∷ (4223370840, No)
+    ∷ (lastMinute + 1, due.Refused 14)
+    ∷ [])
+unfolding dueAt zoning
+due-last = refl
+
+-- a minute off the calendar is refused, though it is on it locally
+due-off : Hold (dueAt (text "CRON_TZ=-12:00\n* * * * * x\n")) ((lastMinute, Yes) ∷ (lastMinute + 1, due.Refused 14) ∷ [])
+unfolding dueAt zoning
+due-off = refl
+
+nextAt : List ℕ → ℕ → NextAnswer
+nextAt s m = nextIn (tableOf ofUser s) 0 m
+
+-- a quarter of an hour ahead, the hour is at 45, and told in UTC
+next-ahead : Hold (nextAt (text "CRON_TZ=+00:15\n0 * * * * x\n")) ((0, next.At 45) ∷ (45, next.At 105) ∷ (4223371679, next.Refused 17) ∷ [])
+unfolding nextAt zoning told nextOf nextAnswer nextIn nextAfterIn firingAfterIn firingFromIn canFire
+next-ahead = refl
+
+-- before 1970 locally it is the first minute on the calendar there
+next-behind : Hold (nextAt (text "CRON_TZ=-03:30\n* * * * * x\n")) ((0, next.At 210) ∷ (209, next.At 210) ∷ (210, next.At 211) ∷ [])
+unfolding nextAt zoning told nextOf nextAnswer nextIn nextAfterIn firingAfterIn firingFromIn canFire
+next-behind = refl

@@ -1,17 +1,18 @@
 -- Paper 01, "Match" and "What comes back", for one entry of a table: whether it is a boot job, whether it is due, its next firing. The
--- order is table, 13 (`entryIn` of Tables), 14, 15, 16, 17.
+-- order is table, 13 (`entryIn` of Tables), 14, 15, 16, 17. Ticket 2026-09: an entry matches by its local minute, under its offset; minutes
+-- that are asked and told are UTC.
 -- Assumes nothing.
 use Prim.Native.Nat.{ℕ}
 use mathlib.Core.Bool.{Bool, true, false, cond}
 use lib.Dec.{leb}
-use Rattle.calendar.specs.declared.Date.{Date}
 use Rattle.calendar.specs.Refusals.{notOnCalendar}
 use Rattle.calendar.specs.Dates.{lastMinute}
 use Rattle.schedule.specs.declared.Schedule.{Schedule}
 use Rattle.schedule.specs.declared.Next.{Next}
 use Rattle.schedule.specs.declared.Next.the-variants as next
-use Rattle.schedule.specs.Match.{matchesDate, matches}
-use Rattle.schedule.specs.Next.{nextAfter, refusalOf}
+use Rattle.schedule.specs.declared.local.LocalDate.{LocalDate}
+use Rattle.schedule.specs.Next.{refusalOf}
+use Rattle.schedule.specs.Local.{ahead, matchesIn, matchesLocal, nextAfterIn}
 use Rattle.crontab.specs.declared.time.When.{When}
 use Rattle.crontab.specs.declared.time.When.the-variants.{Reboot, Timed}
 use Rattle.crontab.specs.declared.entry.Entry.{Entry}
@@ -35,14 +36,14 @@ byWhen (Timed s) boot timed = timed s
 unfoldable pub isBoot : Entry → Bool
 isBoot e = byWhen (e .when) true (λ s. false)
 
--- an `@reboot` entry matches no date, and no minute
-unfoldable pub firesOn : Entry → Date → Bool
-firesOn e d = byWhen (e .when) false (λ s. matchesDate s d)
+-- an `@reboot` entry matches no local date, and no minute
+unfoldable pub firesOn : Entry → LocalDate → Bool
+firesOn e d = byWhen (e .when) false (λ s. matchesLocal s d)
 
 unfoldable pub firesAt : Entry → ℕ → Bool
-firesAt e m = byWhen (e .when) false (λ s. matches s m)
+firesAt e m = byWhen (e .when) false (λ s. matchesIn s (ahead (e .offset)) m)
 
--- 14
+-- 14; where only the local minute is off the calendar, it is no
 unfoldable pub dueOf : Entry → ℕ → DueAnswer
 dueOf e m = cond (leb m lastMinute) (cond (firesAt e m) due.Yes due.No) (due.Refused notOnCalendar)
 
@@ -54,7 +55,7 @@ told next.PastEnd = Refused (refusalOf next.PastEnd)
 
 -- 14, 15
 unfoldable pub nextOf : Entry → ℕ → NextAnswer
-nextOf e m = cond (leb m lastMinute) (byWhen (e .when) (Refused atBootOnly) (λ s. told (nextAfter s m))) (Refused notOnCalendar)
+nextOf e m = cond (leb m lastMinute) (byWhen (e .when) (Refused atBootOnly) (λ s. told (nextAfterIn s (ahead (e .offset)) m))) (Refused notOnCalendar)
 
 -- ---- an entry of a table, by its number
 

@@ -6,6 +6,7 @@ use mathlib.Core.Bool.{cond}
 use mathlib.Core.List.{List, [], _∷_}
 use lib.ListN.{length}
 use lib.Dec.{ltb}
+use lib.IntN.{ℤ}
 use Rattle.crontab.specs.declared.entry.Entry.{Entry}
 use Rattle.crontab.specs.declared.Part.{Part}
 use Rattle.crontab.specs.declared.time.When.{When}
@@ -14,6 +15,7 @@ use Rattle.crontab.specs.declared.line.Line.{Line}
 use Rattle.crontab.specs.declared.line.Line.the-variants as line
 use Rattle.crontab.specs.Limits.{maxTable, maxEntries}
 use Rattle.crontab.specs.Refusals.{tableTooLong, tooManyEntries}
+use Rattle.crontab.specs.Offsets.{utc, inForce}
 use Rattle.crontab.specs.Lines.{linesOf, readLine}
 
 pub data Items : Type 0 where
@@ -29,25 +31,27 @@ pub data Items : Type 0 where
 abbrev pub moved : ℕ → Part → Part
 moved at p = record { start = at + p .start; end = at + p .end }
 
--- the entry of line n, which has so many bytes
-abbrev pub placed : ℕ → ℕ → ℕ → When → ℕ → Entry
-placed at n size when start = record { when = when; line = n; at = at; start = at + start; end = at + size }
+-- the entry of line n, which has so many bytes, under an offset
+abbrev pub placed : ℕ → ℕ → ℕ → ℤ → When → ℕ → Entry
+placed at n size offset when start = record { when = when; line = n; at = at; start = at + start; end = at + size; offset = offset }
 
 -- ---- line by line
 
--- Line n, which starts at a place and has so many bytes, behind k entries; and what the lines after it give behind so many entries.
--- 12 comes after all else on its line.
-unfoldable pub afterLine : ℕ → ℕ → ℕ → ℕ → Line → (ℕ → Items) → Items
-afterLine at n size k line.Ignored later = later k
-afterLine at n size k (line.Setting name value) later = setting n (moved at name) (moved at value) (later k)
-afterLine at n size k (line.Entry when start) later =
-    cond (ltb k maxEntries) (entry (placed at n size when start) (later (k + 1))) (fault tooManyEntries n 1)
-afterLine at n size k (line.Refused f) later = fault (f .number) n (f .column)
+-- Line n, which starts at a place and has so many bytes, behind k entries and under an offset; and what the lines after it give behind so
+-- many entries and under the offset that is in force there. 12 comes after all else on its line.
+unfoldable pub afterLine : ℕ → ℕ → ℕ → ℕ → ℤ → Line → (ℕ → ℤ → Items) → Items
+afterLine at n size k offset line.Ignored later = later k offset
+afterLine at n size k offset (line.Setting name value zone) later =
+    setting n (moved at name) (moved at value) (later k (inForce zone offset))
+afterLine at n size k offset (line.Entry when start) later =
+    cond (ltb k maxEntries) (entry (placed at n size offset when start) (later (k + 1) offset)) (fault tooManyEntries n 1)
+afterLine at n size k offset (line.Refused f) later = fault (f .number) n (f .column)
 
 -- the next line starts a newline after this one
-unfoldable pub itemsFrom : Rules → ℕ → ℕ → ℕ → List (List ℕ) → Items
-itemsFrom rules at n k [] = done
-itemsFrom rules at n k (l ∷ ls) = afterLine at n (length l) k (readLine rules l) (λ j. itemsFrom rules (at + length l + 1) (n + 1) j ls)
+unfoldable pub itemsFrom : Rules → ℕ → ℕ → ℕ → ℤ → List (List ℕ) → Items
+itemsFrom rules at n k offset [] = done
+itemsFrom rules at n k offset (l ∷ ls) =
+    afterLine at n (length l) k offset (readLine rules l) (λ j next. itemsFrom rules (at + length l + 1) (n + 1) j next ls)
 
 unfoldable pub itemsOf : Rules → List ℕ → Items
-itemsOf rules s = cond (ltb maxTable (length s)) (fault tableTooLong 0 0) (itemsFrom rules 0 1 0 (linesOf s))
+itemsOf rules s = cond (ltb maxTable (length s)) (fault tableTooLong 0 0) (itemsFrom rules 0 1 0 utc (linesOf s))

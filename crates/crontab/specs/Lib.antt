@@ -1,5 +1,6 @@
 pub mod Limits
 pub mod Refusals
+pub mod Offsets
 pub mod Assignments
 pub mod Times
 pub mod Words

@@ -42,3 +42,7 @@ noSetting = 19
 -- user column malformed
 abbrev pub badUser : ℕ
 badUser = 20
+
+-- the value of `CRON_TZ` is no offset
+abbrev pub badOffset : ℕ
+badOffset = 25

@@ -4,6 +4,8 @@ use mathlib.Core.Path.{_≡_}
 use Prim.Native.Nat.{ℕ, _+_, _≤_, _<_}
 use mathlib.Core.List.{List}
 use lib.ListN.{length, drop}
+use lib.IntN.{ℤ}
+use Rattle.schedule.specs.Local.{InZones}
 use Rattle.crontab.specs.declared.Rules.{Rules}
 use Rattle.crontab.specs.declared.item.Cursor.{Cursor}
 use Rattle.crontab.specs.declared.item.Item.{Item}
@@ -15,14 +17,19 @@ use Rattle.crontab.specs.Items.{Items, fault, setting, entry, itemsFrom}
 
 -- the items from a cursor on
 unfoldable pub itemsAt : Rules → List ℕ → Cursor → Items
-itemsAt rules s c = itemsFrom rules (c .at) (c .line) (c .count) (linesOf (drop (c .at) s))
+itemsAt rules s c = itemsFrom rules (c .at) (c .line) (c .count) (c .offset) (linesOf (drop (c .at) s))
 
--- a cursor of a table: as many lines and entries as there can be before it
+-- a cursor of a table: as many lines and entries as there can be before it, and an offset that may be
 pub record Reached (s : List ℕ) (c : Cursor) : Type 0 where
   pub short : length s ≤ maxTable
   pub place : c .at ≤ length s + 1
   pub lines : c .line ≤ c .at + 1
   pub few : c .count ≤ maxEntries
+  pub zone : InZones (c .offset)
+
+-- the cursor behind a line that ends at a place
+abbrev pub behind : Cursor → ℕ → ℕ → ℤ → Cursor
+behind c end count offset = record { at = end + 1; line = c .line + 1; count = count; offset = offset }
 
 -- what line n is, and what the lines after it give
 unfoldable pub given : ℕ → Item → Items → Items
@@ -37,9 +44,17 @@ counted (item.Setting name value) k = k
 counted (item.Entry e) k = k + 1
 counted (item.Refused f) k = k
 
+-- an entry is under the offset of its cursor
+abbrev pub Under : ℤ → Item → Type 0
+Under offset item.Nothing = Unit {0}
+Under offset (item.Setting name value) = Unit {0}
+Under offset (item.Entry e) = e .offset ≡ offset
+Under offset (item.Refused f) = Unit {0}
+
 -- a step from a cursor: the line there, and the cursor behind it
 pub record StepIs (rules : Rules) (s : List ℕ) (c : Cursor) (r : Step) : Type 0 where
   pub gives : itemsAt rules s c ≡ given (c .line) (r .item) (itemsAt rules s (r .next))
   pub onward : c .at < r .next .at
   pub reached : Reached s (r .next)
   pub counts : r .next .count ≡ counted (r .item) (c .count)
+  pub under : Under (c .offset) (r .item)

@@ -16,11 +16,12 @@ use Rattle.crontab.specs.declared.table.EntryAnswer.{EntryAnswer}
 use Rattle.crontab.specs.declared.table.EntryAnswer.the-variants.{Found, Refused}
 use Rattle.crontab.specs.Limits.{maxEntries}
 use Rattle.crontab.specs.Refusals.{noSuchEntry}
+use Rattle.crontab.specs.Offsets.{utc}
 use Rattle.crontab.specs.Items.{Items, done, fault, setting, entry, itemsOf}
 
 -- what stands in the place of an entry that isn't there
 abbrev pub blankEntry : Entry
-blankEntry = record { when = Reboot; line = 0; at = 0; start = 0; end = 0 }
+blankEntry = record { when = Reboot; line = 0; at = 0; start = 0; end = 0; offset = utc }
 
 unfoldable pub noEntries : List Entry
 noEntries = replicate maxEntries blankEntry

@@ -2,11 +2,15 @@
 ghost use mathlib.Core.Path.{_≡_};
 ghost use Prim.Native.Nat.{_≤_, _<_};
 ghost use lib.ListN.{length};
-ghost use Rattle.crontab.specs.Assignments.{quotedAt, nonEmpty, nameAt, closed, valueAt, settingAt};
+ghost use Rattle.crontab.specs.Assignments.{quotedAt, nonEmpty, nameAt, closed, valueAt, withOffset, zoned, settingAt};
+use crate::BAD_OFFSET;
 use crate::BAD_SETTING;
 use crate::Part;
 use crate::line::Fault;
 use crate::line::Line;
+use crate::offset;
+use crate::offset::OffsetAnswer;
+use crate::offset::Zone;
 use bytes::class::Class;
 use bytes::class::is_quote;
 use bytes::run::byte_at;
@@ -92,6 +96,43 @@ fn value_at(s: &[u8], at: usize) -> Text
     }
 }
 
+// A setting of the offset, whose value starts at a place, without or with its quote.
+fn with_offset(s: &[u8], at: usize, name: Part, value: Part) -> Line
+    requires { ⌜ (at ≤ length (now s)) × (value .start ≤ value .end) × (value .end ≤ length (now s)) ⌝ }
+    ensures { λ r. ⌜ r ≡ withOffset (now (s .entry)) at name value ⌝ }
+{
+    let start = value.start;
+    let end = value.end;
+    match offset::read(&s[start..end]) {
+        OffsetAnswer::Minutes(minutes) => Line::Setting {
+            name,
+            value,
+            zone: Zone::Offset(minutes),
+        },
+        OffsetAnswer::Malformed => Line::Refused(Fault {
+            number: BAD_OFFSET,
+            column: at + 1,
+        }),
+    }
+}
+
+// A setting whose value starts at a place: one of the name `CRON_TZ` is of the offset.
+fn zoned(s: &[u8], at: usize, name: Part, value: Part) -> Line
+    requires { ⌜ (at ≤ length (now s)) × (name .start ≤ name .end) × (name .end ≤ length (now s)) × (value .start ≤ value .end) × (value .end ≤ length (now s)) ⌝ }
+    ensures { λ r. ⌜ r ≡ zoned (now (s .entry)) at name value ⌝ }
+{
+    let start = name.start;
+    let end = name.end;
+    if offset::is_zone(&s[start..end]) {
+        return with_offset(s, at, name, value);
+    }
+    Line::Setting {
+        name,
+        value,
+        zone: Zone::Same,
+    }
+}
+
 // The setting whose name starts at a place.
 pub(crate) fn read(s: &[u8], at: usize) -> Line
     requires { ⌜ at < length (now s) ⌝ }
@@ -116,5 +157,5 @@ pub(crate) fn read(s: &[u8], at: usize) -> Line
     else {
         return refused;
     };
-    Line::Setting { name, value }
+    zoned(s, start, name, value)
 }

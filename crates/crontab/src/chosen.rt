@@ -2,8 +2,9 @@
 ghost use mathlib.Core.Path.{_≡_};
 ghost use mathlib.Core.Bool.{cond};
 ghost use Rattle.bytes.specs.Marks.{mark};
+ghost use Rattle.schedule.specs.Local.{InZones};
 ghost use Rattle.crontab.specs.Tables.{tableOf};
-ghost use Rattle.crontab.specs.Choices.{isChosen, refusedChoice, chosenIn};
+ghost use Rattle.crontab.specs.Choices.{isChosen, dateUnder, refusedChoice, chosenIn};
 use crate::MAX_ENTRIES;
 use crate::MAX_TABLE;
 use crate::Rules;
@@ -13,14 +14,16 @@ use crate::firing;
 use crate::item;
 use crate::item::Item;
 use bytes::mark;
-use calendar::Date;
+use calendar::LAST_MINUTE;
+use schedule::local::LocalDate;
+use schedule::local::local_date;
 
 // Which entries are asked for.
 pub enum Which {
     // The boot jobs.
     AtBoot,
-    // Those that match a date.
-    On(Date),
+    // Those that match a minute; none if it is off the calendar.
+    At(u64),
 }
 
 const WORDS: usize = MAX_ENTRIES / 64;
@@ -32,12 +35,39 @@ pub struct Chosen {
     pub marks: [u64; WORDS],
 }
 
-fn is_chosen(entry: Entry, which: Which) -> bool
+// The local date of the minute that is asked for, under an offset.
+fn date_under(which: Which, offset: i32) -> LocalDate
+    requires { ⌜ InZones offset ⌝ }
+    ensures { λ r. ⌜ r ≡ dateUnder which offset ⌝ }
+{
+    let Which::At(minute) = which else {
+        return LocalDate::Off;
+    };
+    if LAST_MINUTE < minute {
+        return LocalDate::Off;
+    }
+    local_date(offset, minute)
+}
+
+// The same under the next offset: it is worked out again only where that is another.
+fn moved_on(which: Which, date: LocalDate, offset: i32, next: i32) -> LocalDate
+    requires { ⌜ InZones offset × InZones next × (date ≡ dateUnder which offset) ⌝ }
+    ensures { λ r. ⌜ r ≡ dateUnder which next ⌝ }
+{
+    if offset == next {
+        return date;
+    }
+    date_under(which, next)
+}
+
+// Whether an entry is chosen, by the local date under its offset.
+fn is_chosen(entry: Entry, which: Which, date: LocalDate) -> bool
+    requires { ⌜ date ≡ dateUnder which (entry .offset) ⌝ }
     ensures { λ r. ⌜ r ≡ isChosen which entry ⌝ }
 {
     match which {
         Which::AtBoot => firing::is_boot(entry),
-        Which::On(date) => firing::fires_on(entry, date),
+        Which::At(_) => firing::fires_on(entry, date),
     }
 }
 
@@ -69,14 +99,18 @@ pub fn read(s: &[u8], rules: Rules, which: Which) -> Chosen
     }
     let mut marks = [0u64; WORDS];
     let mut c = item::START;
+    let mut date = date_under(which, 0);
     while c.at < s.len() {
         let count = c.count;
+        let under = date;
+        let offset = c.offset;
         let step = item::advance(s, rules, c);
         c = step.next;
+        date = moved_on(which, under, offset, c.offset);
         let item = step.item;
         match item {
             Item::Refused(fault) => return refused(fault.number),
-            Item::Entry(entry) => mark_if(&mut marks, count, is_chosen(entry, which)),
+            Item::Entry(entry) => mark_if(&mut marks, count, is_chosen(entry, which, under)),
             Item::Setting { name: _, value: _ } => {}
             Item::Nothing => {}
         }

@@ -20,13 +20,15 @@ use bytes::class::Class;
 use bytes::run::byte_at;
 use bytes::run::skip;
 
-// An entry: the number of its line, where that line starts, and the bytes of its command, from `start` to before `end`.
+// An entry: the number of its line, where that line starts, the bytes of its command, from `start` to before `end`, and the offset from UTC
+// that its time is under.
 pub struct Entry {
     pub when: When,
     pub line: u16,
     pub at: u16,
     pub start: u16,
     pub end: u16,
+    pub offset: i32,
 }
 
 // The time that starts at a place.

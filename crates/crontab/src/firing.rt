@@ -1,5 +1,6 @@
 // Whether an entry is due at a minute, and when it fires next.
 ghost use mathlib.Core.Path.{_≡_};
+ghost use Rattle.schedule.specs.Local.{InZones};
 ghost use Rattle.crontab.specs.Tables.{tableOf};
 ghost use Rattle.crontab.specs.Firings.{isBoot, firesOn, dueOf, told, nextOf, dueIn, nextIn};
 use crate::AT_BOOT_ONLY;
@@ -8,10 +9,11 @@ use crate::entry::Entry;
 use crate::table::EntryAnswer;
 use crate::table::find_entry;
 use crate::time::When;
-use calendar::Date;
 use calendar::LAST_MINUTE;
 use calendar::NOT_ON_CALENDAR;
 use schedule::Next;
+use schedule::local;
+use schedule::local::LocalDate;
 
 // Whether an entry is due at a minute.
 pub enum DueAnswer {
@@ -38,25 +40,26 @@ pub fn is_boot(entry: Entry) -> bool
     }
 }
 
-// Whether an entry matches a date.
-pub fn fires_on(entry: Entry, date: Date) -> bool
+// Whether an entry matches a local date.
+pub fn fires_on(entry: Entry, date: LocalDate) -> bool
     ensures { λ r. ⌜ r ≡ firesOn entry date ⌝ }
 {
     let when = entry.when;
     match when {
         When::Reboot => false,
-        When::Timed(times) => schedule::matches_date(times, date),
+        When::Timed(times) => local::matches_local(times, date),
     }
 }
 
 // Whether an entry is due at a minute.
-pub fn due_at(entry: Entry, minute: u64) -> DueAnswer
+fn due_at(entry: Entry, minute: u64) -> DueAnswer
+    requires { ⌜ InZones (entry .offset) ⌝ }
     ensures { λ r. ⌜ r ≡ dueOf entry minute ⌝ }
 {
     if LAST_MINUTE < minute {
         return DueAnswer::Refused(NOT_ON_CALENDAR);
     }
-    let date = calendar::date_of(minute).date;
+    let date = local::local_date(entry.offset, minute);
     if fires_on(entry, date) {
         return DueAnswer::Yes;
     }
@@ -74,7 +77,8 @@ fn told(next: Next) -> NextAnswer
 }
 
 // When an entry fires next, strictly after a minute.
-pub fn next_after(entry: Entry, minute: u64) -> NextAnswer
+fn next_after(entry: Entry, minute: u64) -> NextAnswer
+    requires { ⌜ InZones (entry .offset) ⌝ }
     ensures { λ r. ⌜ r ≡ nextOf entry minute ⌝ }
 {
     if LAST_MINUTE < minute {
@@ -83,7 +87,7 @@ pub fn next_after(entry: Entry, minute: u64) -> NextAnswer
     let when = entry.when;
     match when {
         When::Reboot => NextAnswer::Refused(AT_BOOT_ONLY),
-        When::Timed(times) => told(schedule::next_firing(times, minute)),
+        When::Timed(times) => told(local::next_firing_in(times, entry.offset, minute)),
     }
 }
 

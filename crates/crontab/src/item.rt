@@ -1,10 +1,10 @@
 // A walk over the lines of a table, one step for each.
 ghost use mathlib.Core.Path.{_≡_};
-ghost use Prim.Native.Nat.{_≤_, _<_};
+ghost use Prim.Native.Nat.{_+_, _≤_, _<_};
 ghost use lib.ListN.{length};
 ghost use Rattle.crontab.specs.Limits.{maxTable, maxLine};
 ghost use Rattle.crontab.specs.Items.{moved, placed};
-ghost use Rattle.crontab.specs.Steps.{Reached, StepIs};
+ghost use Rattle.crontab.specs.Steps.{behind, Reached, StepIs};
 use crate::MAX_ENTRIES;
 use crate::Part;
 use crate::Rules;
@@ -13,21 +13,24 @@ use crate::entry::Entry;
 use crate::line;
 use crate::line::Fault;
 use crate::line::Line;
+use crate::offset::in_force;
 use crate::time::When;
 use bytes::class::Class;
 use bytes::run::skip;
 
-// Where a line starts, its number from 1, and how many entries stand before it.
+// Where a line starts, its number from 1, how many entries stand before it, and the offset from UTC that is in force.
 pub struct Cursor {
     pub at: usize,
     pub line: usize,
     pub count: usize,
+    pub offset: i32,
 }
 
 pub const START: Cursor = Cursor {
     at: 0,
     line: 1,
     count: 0,
+    offset: 0,
 };
 
 // What a line gives to its table. Places are the table's.
@@ -58,7 +61,7 @@ fn moved(part: Part, at: usize) -> Part
 // The entry of a line that starts at a place of the table and has so many bytes.
 fn placed(c: Cursor, size: usize, when: When, start: usize) -> Entry
     requires { ⌜ (c .at ≤ maxTable) × (c .line ≤ maxTable) × (start ≤ maxLine) × (size ≤ maxLine) ⌝ }
-    ensures { λ r. ⌜ r ≡ placed (c .at) (c .line) size when start ⌝ }
+    ensures { λ r. ⌜ r ≡ placed (c .at) (c .line) size (c .offset) when start ⌝ }
 {
     Entry {
         when,
@@ -66,6 +69,20 @@ fn placed(c: Cursor, size: usize, when: When, start: usize) -> Entry
         at: c.at as u16,
         start: (c.at + start) as u16,
         end: (c.at + size) as u16,
+        offset: c.offset,
+    }
+}
+
+// The cursor behind a line that ends at a place.
+fn behind(c: Cursor, end: usize, count: usize, offset: i32) -> Cursor
+    requires { ⌜ (end ≤ maxTable) × (c .line ≤ maxTable + 2) ⌝ }
+    ensures { λ r. ⌜ r ≡ behind c end count offset ⌝ }
+{
+    Cursor {
+        at: end + 1,
+        line: c.line + 1,
+        count,
+        offset,
     }
 }
 
@@ -77,22 +94,18 @@ pub fn advance(s: &[u8], rules: Rules, c: Cursor) -> Step
     let at = c.at;
     let stop = skip(s, at, Class::InLine);
     let end = skip(s, stop, Class::Not(b'\n'));
-    let next = Cursor {
-        at: end + 1,
-        line: c.line + 1,
-        count: c.count,
-    };
+    let next = behind(c, end, c.count, c.offset);
     match line::judge(&s[at..end], rules, stop - at) {
         Line::Ignored => Step {
             item: Item::Nothing,
             next,
         },
-        Line::Setting { name, value } => Step {
+        Line::Setting { name, value, zone } => Step {
             item: Item::Setting {
                 name: moved(name, at),
                 value: moved(value, at),
             },
-            next,
+            next: behind(c, end, c.count, in_force(zone, c.offset)),
         },
         Line::Entry { when, start } => {
             if c.count == MAX_ENTRIES {
@@ -107,11 +120,7 @@ pub fn advance(s: &[u8], rules: Rules, c: Cursor) -> Step
             }
             Step {
                 item: Item::Entry(placed(c, end - at, when, start)),
-                next: Cursor {
-                    at: end + 1,
-                    line: c.line + 1,
-                    count: c.count + 1,
-                },
+                next: behind(c, end, c.count + 1, c.offset),
             }
         }
         Line::Refused(fault) => Step {

@@ -5,6 +5,7 @@ pub mod entry;
 pub mod firing;
 pub mod item;
 pub mod line;
+pub mod offset;
 pub mod owner;
 pub mod setting;
 pub mod table;
@@ -45,6 +46,8 @@ pub const AT_BOOT_ONLY: u8 = 15;
 pub const NO_SETTING: u8 = 19;
 
 pub const BAD_USER: u8 = 20;
+
+pub const BAD_OFFSET: u8 = 25;
 
 // The kinds of tables: those of users, and the system's, in which a user stands between the time and the command.
 pub enum Kind {

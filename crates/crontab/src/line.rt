@@ -13,6 +13,7 @@ use crate::Part;
 use crate::Rules;
 use crate::assignment;
 use crate::entry;
+use crate::offset::Zone;
 use crate::time::When;
 use bytes::class::Class;
 use bytes::run::skip;
@@ -27,7 +28,7 @@ pub struct Fault {
 pub enum Line {
     // Nothing, or a comment.
     Ignored,
-    Setting { name: Part, value: Part },
+    Setting { name: Part, value: Part, zone: Zone },
     // The command goes on to the line's end.
     Entry { when: When, start: usize },
     Refused(Fault),

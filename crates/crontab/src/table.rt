@@ -43,6 +43,7 @@ const BLANK: Entry = Entry {
     at: 0,
     start: 0,
     end: 0,
+    offset: 0,
 };
 
 fn refused(number: u8, line: usize, column: usize) -> Table

@@ -1,5 +1,6 @@
 -- The headline theorems of C's numbers.
 --   known-days: paper 01's known days
+--   local-days: next firings under an offset, around the ends of the local calendar
 --   gap-reached, february-30: the gap exactly reached, and a day that never comes
 --   told-apart: every number tells whether the call was refused
 --   refused-stays: and then no byte was changed
@@ -15,7 +16,12 @@ use Rattle.calendar.specs.Dates.{lastMinute}
 use Rattle.calendar.specs.Computing.{dating}
 use Rattle.schedule.specs.declared.Schedule.{Schedule}
 use Rattle.schedule.specs.Next.{nextAfter}
-use Rattle.schedule.specs.Examples.{leapDay, fridays, february30, mondays30, lastDay, leapSundays, schedules}
+use Rattle.schedule.specs.Local.{ahead, nextAfterIn}
+use Rattle.schedule.proofs.Theorems.{utc-next, known-days-in}
+use lib.IntN.{ℤ, pos, negsuc}
+use Rattle.crontab.specs.declared.entry.Entry.{Entry}
+use Rattle.crontab.specs.Offsets.{utc}
+use Rattle.schedule.specs.Examples.{leapDay, fridays, february30, mondays30, lastDay, leapSundays, evenings, everyMinute, schedules}
 use Rattle.schedule.proofs.KnownDays as firings
 use Rattle.field.specs.Computing as field
 use Rattle.crontab.specs.declared.time.When.the-variants.{Timed}
@@ -41,13 +47,48 @@ use Rattle.eremothyn.proofs.Apart.{split-tells, stdin-tells, form-tells
 
 -- the table's first entry is timed, and its command ends a byte behind its start
 abbrev reads : List ℕ → Schedule → ℕ → ℕ → Type 0
-reads s times start end = entryIn (tableOf (rulesOf 0) s) 0 ≡ Found (record { when = Timed times; line = 1; at = 0; start = start; end = end })
+reads s times start end = entryIn (tableOf (rulesOf 0) s) 0 ≡ Found (record { when = Timed times; line = 1; at = 0; start = start; end = end; offset = utc })
 
 -- the next firing of a table's first entry, by its schedule's
 firing : (s : List ℕ) (times : Schedule) (start end m : ℕ) → reads s times start end → m ≤ lastMinute
     → nextIn (tableOf (rulesOf 0) s) 0 m ≡ told (nextAfter times m)
 unfolding nextIn nextAnswer nextOf
-firing s times start end m e h = rw (e, le-leb m lastMinute h)
+firing s times start end m e h = rw (e, le-leb m lastMinute h, utc-next times m)
+
+-- ticket 2026-09: next firings around the ends of the local calendar, by table bytes
+zoned : (s : List ℕ) (e : Entry) (times : Schedule) (m : ℕ) → e .when ≡ Timed times → entryIn (tableOf (rulesOf 0) s) 0 ≡ Found e → m ≤ lastMinute
+    → nextIn (tableOf (rulesOf 0) s) 0 m ≡ told (nextAfterIn times (ahead (e .offset)) m)
+unfolding nextIn nextAnswer nextOf
+zoned s e times m w f h = rw (f, le-leb m lastMinute h, w)
+
+-- the second line's entry, under an offset
+abbrev second : Schedule → ℕ → ℕ → ℤ → Entry
+second times start end offset = record { when = Timed times; line = 2; at = 15; start = start; end = end; offset = offset }
+
+abbrev west : List ℕ
+west = text "CRON_TZ=-12:00\n0 18 * * * a"
+
+abbrev east : List ℕ
+east = text "CRON_TZ=+14:00\n* * * * * a"
+
+zoned-entries :
+    (entryIn (tableOf (rulesOf 0) west) 0 ≡ Found (second evenings 26 27 (negsuc 719)))
+    × (entryIn (tableOf (rulesOf 0) east) 0 ≡ Found (second everyMinute 25 26 (pos 840)))
+unfolding schedules reading
+zoned-entries = (refl, refl)
+
+pub local-days :
+    -- 18:00 at -12:00, after minute 0: 30 hours later in UTC
+    (nextNumber (nextIn (tableOf (rulesOf 0) (text "CRON_TZ=-12:00\n0 18 * * * a")) 0 0) ≡ 1800)
+    -- the last minute of the local calendar at +14:00, and 17 behind it
+    × (nextNumber (nextIn (tableOf (rulesOf 0) (text "CRON_TZ=+14:00\n* * * * * a")) 0 4223370838) ≡ 4223370839)
+    × (nextNumber (nextIn (tableOf (rulesOf 0) (text "CRON_TZ=+14:00\n* * * * * a")) 0 4223370839) ≡ 4294967313)
+unfolding nextNumber told
+local-days = (
+  ap nextNumber (zoned west (second evenings 26 27 (negsuc 719)) evenings 0 refl (zoned-entries .0) (lit≤ tt) ∙ ap told (known-days-in .3)),
+  ap nextNumber (zoned east (second everyMinute 25 26 (pos 840)) everyMinute 4223370838 refl (zoned-entries .1) (lit≤ tt) ∙ ap told (known-days-in .5)),
+  ap nextNumber (zoned east (second everyMinute 25 26 (pos 840)) everyMinute 4223370839 refl (zoned-entries .1) (lit≤ tt) ∙ ap told (known-days-in .6)),
+)
 
 -- the tables of KnownDays, in its order, and the ticket's
 entries :

@@ -66,6 +66,8 @@ tables : Hold checked
     ((text "@reboot x\n0 * * * * y", 2 ∷ 0 ∷ 0 ∷ [])
     -- 60 as a minute, on line 2 at column 3: 6
     ∷ (text "\n  60 0 * * * x", 4294967302 ∷ 2 ∷ 3 ∷ [])
+    -- ticket 2026-09: an hour of one digit, at the value: 25
+    ∷ (text "A=b\nCRON_TZ = +1:00\n", 4294967321 ∷ 2 ∷ 11 ∷ [])
     ∷ [])
 unfolding answering
 tables = refl
@@ -111,6 +113,10 @@ kinds = refl
 abbrev pair : List ℕ
 pair = text "@reboot x\n0 * * * * y\n"
 
+-- every minute at -12:00 and at +14:00, midnight there and in UTC
+abbrev clocks : List ℕ
+clocks = text "CRON_TZ=-12:00\n* * * * * a\nCRON_TZ='+14:00'\n* * * * * b\n0 0 * * * c\nCRON_TZ=-00:00\n0 0 * * * d\n"
+
 abbrev dueOn : List ℕ × ℕ × ℕ → ℕ
 dueOn (s, i, m) = dueNumber (dueIn (tableOf (rulesOf 0) s) i m)
 
@@ -121,6 +127,16 @@ due : Hold dueOn
     ∷ ((pair, 0, 60), 0)
     -- at the calendar's last minute
     ∷ ((text "* * * * * x", 0, 4223371679), 1)
+    -- ticket 2026-09: under -12:00 from minute 720 on, under +14:00 up to 840 minutes before the last; each until the next offset
+    ∷ ((clocks, 0, 719), 0)
+    ∷ ((clocks, 0, 720), 1)
+    ∷ ((clocks, 0, 721), 1)
+    ∷ ((clocks, 1, 4223370839), 1)
+    ∷ ((clocks, 1, 4223370840), 0)
+    ∷ ((clocks, 2, 600), 1)
+    ∷ ((clocks, 2, 1440), 0)
+    ∷ ((clocks, 3, 600), 0)
+    ∷ ((clocks, 3, 1440), 1)
     -- 14, 13, and a table that is refused
     ∷ ((pair, 1, 4223371680), 4294967310)
     ∷ ((pair, 0, 4223371680), 4294967310)

@@ -1,3 +1,4 @@
+pub mod Zones
 pub mod Settings
 pub mod SettingTexts
 pub mod Entries

@@ -1,7 +1,7 @@
 -- Laws of a line: the item that it means is a proper one, and a proper item is read back from its text, which has no newline and no byte 0.
 -- Assumes nothing.
 use mathlib.Core.Path.{_≡_, refl, ap, _∙_}
-use mathlib.Core.Bool.{Bool, true, false, cond, _||_, true≢false, and-eq-true-iff}
+use mathlib.Core.Bool.{Bool, true, false, cond, _||_, true≢false, and-eq-true-iff, _&&_}
 use mathlib.Core.List.{List, [], _∷_, _++_}
 use Prim.Native.Nat.{ℕ}
 use native.Mathlib.Omega.{arith}
@@ -23,6 +23,7 @@ use Rattle.crontab.specs.Entries.{entryAt}
 use Rattle.crontab.specs.Lines.{startsEntry, contentFrom, contentOf}
 use Rattle.normal.specs.Meanings.{Item, setting, boot, timed, ofUser, itemIn, lineItems}
 use Rattle.normal.specs.Texts.{inQuotes, quoted, startsOther, isBareName, isBareValue, nameText, valueText, scheduleText, itemText}
+use Rattle.crontab.specs.Offsets.{mayStand}
 use Rattle.normal.specs.Proper.{isQuotable, isName, isValue, isCommand, isSchedule, isItem, areItems}
 use Rattle.normal.proofs.Settings.{setting-proper}
 use Rattle.normal.proofs.SettingTexts.{name-parts, name-starts, setting-back}
@@ -95,11 +96,12 @@ boot-line c = entry-line (text "@reboot " ++ c) 64 (text "reboot " ++ c) refl re
 pub line-back : (i : Item) → isItem i ≡ true → lineItems (itemText i) ≡ i ∷ []
 unfolding isItem itemText
 line-back (setting name value) e =
-    let t = and-eq-true-iff (isName name) (isValue value) .0 e in
+    let t = and-eq-true-iff (isName name) (isValue value && mayStand name value) .0 e in
+    let u = and-eq-true-iff (isValue value) (mayStand name value) .0 (t .1) in
     let f = name-starts name (t .0) in
     setting-line (nameText name ++ 61 ∷ valueText value) (f .first) (f .more ++ 61 ∷ valueText value)
     (ap (λ (n : List ℕ). n ++ 61 ∷ valueText value) (f .is)) (f .solid) (f .own)
-    ∙ setting-back name value (t .0) (t .1)
+    ∙ setting-back name value (t .0) (u .0) (u .1)
 line-back (boot command) e = boot-line command ∙ boot-back command e
 line-back (timed x command) e =
     let t = and-eq-true-iff (isSchedule x) (isCommand command) .0 e in
@@ -138,8 +140,9 @@ schedule-clean x =
 pub item-clean : (i : Item) → isItem i ≡ true → areOf InLine (itemText i) ≡ true
 unfolding isItem itemText nameText valueText isValue ofClass areOf
 item-clean (setting name value) e =
-    let t = and-eq-true-iff (isName name) (isValue value) .0 e in
-    let v = and-eq-true-iff (areOf InLine value) (isBareValue value || isQuotable value) .0 (t .1) .0 in
+    let t = and-eq-true-iff (isName name) (isValue value && mayStand name value) .0 e in
+    let u = and-eq-true-iff (isValue value) (mayStand name value) .0 (t .1) in
+    let v = and-eq-true-iff (areOf InLine value) (isBareValue value || isQuotable value) .0 (u .0) .0 in
     are-append InLine (nameText name) (61 ∷ valueText value) (text-clean (isBareName name) name (name-parts name (t .0) .clean))
     (text-clean (isBareValue value) value v)
 item-clean (boot command) e = command-parts command e .clean

@@ -26,7 +26,12 @@ use Rattle.crontab.specs.declared.assignment.Text.{Text}
 use Rattle.crontab.specs.declared.assignment.Text.the-variants.{Found, Malformed}
 use Rattle.crontab.specs.declared.line.Line.{Line}
 use Rattle.crontab.specs.declared.line.Line.the-variants as line
-use Rattle.crontab.specs.Assignments.{quotedAt, nonEmpty, nameAt, closed, valueAt, afterEquals, afterName, settingAt}
+use Rattle.crontab.specs.Assignments.{quotedAt, nonEmpty, nameAt, closed, valueAt, afterEquals, afterName, settingAt, afterOffset, withOffset, zoned}
+use Rattle.crontab.specs.Words.{same}
+use Rattle.crontab.specs.Offsets.{zoneName, isOffset, offsetOf, readOffset}
+use Rattle.crontab.specs.declared.offset.Zone.the-variants.{Same}
+use Rattle.crontab.specs.declared.offset.OffsetAnswer.the-variants as offset
+use Rattle.crontab.specs.declared.offset.OffsetAnswer.the-variants.{Minutes}
 use Rattle.crontab.specs.Entries.{timeAt, withCommand, afterTime, entryAt}
 use Rattle.crontab.specs.Lines.{startsEntry, contentFrom, contentOf}
 use Rattle.crontab.specs.Settings.{partBytes}
@@ -41,7 +46,7 @@ use Rattle.normal.proofs.SettingTexts.{name-starts, NameBack, name-back
 -- it is that setting
 abbrev Means : List ℕ → List ℕ → List ℕ → Line → Type 0
 Means s n v line.Ignored = ⊥
-Means s n v (line.Setting name value) = (partBytes s name ≡ n) × (partBytes s value ≡ v)
+Means s n v (line.Setting name value zone) = (partBytes s name ≡ n) × (partBytes s value ≡ v)
 Means s n v (line.Entry when start) = ⊥
 Means s n v (line.Refused f) = ⊥
 
@@ -53,7 +58,7 @@ no-entry (Timed x) c n v is e = let z : _≡_ {A = ℕ} 0 1 = cc in omega arith
 means : (s n v : List ℕ) (x : Line) → itemIn s x ≡ setting n v ∷ [] → Means s n v x
 unfolding itemIn
 means s n v line.Ignored e = omega (arith, ap length e)
-means s n v (line.Setting name value) e = (cc, cc)
+means s n v (line.Setting name value zone) e = (cc, cc)
 means s n v (line.Entry when start) e = no-entry when _ n v [] e
 means s n v (line.Refused f) e = omega (arith, ap length e)
 
@@ -88,6 +93,18 @@ line-setting s n v e = go (leb (length s) (skipped Blank s 0)) (eqb (getD s (ski
     go false false true p q h = absurd (entry-means s n v at h)
     go false false false p q h = record { own = rw (p, q); says = h }
 
+-- whatever its value says of the offset
+zoned-says : (s n v : List ℕ) (at : ℕ) (name value : Part) → Means s n v (zoned s at name value) → (partBytes s name ≡ n) × (partBytes s value ≡ v)
+unfolding zoned withOffset readOffset afterOffset
+zoned-says s n v at name value = go (same (partBytes s name) zoneName) (isOffset (partBytes s value))
+  where
+    go : (a b : Bool)
+        → Means s n v (cond a (afterOffset at name value (cond b (Minutes (offsetOf (partBytes s value))) offset.Malformed)) (line.Setting name value Same))
+        → (partBytes s name ≡ n) × (partBytes s value ≡ v)
+    go true true h = h
+    go true false h = absurd h
+    go false b h = h
+
 -- ---- a name
 
 abbrev Named : List ℕ → List ℕ → Text → Type 0
@@ -95,10 +112,10 @@ Named s n Malformed = ⊥
 Named s n (Found part next) = partBytes s part ≡ n
 
 module _ (s n v : List ℕ) (at : ℕ) where
-  equals-says : (name : Part) (t : Text) → Means s n v (afterEquals at name t) → partBytes s name ≡ n
+  equals-says : (start : ℕ) (name : Part) (t : Text) → Means s n v (afterEquals s at start name t) → partBytes s name ≡ n
   unfolding afterEquals
-  equals-says name Malformed h = absurd h
-  equals-says name (Found value next) h = h .0
+  equals-says start name Malformed h = absurd h
+  equals-says start name (Found value next) h = zoned-says s n v start name value h .0
 
   name-says : (t : Text) → Means s n v (afterName s at t) → Named s n t
   unfolding afterName
@@ -106,9 +123,9 @@ module _ (s n v : List ℕ) (at : ℕ) where
   name-says (Found name next) h = go (eqb (getD s (skipped Blank s next) 0) 61) h
     where
       go : (b : Bool)
-          → Means s n v (cond b (afterEquals at name (valueAt s (skipped Blank s (skipped Blank s next + 1)))) (line.Refused (record { number = 11; column = at + 1 })))
+          → Means s n v (cond b (afterEquals s at (skipped Blank s (skipped Blank s next + 1)) name (valueAt s (skipped Blank s (skipped Blank s next + 1)))) (line.Refused (record { number = 11; column = at + 1 })))
           → partBytes s name ≡ n
-      go true h = equals-says name _ h
+      go true h = equals-says _ name _ h
       go false h = absurd h
 
   found-named : (part : Part) (next : ℕ) → Named s n (nonEmpty (Found part next)) → (part .start < part .end) × (partBytes s part ≡ n)
@@ -259,10 +276,10 @@ value-alone s (b ∷ w) from inside here h =
     bare-made (b ∷ w) (solid-first b w none) (rw (byte-here st) at (r .1)) (r .2)
 
 module _ (s n v : List ℕ) where
-  value-says : (at : ℕ) (name : Part) (t : Text) → Means s n v (afterEquals at name t) → Named s v t
+  value-says : (at start : ℕ) (name : Part) (t : Text) → Means s n v (afterEquals s at start name t) → Named s v t
   unfolding afterEquals
-  value-says at name Malformed h = h
-  value-says at name (Found value next) h = h .1
+  value-says at start name Malformed h = h
+  value-says at start name (Found value next) h = zoned-says s n v start name value h .1
 
   behind-equals : NameBack s 0 n v → Means s n v (settingAt s 0) → isBareValue v ≡ true
   unfolding settingAt afterName
@@ -270,8 +287,8 @@ module _ (s n v : List ℕ) where
       let next = name .found .next in
       let sign : Stands s next (61 ∷ []) v = record { is = name .behind } in
       let place = not-skipped Blank s next (61 ∷ v) (name .behind) (equals-blank v) in
-      let k : Means s n v (afterEquals 0 (name .found .part) (valueAt s (skipped Blank s (next + 1)))) = rw (name .found .is, place, byte-here sign) at h in
-      value-alone s v (next + 1) (omega (arith, within-here sign)) (drop-past sign) (value-says 0 (name .found .part) (valueAt s (skipped Blank s (next + 1))) k)
+      let k : Means s n v (afterEquals s 0 (skipped Blank s (next + 1)) (name .found .part) (valueAt s (skipped Blank s (next + 1)))) = rw (name .found .is, place, byte-here sign) at h in
+      value-alone s v (next + 1) (omega (arith, within-here sign)) (drop-past sign) (value-says 0 (skipped Blank s (next + 1)) (name .found .part) (valueAt s (skipped Blank s (next + 1))) k)
 
 pub value-bare : (n v : List ℕ) → isName n ≡ true → lineItems (nameText n ++ 61 ∷ v) ≡ setting n v ∷ [] → isBareValue v ≡ true
 value-bare n v p e =

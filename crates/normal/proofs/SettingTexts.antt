@@ -18,7 +18,12 @@ use Rattle.crontab.specs.declared.Part.{Part}
 use Rattle.crontab.specs.declared.assignment.Text.{Text}
 use Rattle.crontab.specs.declared.assignment.Text.the-variants.{Found}
 use Rattle.crontab.specs.declared.line.Line.the-variants as line
-use Rattle.crontab.specs.Assignments.{quotedAt, nonEmpty, nameAt, closed, valueAt, afterEquals, afterName, settingAt}
+use Rattle.crontab.specs.Assignments.{quotedAt, nonEmpty, nameAt, closed, valueAt, afterEquals, afterName, settingAt, afterOffset, withOffset, zoned}
+use Rattle.crontab.specs.Words.{same}
+use Rattle.crontab.specs.Offsets.{zoneName, isOffset, offsetOf, readOffset, mayStand}
+use Rattle.crontab.specs.declared.offset.Zone.the-variants.{Same}
+use Rattle.crontab.specs.declared.offset.OffsetAnswer.the-variants as offset
+use Rattle.crontab.specs.declared.offset.OffsetAnswer.the-variants.{Minutes}
 use Rattle.field.specs.Numbers.{isDigit}
 use Rattle.crontab.specs.Lines.{startsEntry}
 use Rattle.crontab.specs.Settings.{partBytes}
@@ -257,9 +262,21 @@ pub equals-blank : (rest : List ℕ) → run Blank (61 ∷ rest) ≡ 0
 unfolding run ofClass isBlank
 equals-blank rest = refl
 
-behind-name : (s n v : List ℕ) → isValue v ≡ true → NameBack s 0 n (valueText v) → itemIn s (settingAt s 0) ≡ setting n v ∷ []
-unfolding settingAt afterName afterEquals itemIn
-behind-name s n v q name =
+-- a name and a value that are found, of which the value is an offset if the name wants it
+zoned-back : (s n v : List ℕ) (at : ℕ) (name value : Part) → partBytes s name ≡ n → partBytes s value ≡ v → mayStand n v ≡ true
+    → itemIn s (zoned s at name value) ≡ setting n v ∷ []
+unfolding zoned withOffset readOffset afterOffset itemIn mayStand
+zoned-back s n v at name value e f z = rw (e, f) (go (same n zoneName) (isOffset v) z)
+  where
+    go : (a b : Bool) → cond a b true ≡ true
+        → itemIn s (cond a (afterOffset at name value (cond b (Minutes (offsetOf v)) offset.Malformed)) (line.Setting name value Same)) ≡ setting n v ∷ []
+    go true true z = rw (e, f)
+    go true false z = absurd (true≢false (sym z))
+    go false b z = rw (e, f)
+
+behind-name : (s n v : List ℕ) → isValue v ≡ true → mayStand n v ≡ true → NameBack s 0 n (valueText v) → itemIn s (settingAt s 0) ≡ setting n v ∷ []
+unfolding settingAt afterName afterEquals
+behind-name s n v q z name =
     let next = name .found .next in
     let sign : Stands s next (61 ∷ []) (valueText v) = record { is = name .behind } in
     let value = value-back s (next + 1) v q (drop-past sign) in
@@ -269,10 +286,9 @@ behind-name s n v q name =
       byte-here sign,
       not-skipped Blank s (next + 1) (valueText v) (drop-past sign) (value-solid v q),
       value .is,
-      name .found .shown,
-      value .shown,
     )
+    (zoned-back s n v (next + 1) (name .found .part) (value .part) (name .found .shown) (value .shown) z)
 
-pub setting-back : (n v : List ℕ) → isName n ≡ true → isValue v ≡ true
+pub setting-back : (n v : List ℕ) → isName n ≡ true → isValue v ≡ true → mayStand n v ≡ true
     → itemIn (nameText n ++ 61 ∷ valueText v) (settingAt (nameText n ++ 61 ∷ valueText v) 0) ≡ setting n v ∷ []
-setting-back n v p q = behind-name _ n v q (name-back (nameText n ++ 61 ∷ valueText v) 0 (valueText v) n p refl)
+setting-back n v p q z = behind-name _ n v q z (name-back (nameText n ++ 61 ∷ valueText v) 0 (valueText v) n p refl)

@@ -19,7 +19,12 @@ use Rattle.crontab.specs.declared.Part.{Part}
 use Rattle.crontab.specs.declared.assignment.Text.{Text}
 use Rattle.crontab.specs.declared.assignment.Text.the-variants.{Found, Malformed}
 use Rattle.crontab.specs.declared.line.Line.the-variants as line
-use Rattle.crontab.specs.Assignments.{quotedAt, nonEmpty, nameAt, closed, valueAt, afterEquals, afterName, settingAt}
+use Rattle.crontab.specs.Assignments.{quotedAt, nonEmpty, nameAt, closed, valueAt, afterOffset, withOffset, zoned, afterEquals, afterName, settingAt}
+use Rattle.crontab.specs.Words.{same}
+use Rattle.crontab.specs.Offsets.{zoneName, isOffset, offsetOf, readOffset, mayStand}
+use Rattle.crontab.specs.declared.offset.Zone.the-variants.{Same}
+use Rattle.crontab.specs.declared.offset.OffsetAnswer.the-variants as offset
+use Rattle.crontab.specs.declared.offset.OffsetAnswer.the-variants.{Minutes}
 use Rattle.crontab.specs.Settings.{partBytes}
 use Rattle.normal.specs.Meanings.{itemIn}
 use Rattle.normal.specs.Texts.{startsOther, isBareName, isBareValue}
@@ -148,10 +153,16 @@ module _ (s : List ℕ) (clean : areOf InLine s ≡ true) where
 
   -- ---- a setting that is read
 
-  value-items : (at : ℕ) (name : Part) (v : Text) → isName (partBytes s name) ≡ true → Holds isValue v → areItems (itemIn s (afterEquals at name v)) ≡ true
-  unfolding afterEquals itemIn areItems isItem
-  value-items at name Malformed n h = refl
-  value-items at name (Found value next) n h = rw (n, h)
+  value-items : (at start : ℕ) (name : Part) (v : Text) → isName (partBytes s name) ≡ true → Holds isValue v → areItems (itemIn s (afterEquals s at start name v)) ≡ true
+  unfolding afterEquals zoned withOffset readOffset afterOffset itemIn areItems isItem mayStand
+  value-items at start name Malformed n h = refl
+  value-items at start name (Found value next) n h = go (same (partBytes s name) zoneName) (isOffset (partBytes s value)) refl refl
+    where
+      go : (a b : Bool) → same (partBytes s name) zoneName ≡ a → isOffset (partBytes s value) ≡ b
+          → areItems (itemIn s (cond a (afterOffset start name value (cond b (Minutes (offsetOf (partBytes s value))) offset.Malformed)) (line.Setting name value Same))) ≡ true
+      go true true p q = rw (n, h, p, q)
+      go true false p q = refl
+      go false b p q = rw (n, h, p)
 
   name-items : (at : ℕ) (t : Text) → Holds isName t → areItems (itemIn s (afterName s at t)) ≡ true
   unfolding afterName itemIn areItems
@@ -162,8 +173,8 @@ module _ (s : List ℕ) (clean : areOf InLine s ≡ true) where
       equals = skipped Blank s next
 
       go : (t : Bool)
-          → areItems (itemIn s (cond t (afterEquals at name (valueAt s (skipped Blank s (equals + 1)))) (line.Refused (record { number = 11; column = at + 1 })))) ≡ true
-      go true = value-items at name _ h (value-found _ (blank-end s (equals + 1)))
+          → areItems (itemIn s (cond t (afterEquals s at (skipped Blank s (equals + 1)) name (valueAt s (skipped Blank s (equals + 1)))) (line.Refused (record { number = 11; column = at + 1 })))) ≡ true
+      go true = value-items at _ name _ h (value-found _ (blank-end s (equals + 1)))
       go false = refl
 
   pub setting-proper : (at : ℕ) → startsOther (getD s at 0) ≡ false → areItems (itemIn s (settingAt s at)) ≡ true

@@ -8,6 +8,9 @@ use Prim.Native.Nat.{ℕ, suc, _+_, _≤_}
 use native.Mathlib.Omega.{arith}
 use lib.ListN.{length, drop}
 use lib.Seq.{drop-drop, take-all}
+use lib.IntN.{ℤ}
+use Rattle.crontab.specs.declared.offset.Zone.{Zone}
+use Rattle.crontab.specs.Offsets.{utc, zoneOf, inForce}
 use lib.Dec.{eqb, leb, ltb}
 use borrow.Author.Tests.{ltb-true, ltb-false, lt-ltb, le-ltb, leb-true, not-true}
 use Rattle.bytes.specs.declared.class.Class.the-variants.{Not, InLine}
@@ -29,8 +32,8 @@ use Rattle.crontab.specs.Settings.{partBytes}
 use Rattle.crontab.specs.Tables.{refusedTable, emptyTable, withEntry, withItems, tableOf}
 use Rattle.crontab.proofs.Proper.{Inside, Proper, line-proper}
 use Rattle.crontab.proofs.Sound.{SoundItems, items-sound}
-use Rattle.crontab.proofs.Theorems.{table-short}
-use Rattle.normal.specs.Meanings.{Item, setting, boot, timed, entryItem, entriesIn, ofUser, meanings, meaningOf, itemIn, lineItems, itemsIn}
+use Rattle.crontab.proofs.Theorems.{table-short, setting-says}
+use Rattle.normal.specs.Meanings.{Item, setting, boot, timed, entryItem, entriesIn, ofUser, meanings, meaningOf, itemIn, lineItems, itemsIn, offsetsFrom, entryOffsets}
 use Rattle.normal.specs.Texts.{itemText, normalText, areShort}
 use Rattle.normal.specs.Proper.{isItem, areItems}
 use Rattle.normal.proofs.Lines as lines
@@ -113,7 +116,7 @@ both-in-line (b ∷ s) p q =
 
 abbrev Read : Line → Type 0
 Read line.Ignored = Unit {0}
-Read (line.Setting name value) = Unit {0}
+Read (line.Setting name value zone) = Unit {0}
 Read (line.Entry when start) = Unit {0}
 Read (line.Refused f) = ⊥
 
@@ -163,40 +166,43 @@ entry-one Reboot c is = refl
 entry-one (Timed x) c is = refl
 
 -- what a line gives where no fault follows, behind k entries
-record Given (s l : List ℕ) (k : ℕ) (x : Line) (later : ℕ → Items) (all : Items) : Type 0 where
+record Given (s l : List ℕ) (k : ℕ) (x : Line) (later : ℕ → ℤ → Items) (all : Items) : Type 0 where
   count : ℕ
+  offset : ℤ
   read : Read x
-  clean : Clean (later count)
+  clean : Clean (later count offset)
   counts : count ≡ k + entriesIn (itemIn l x)
   few : k ≤ maxEntries → count ≤ maxEntries
-  means : meanings s all ≡ itemIn l x ++ meanings s (later count)
+  means : meanings s all ≡ itemIn l x ++ meanings s (later count offset)
 
 module _ (s l : List ℕ) (at : ℕ) (here : Stands s at l (drop (at + length l) s)) where
   part-here : (p : Part) → Inside (length l) p → partBytes s (moved at p) ≡ partBytes l p
   part-here p i = between-part here (p .start) (p .end) (i .order) (i .within)
 
-  line-given : (n k : ℕ) (x : Line) (later : ℕ → Items) → Proper (length l) x → Clean (afterLine at n (length l) k x later)
-      → Given s l k x later (afterLine at n (length l) k x later)
+  line-given : (n k : ℕ) (o : ℤ) (x : Line) (later : ℕ → ℤ → Items) → Proper (length l) x → Clean (afterLine at n (length l) k o x later)
+      → Given s l k x later (afterLine at n (length l) k o x later)
   unfolding afterLine itemIn meanings entriesIn
-  line-given n k line.Ignored later p h =
-      record { count = k; read = tt; clean = h; counts = omega arith; few = λ f. f; means = refl }
-  line-given n k (line.Setting name value) later p h =
+  line-given n k o line.Ignored later p h =
+      record { count = k; offset = o; read = tt; clean = h; counts = omega arith; few = λ f. f; means = refl }
+  line-given n k o (line.Setting name value zone) later p h =
       record {
         count = k;
+        offset = inForce zone o;
         read = tt;
         clean = h;
         counts = omega arith;
         few = λ f. f;
         means = rw (part-here name (p .1), part-here value (p .2));
       }
-  line-given n k (line.Refused f) later p h = absurd h
-  line-given n k (line.Entry when start) later p h = go (ltb k maxEntries) refl h
+  line-given n k o (line.Refused f) later p h = absurd h
+  line-given n k o (line.Entry when start) later p h = go (ltb k maxEntries) refl h
     where
-      go : (t : Bool) → ltb k maxEntries ≡ t → Clean (cond t (items.entry (placed at n (length l) when start) (later (k + 1))) (items.fault 12 n 1))
-          → Given s l k (line.Entry when start) later (cond t (items.entry (placed at n (length l) when start) (later (k + 1))) (items.fault 12 n 1))
+      go : (t : Bool) → ltb k maxEntries ≡ t → Clean (cond t (items.entry (placed at n (length l) o when start) (later (k + 1) o)) (items.fault 12 n 1))
+          → Given s l k (line.Entry when start) later (cond t (items.entry (placed at n (length l) o when start) (later (k + 1) o)) (items.fault 12 n 1))
       go true e h =
           record {
             count = k + 1;
+            offset = o;
             read = tt;
             clean = h;
             counts = omega (arith, entry-one when (between l start (length l)) []);
@@ -227,13 +233,13 @@ record Meant (s : List ℕ) (k : ℕ) (ls : List (List ℕ)) (all : Items) : Typ
   proper : areItems (itemsIn ls) ≡ true
   few : k ≤ maxEntries → k + entriesIn (itemsIn ls) ≤ maxEntries
 
-lines-meant : (s : List ℕ) (at n k : ℕ) (ls : List (List ℕ)) → Lie s at ls → Free ls → Clean (itemsFrom ofUser at n k ls) → Meant s k ls (itemsFrom ofUser at n k ls)
+lines-meant : (s : List ℕ) (at n k : ℕ) (o : ℤ) (ls : List (List ℕ)) → Lie s at ls → Free ls → Clean (itemsFrom ofUser at n k o ls) → Meant s k ls (itemsFrom ofUser at n k o ls)
 unfolding itemsFrom itemsIn lineItems meanings areItems entriesIn
-lines-meant s at n k [] lie free h = record { means = refl; proper = refl; few = λ f. omega arith }
-lines-meant s at n k (l ∷ ls) lie free h =
-    let g = line-given s l at (lie .0) n k (readLine ofUser l) (λ j. itemsFrom ofUser (at + length l + 1) (n + 1) j ls) (line-proper ofUser l) h in
+lines-meant s at n k o [] lie free h = record { means = refl; proper = refl; few = λ f. omega arith }
+lines-meant s at n k o (l ∷ ls) lie free h =
+    let g = line-given s l at (lie .0) n k o (readLine ofUser l) (λ j next. itemsFrom ofUser (at + length l + 1) (n + 1) j next ls) (line-proper ofUser l) h in
     let r = line-read l (g .read) in
-    let m = lines-meant s (at + length l + 1) (n + 1) (g .count) ls (lie .1) (free .1) (g .clean) in
+    let m = lines-meant s (at + length l + 1) (n + 1) (g .count) (g .offset) ls (lie .1) (free .1) (g .clean) in
     let e : itemIn l (readLine ofUser l) ≡ lineItems l = ap (itemIn l) (r .0) in
     record {
       means = g .means ∙ rw (e, m .means);
@@ -245,7 +251,7 @@ lines-meant s at n k (l ∷ ls) lie free h =
 
 -- a table that isn't refused has no fault, and is short enough
 abbrev tableItems : List ℕ → Items
-tableItems s = itemsFrom ofUser 0 1 0 (linesOf s)
+tableItems s = itemsFrom ofUser 0 1 0 utc (linesOf s)
 
 items-of : (s : List ℕ) → length s ≤ maxTable → itemsOf ofUser s ≡ tableItems s
 unfolding itemsOf
@@ -262,7 +268,7 @@ unfolding tableOf emptyTable refusedTable
 items-good s short h = rw (items-of s short) (clean-good emptyTable (tableItems s) refl h)
 
 meant : (s : List ℕ) → Clean (tableItems s) → Meant s 0 (linesOf s) (tableItems s)
-meant s h = lines-meant s 0 1 0 (linesOf s) (lines-lie s 0 s refl) (lines-free s) h
+meant s h = lines-meant s 0 1 0 utc (linesOf s) (lines-lie s 0 s refl) (lines-free s) h
 
 -- a good table means what its lines mean
 pub meaning-lines : (s : List ℕ) → tableOf ofUser s .refusal ≡ 0 → meaningOf s ≡ itemsIn (linesOf s)
@@ -302,40 +308,84 @@ items-written (i ∷ is) h =
     rw (lines.line-back i (t .0), items-written is (t .1))
 
 -- a line that means an item, behind so few entries that it is no 12
-line-kept : (at n size k : ℕ) (l : List ℕ) (x : Line) (i : Item) (later : ℕ → Items) → itemIn l x ≡ i ∷ [] → k + entriesIn (i ∷ []) ≤ maxEntries
-    → Clean (later (k + entriesIn (i ∷ []))) → Clean (afterLine at n size k x later)
+line-kept : (at n size k : ℕ) (o : ℤ) (l : List ℕ) (x : Line) (i : Item) (later : ℕ → ℤ → Items) → itemIn l x ≡ i ∷ [] → k + entriesIn (i ∷ []) ≤ maxEntries
+    → ((next : ℤ) → Clean (later (k + entriesIn (i ∷ [])) next)) → Clean (afterLine at n size k o x later)
 unfolding afterLine itemIn entriesIn
-line-kept at n size k l line.Ignored i later e few h = absurd (omega (arith, ap length e))
-line-kept at n size k l (line.Setting name value) i later e few h =
+line-kept at n size k o l line.Ignored i later e few h = absurd (omega (arith, ap length e))
+line-kept at n size k o l (line.Setting name value zone) i later e few h =
     let q : k + entriesIn (i ∷ []) ≡ k = omega (arith, ap entriesIn e) in
-    rw q at h
-line-kept at n size k l (line.Entry when start) i later e few h =
+    rw q at (h (inForce zone o))
+line-kept at n size k o l (line.Entry when start) i later e few h =
     let q : k + entriesIn (i ∷ []) ≡ k + 1 = omega (arith, ap entriesIn e, entry-one when (between l start (length l)) []) in
-    rw (lt-ltb k maxEntries (omega arith)) (rw q at h)
-line-kept at n size k l (line.Refused f) i later e few h = absurd (omega (arith, ap length e))
+    rw (lt-ltb k maxEntries (omega arith)) (rw q at (h o))
+line-kept at n size k o l (line.Refused f) i later e few h = absurd (omega (arith, ap length e))
 
 line-means : (i : Item) → isItem i ≡ true → itemIn (itemText i) (contentOf ofUser (itemText i)) ≡ i ∷ []
 unfolding lineItems
 line-means i e = lines.line-back i e
 
-kept : (at n k : ℕ) (is : List Item) → areItems is ≡ true → areShort is ≡ true → k + entriesIn is ≤ maxEntries → Clean (itemsFrom ofUser at n k (map itemText is))
+kept : (at n k : ℕ) (o : ℤ) (is : List Item) → areItems is ≡ true → areShort is ≡ true → k + entriesIn is ≤ maxEntries → Clean (itemsFrom ofUser at n k o (map itemText is))
 unfolding itemsFrom areItems areShort
-kept at n k [] p q few = tt
-kept at n k (i ∷ is) p q few =
+kept at n k o [] p q few = tt
+kept at n k o (i ∷ is) p q few =
     let l = itemText i in
     let t = and-eq-true-iff (isItem i) (areItems is) .0 p in
     let u = and-eq-true-iff (leb (length (itemText i)) maxLine) (areShort is) .0 q in
     let more : entriesIn (i ∷ is) ≡ entriesIn (i ∷ []) + entriesIn is = entries-append (i ∷ []) is in
     let plain = line-plain (itemText i) (leb-true (length (itemText i)) maxLine (u .0)) (lines.item-clean i (t .0)) in
-    line-kept at n (length (itemText i)) k (itemText i) (readLine ofUser (itemText i)) i (λ j. itemsFrom ofUser (at + length (itemText i) + 1) (n + 1) j (map itemText is))
+    line-kept at n (length (itemText i)) k o (itemText i) (readLine ofUser (itemText i)) i (λ j next. itemsFrom ofUser (at + length (itemText i) + 1) (n + 1) j next (map itemText is))
     (ap (itemIn (itemText i)) plain ∙ line-means i (t .0)) (omega arith)
-    (kept (at + length (itemText i) + 1) (n + 1) (k + entriesIn (i ∷ [])) is (t .1) (u .1) (omega arith))
+    (λ next. kept (at + length (itemText i) + 1) (n + 1) (k + entriesIn (i ∷ [])) next is (t .1) (u .1) (omega arith))
 
 -- proper items that fit make a good table, which means them
 module _ (is : List Item) (proper : areItems is ≡ true) (short : areShort is ≡ true) (small : length (normalText is) ≤ maxTable) (few : entriesIn is ≤ maxEntries) where
   pub written-good : tableOf ofUser (normalText is) .refusal ≡ 0
   written-good =
-      items-good (normalText is) small (rw (lines-written is proper) (kept 0 1 0 is proper short (omega arith)))
+      items-good (normalText is) small (rw (lines-written is proper) (kept 0 1 0 utc is proper short (omega arith)))
 
   pub written-means : meaningOf (normalText is) ≡ is
   written-means = meaning-lines (normalText is) written-good ∙ rw (lines-written is proper) (items-written is proper)
+
+-- ---- offsets
+
+entry-under : (o : ℤ) (when : When) (c : List ℕ) (is : List Item) → offsetsFrom o (entryItem when c ∷ is) ≡ o ∷ offsetsFrom o is
+unfolding offsetsFrom entryItem
+entry-under o Reboot c is = refl
+entry-under o (Timed x) c is = refl
+
+setting-under : (o : ℤ) (n v : List ℕ) (zone : Zone) (is : List Item) → zone ≡ zoneOf n v → offsetsFrom o (setting n v ∷ is) ≡ offsetsFrom (inForce zone o) is
+unfolding offsetsFrom
+setting-under o n v zone is e = ap (λ (z : Zone). offsetsFrom (inForce z o) is) (sym e)
+
+-- entries are under the offset that the settings before them say
+lines-under : (s : List ℕ) (at n k : ℕ) (o : ℤ) (ls : List (List ℕ)) → Lie s at ls → Clean (itemsFrom ofUser at n k o ls)
+    → entryOffsets (itemsFrom ofUser at n k o ls) ≡ offsetsFrom o (meanings s (itemsFrom ofUser at n k o ls))
+unfolding itemsFrom afterLine entryOffsets meanings offsetsFrom
+lines-under s at n k o [] lie h = refl
+lines-under s at n k o (l ∷ ls) lie h =
+    go (readLine ofUser l) refl (line-proper ofUser l) h (λ j next. lines-under s (at + length l + 1) (n + 1) j next ls (lie .1))
+  where
+    later : ℕ → ℤ → Items
+    later j next = itemsFrom ofUser (at + length l + 1) (n + 1) j next ls
+
+    go : (x : Line) → readLine ofUser l ≡ x → Proper (length l) x → Clean (afterLine at n (length l) k o x later)
+        → ((j : ℕ) (next : ℤ) → Clean (later j next) → entryOffsets (later j next) ≡ offsetsFrom next (meanings s (later j next)))
+        → entryOffsets (afterLine at n (length l) k o x later) ≡ offsetsFrom o (meanings s (afterLine at n (length l) k o x later))
+    go line.Ignored e p h more = more k o h
+    go (line.Setting name value zone) e p h more =
+        let z = setting-says l ofUser e .0 in
+        rw (part-here s l at (lie .0) name (p .1), part-here s l at (lie .0) value (p .2))
+        (more k (inForce zone o) h ∙ sym (setting-under o (partBytes l name) (partBytes l value) zone (meanings s (later k (inForce zone o))) z))
+    go (line.Refused f) e p h more = absurd h
+    go (line.Entry when start) e p h more = entry (ltb k maxEntries) h
+      where
+        entry : (t : Bool) → Clean (cond t (items.entry (placed at n (length l) o when start) (later (k + 1) o)) (items.fault 12 n 1))
+            → let x = cond t (items.entry (placed at n (length l) o when start) (later (k + 1) o)) (items.fault 12 n 1) in
+            entryOffsets x ≡ offsetsFrom o (meanings s x)
+        entry true h = rw (more (k + 1) o h) (sym (entry-under o when _ (meanings s (later (k + 1) o))))
+        entry false h = absurd h
+
+pub meaning-offsets : (s : List ℕ) → tableOf ofUser s .refusal ≡ 0 → entryOffsets (itemsOf ofUser s) ≡ offsetsFrom utc (meaningOf s)
+unfolding meaningOf
+meaning-offsets s e =
+    rw (items-of s (table-short ofUser s e)) (lines-under s 0 1 0 utc (linesOf s) (lines-lie s 0 s refl) (good-items s e))

@@ -5,15 +5,16 @@
 --   meaning-proper, meaning-few: its items pass the test, and no more of them are entries than there may be
 --   written-good, written-means: items that pass the test and fit are written to a good table, which means them
 --   read-back: reading the normal text of a table back gives the same meaning
+--   meaning-offsets, offsets-back: the offsets that a table's entries are under follow from its meaning, so reading back carries them
 --   equal-meanings, equal-forms, equal-texts: equal meanings write equal bytes, whatever the buffer, and other meanings others
 --   normal-again, form-again: a normal text is written as itself
 --   form-told: a refused call changes no byte, and any call keeps the buffer's length
---   schedule-small: the sets of a schedule that passes the test fit the bytes that they have
+--   schedule-small, schedule-long: the sets of a schedule that passes the test fit the bytes that they have, and its text has 9 bytes or more
 --   shortest-step: the n of a field's `*/n` is the smallest that gives its set, over any limits; `field` has it
 -- Assumes nothing.
 use mathlib.Core.Path.{_≡_, refl, sym, ap, _∙_}
 use mathlib.Core.Bool.{Bool, true, false, cond, and-eq-true-iff}
-use mathlib.Core.List.{List, _++_}
+use mathlib.Core.List.{List, _++_, [], _∷_}
 use Prim.Native.Nat.{ℕ, _≤_, _<_}
 use native.Mathlib.Omega.{arith}
 use lib.ListN.{length, drop, length-append, length-drop}
@@ -22,21 +23,24 @@ use borrow.Author.Tests.{leb-true, eqb-false}
 use Rattle.bytes.specs.Laid.{laid}
 use Rattle.bytes.specs.LittleEndian.{width}
 use Rattle.field.specs.Limits.{minuteLimits, hourLimits, dayLimits, monthLimits, weekdayLimits}
-use Rattle.field.proofs.Theorems.{field-fits, minute-usual, hour-usual, day-usual, month-usual, weekday-usual}
+use Rattle.field.proofs.Theorems.{Begins, field-begins, field-fits, minute-usual, hour-usual, day-usual, month-usual, weekday-usual}
 use Rattle.schedule.specs.declared.Schedule.{Schedule}
+use Rattle.field.specs.Written.{fieldText}
 use Rattle.crontab.specs.Limits.{maxTable}
 pub use Rattle.field.proofs.Theorems.{shortest-step}
+use Rattle.crontab.specs.Offsets.{utc}
+use Rattle.crontab.specs.Items.{itemsOf}
 use Rattle.crontab.specs.Tables.{tableOf}
 use Rattle.normal.specs.declared.NormalAnswer.{NormalAnswer}
 use Rattle.normal.specs.declared.NormalAnswer.the-variants.{Written, Refused}
-use Rattle.normal.specs.Meanings.{Item, ofUser, meaningOf}
-use Rattle.normal.specs.Texts.{normalText, areShort, fits}
+use Rattle.normal.specs.Meanings.{Item, ofUser, meaningOf, offsetsFrom, entryOffsets}
+use Rattle.normal.specs.Texts.{scheduleText, normalText, areShort, fits}
 use Rattle.normal.specs.Proper.{isSchedule}
 use Rattle.normal.specs.NormalForms.{NormalForm, refusedForm, laidForm, formOf, normalForm}
 use Rattle.normal.proofs.EntryTexts.{schedule-parts}
 pub use Rattle.normal.proofs.Lines.{line-proper, line-back}
 pub use Rattle.normal.proofs.Quotes.{name-bare, value-bare}
-pub use Rattle.normal.proofs.Tables.{meaning-lines, meaning-proper, meaning-few, written-good, written-means}
+pub use Rattle.normal.proofs.Tables.{meaning-lines, meaning-proper, meaning-few, written-good, written-means, meaning-offsets}
 
 -- ---- meanings
 
@@ -59,6 +63,13 @@ read-back s good e =
     let p = meaning-proper s good in
     let n = meaning-few s good in
     (written-good (meaningOf s) p (f .short) (f .small) n, written-means (meaningOf s) p (f .short) (f .small) n)
+
+-- and the same offsets
+pub offsets-back : (s : List ℕ) → tableOf ofUser s .refusal ≡ 0 → fits (meaningOf s) ≡ true
+    → entryOffsets (itemsOf ofUser (normalText (meaningOf s))) ≡ entryOffsets (itemsOf ofUser s)
+offsets-back s good e =
+    let b = read-back s good e in
+    meaning-offsets (normalText (meaningOf s)) (b .0) ∙ ap (offsetsFrom utc) (b .1) ∙ sym (meaning-offsets s good)
 
 -- equal meanings write equal bytes
 pub equal-meanings : (s t : List ℕ) → meaningOf s ≡ meaningOf t → normalText (meaningOf s) ≡ normalText (meaningOf t)
@@ -87,6 +98,22 @@ schedule-small s e =
       omega (arith, field-fits monthLimits month-usual (s .months) (s .stars .months) (p .months)),
       omega (arith, field-fits weekdayLimits weekday-usual (s .weekdays) (s .stars .weekdays) (p .weekdays)),
     )
+
+begins-some : (t : List ℕ) → Begins t → 1 ≤ length t
+begins-some [] h = absurd h
+begins-some (b ∷ t) h = omega arith
+
+-- five fields of one byte or more, and four spaces
+pub schedule-long : (s : Schedule) → isSchedule s ≡ true → 9 ≤ length (scheduleText s)
+unfolding scheduleText
+schedule-long s e =
+    let p = schedule-parts s e in
+    let minutes = begins-some (fieldText minuteLimits (s .minutes) (s .stars .minutes)) (field-begins minuteLimits minute-usual (s .minutes) (s .stars .minutes) (p .minutes)) in
+    let hours = begins-some (fieldText hourLimits (s .hours) (s .stars .hours)) (field-begins hourLimits hour-usual (s .hours) (s .stars .hours) (p .hours)) in
+    let days = begins-some (fieldText dayLimits (s .days) (s .stars .days)) (field-begins dayLimits day-usual (s .days) (s .stars .days) (p .days)) in
+    let months = begins-some (fieldText monthLimits (s .months) (s .stars .months)) (field-begins monthLimits month-usual (s .months) (s .stars .months) (p .months)) in
+    let weekdays = begins-some (fieldText weekdayLimits (s .weekdays) (s .stars .weekdays)) (field-begins weekdayLimits weekday-usual (s .weekdays) (s .stars .weekdays) (p .weekdays)) in
+    simp length-append (omega (arith, minutes, hours, days, months, weekdays))
 
 -- ---- the call
 

@@ -4,6 +4,7 @@
 use Prim.Native.Nat.{ℕ, suc}
 use mathlib.Core.List.{List, [], _∷_, _++_}
 use lib.ListN.{length}
+use lib.IntN.{ℤ}
 use Rattle.bytes.specs.Runs.{between}
 use Rattle.schedule.specs.declared.Schedule.{Schedule}
 use Rattle.crontab.specs.declared.Rules.{Rules}
@@ -16,6 +17,7 @@ use Rattle.crontab.specs.Lines.{contentOf}
 use Rattle.crontab.specs.Items.{Items, itemsOf}
 use Rattle.crontab.specs.Items as items
 use Rattle.crontab.specs.Settings.{partBytes}
+use Rattle.crontab.specs.Offsets.{zoneOf, inForce}
 
 pub data Item : Type 0 where
   -- name and value
@@ -52,11 +54,27 @@ meanings s (items.entry e later) = entryItem (e .when) (between s (e .start) (e 
 unfoldable pub meaningOf : List ℕ → List Item
 meaningOf s = meanings s (itemsOf ofUser s)
 
+-- ---- ticket 2026-09: the offsets that entries are under, in order
+
+-- by the settings before them
+unfoldable pub offsetsFrom : ℤ → List Item → List ℤ
+offsetsFrom o [] = []
+offsetsFrom o (setting name value ∷ is) = offsetsFrom (inForce (zoneOf name value) o) is
+offsetsFrom o (boot command ∷ is) = o ∷ offsetsFrom o is
+offsetsFrom o (timed s command ∷ is) = o ∷ offsetsFrom o is
+
+-- as a table's entries have them
+unfoldable pub entryOffsets : Items → List ℤ
+entryOffsets items.done = []
+entryOffsets (items.fault number line column) = []
+entryOffsets (items.setting line name value later) = entryOffsets later
+entryOffsets (items.entry e later) = e .offset ∷ entryOffsets later
+
 -- ---- a line, whatever its length: none or one
 
 unfoldable pub itemIn : List ℕ → Line → List Item
 itemIn s line.Ignored = []
-itemIn s (line.Setting name value) = setting (partBytes s name) (partBytes s value) ∷ []
+itemIn s (line.Setting name value zone) = setting (partBytes s name) (partBytes s value) ∷ []
 itemIn s (line.Entry when start) = entryItem when (between s start (length s)) ∷ []
 itemIn s (line.Refused f) = []
 

@@ -12,6 +12,7 @@ use Rattle.bytes.specs.Runs.{areOf}
 use Rattle.field.specs.Limits.{minuteLimits, hourLimits, dayLimits, monthLimits, weekdayLimits}
 use Rattle.field.specs.Written.{isField}
 use Rattle.schedule.specs.declared.Schedule.{Schedule}
+use Rattle.crontab.specs.Offsets.{mayStand}
 use Rattle.normal.specs.Meanings.{Item, setting, boot, timed}
 use Rattle.normal.specs.Texts.{doubleQuote, singleQuote, isBareName, isBareValue}
 
@@ -40,7 +41,7 @@ isSchedule s =
     && isField weekdayLimits (s .weekdays) (s .stars .weekdays))))
 
 unfoldable pub isItem : Item → Bool
-isItem (setting name value) = isName name && isValue value
+isItem (setting name value) = isName name && (isValue value && mayStand name value)
 isItem (boot command) = isCommand command
 isItem (timed s command) = isSchedule s && isCommand command
 

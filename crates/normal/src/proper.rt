@@ -3,12 +3,15 @@ ghost use mathlib.Core.Path.{_≡_};
 ghost use mathlib.Core.Bool.{_||_};
 ghost use Rattle.bytes.specs.Runs.{areOf};
 ghost use Rattle.normal.specs.Proper.{isQuotable, isName, isValue, isCommand, isSchedule};
+ghost use Rattle.crontab.specs.Offsets.{isOffset, mayStand};
 use crate::setting::is_bare_name;
 use crate::setting::is_bare_value;
 use bytes::class::Class;
 use bytes::class::is_in;
 use bytes::run::byte_at;
 use bytes::run::skip;
+use crontab::offset;
+use crontab::offset::OffsetAnswer;
 use field::written::is_field;
 use schedule::Schedule;
 
@@ -46,6 +49,25 @@ pub fn is_command(command: &[u8]) -> bool
 {
     (1 <= command.len())
         & (are_of(Class::InLine, command) & !is_in(Class::Blank, byte_at(command, 0)))
+}
+
+fn is_offset(value: &[u8]) -> bool
+    ensures { λ r. ⌜ r ≡ isOffset (now (value .entry)) ⌝ }
+{
+    match offset::read(value) {
+        OffsetAnswer::Minutes(_) => true,
+        OffsetAnswer::Malformed => false,
+    }
+}
+
+// Whether the value of a setting `CRON_TZ` is an offset; any other setting may have any value.
+pub fn is_zoned(name: &[u8], value: &[u8]) -> bool
+    ensures { λ r. ⌜ r ≡ mayStand (now (name .entry)) (now (value .entry)) ⌝ }
+{
+    if offset::is_zone(name) {
+        return is_offset(value);
+    }
+    true
 }
 
 pub fn is_schedule(s: Schedule) -> bool

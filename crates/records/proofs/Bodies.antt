@@ -1,7 +1,7 @@
 -- Laws of bodies: an item is read from its own body, and a body that means an item is that item's.
 -- Assumes nothing.
 use mathlib.Core.Path.{_≡_, refl, sym, ap, _∙_}
-use mathlib.Core.Bool.{Bool, true, false}
+use mathlib.Core.Bool.{Bool, true, false, cond}
 use mathlib.Core.List.{List, [], _∷_, _++_, append-assoc}
 use Prim.Native.Nat.{ℕ, _+_, _-_, _*_, _/_, _%_, _≤_, _<_}
 use native.Mathlib.Omega.{arith}
@@ -9,7 +9,7 @@ use lib.ListN.{length, take, drop, length-append, length-drop, take-append-drop}
 use lib.Seq.{length-take-le, drop-drop}
 use lib.Dec.{eqb, T, eqb→eq}
 use mir.Val.{boolByte}
-use borrow.Author.Tests.{le-leb, lt-ltb}
+use borrow.Author.Tests.{le-leb, lt-ltb, eq-eqb}
 use Rattle.bytes.specs.Runs.{between}
 use Rattle.bytes.specs.Sets.{hasBit}
 use Rattle.bytes.specs.LittleEndian.{littleEndian, numberOf, width}
@@ -18,9 +18,12 @@ use Rattle.bytes.proofs.LittleEndian.{Bytes, bytes-between, bytes-back, length-
 use Rattle.calendar.proofs.Tests.{every, at-each}
 use Rattle.schedule.specs.declared.Stars.{Stars}
 use Rattle.schedule.specs.declared.Schedule.{Schedule}
+use Rattle.crontab.specs.Words.{same}
+use Rattle.crontab.specs.Offsets.{zoneName}
+use Rattle.normal.specs.Proper.{isItem}
 use Rattle.normal.specs.Meanings.{Item, setting, boot, timed}
-use Rattle.records.specs.Formats.{flagsOf, scheduleBytes, kindOf, bodyOf}
-use Rattle.records.specs.Readings.{numberAt, starsOf, scheduleAt, timedIn, settingIn, means, meant, isSkipped, contentOf}
+use Rattle.records.specs.Formats.{flagsOf, scheduleBytes, settingKindOf, kindOf, bodyOf}
+use Rattle.records.specs.Readings.{numberAt, starsOf, scheduleAt, timedIn, settingIn, means, meant, isSkipped, contentOf, refused}
 use Rattle.records.specs.Writers.{Wide, Encodable}
 use Rattle.records.proofs.Splits.{number-here, number-past}
 
@@ -140,11 +143,26 @@ module _ (name value : List ℕ) (short : length name < width 2) where
         drop-past name-stands,
       )
 
-pub body-back : (i : Item) → Encodable i → contentOf (kindOf i) (bodyOf i) ≡ meant (i ∷ [])
-unfolding contentOf isSkipped kindOf bodyOf
-body-back (timed s command) e = ap meant (timed-back s command e)
-body-back (boot command) e = refl
-body-back (setting name value) e = ap meant (setting-back name value e)
+-- an item has its own kind
+own-kind : (i : Item) → meant (kindOf i) (i ∷ []) ≡ cond (isItem i) (means i) (refused 24)
+unfolding meant
+own-kind i = rw (eq-eqb (kindOf i) (kindOf i) refl)
+
+content-back : (i : Item) → Encodable i → contentOf (kindOf i) (bodyOf i) ≡ meant (kindOf i) (i ∷ [])
+unfolding contentOf isSkipped kindOf settingKindOf bodyOf
+content-back (timed s command) e = ap (meant 1) (timed-back s command e)
+content-back (boot command) e = refl
+content-back (setting name value) e = go (same name zoneName)
+  where
+    body : List ℕ
+    body = littleEndian 2 (length name) ++ (name ++ value)
+
+    go : (t : Bool) → contentOf (cond t 4 3) body ≡ meant (cond t 4 3) (setting name value ∷ [])
+    go true = ap (meant 4) (setting-back name value e)
+    go false = ap (meant 3) (setting-back name value e)
+
+pub body-back : (i : Item) → Encodable i → contentOf (kindOf i) (bodyOf i) ≡ cond (isItem i) (means i) (refused 24)
+body-back i e = content-back i e ∙ own-kind i
 
 -- ---- a body that means an item is that item's
 

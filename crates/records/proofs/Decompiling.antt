@@ -1,7 +1,7 @@
 -- Laws of the walks over records: after a step what is left gives the same. And what comes back, by what is measured.
 -- Assumes nothing.
 use mathlib.Core.Path.{_≡_, refl, sym, ap, _∙_}
-use mathlib.Core.Bool.{Bool, true, false, cond, _&&_, and-true, and-false}
+use mathlib.Core.Bool.{Bool, true, false, cond, _&&_, and-true, and-false, _||_}
 use mathlib.Core.List.{List, [], _∷_, _++_, append-assoc, append-nil}
 use Prim.Native.Nat.{ℕ, zero, suc, _+_, _-_, _≤_}
 use native.Mathlib.Nat.{add-zero}
@@ -25,6 +25,7 @@ use Rattle.records.specs.declared.body.Content as held
 use Rattle.records.specs.declared.body.Content.the-variants.{Skipped, Entry, Setting, Refused}
 use Rattle.records.specs.declared.record.Step.{Step}
 use Rattle.records.specs.declared.decompile.Total.{Total}
+use Rattle.records.specs.Formats.{kindOf}
 use Rattle.records.specs.Readings.{Records, Content, skipped, refused, means, meant, contentOf, timedIn, settingIn, isSkipped}
 use Rattle.records.specs.Readings.{numberAt, lengthAt, isCut, recordsIn, split, Said, afterRecord, saidFrom, saidOf, itemsSaid, refusalSaid, faultSaid}
 use Rattle.records.specs.Readings as said
@@ -39,10 +40,10 @@ SoundContent skipped = Unit {0}
 SoundContent (refused n) = (23 ≤ n) × (n ≤ 24)
 SoundContent (means i) = Unit {0}
 
-meant-sound : (is : List Item) → SoundContent (meant is)
+meant-sound : (kind : ℕ) (is : List Item) → SoundContent (meant kind is)
 unfolding meant
-meant-sound [] = (omega arith, omega arith)
-meant-sound (i ∷ is) = go (isItem i)
+meant-sound kind [] = (omega arith, omega arith)
+meant-sound kind (i ∷ is) = go (eqb (kindOf i) kind && isItem i)
   where
     go : (t : Bool) → SoundContent (cond t (means i) (refused 24))
     go true = tt
@@ -50,14 +51,14 @@ meant-sound (i ∷ is) = go (isItem i)
 
 content-sound : (kind : ℕ) (body : List ℕ) → SoundContent (contentOf kind body)
 unfolding contentOf
-content-sound kind body = go (isSkipped kind) (eqb kind 1) (eqb kind 2) (eqb kind 3)
+content-sound kind body = go (isSkipped kind) (eqb kind 1) (eqb kind 2) (eqb kind 3 || eqb kind 4)
   where
     go : (a b c d : Bool)
-        → SoundContent (cond a skipped (cond b (meant (timedIn body)) (cond c (meant (boot body ∷ [])) (cond d (meant (settingIn body)) (refused 23)))))
+        → SoundContent (cond a skipped (cond b (meant kind (timedIn body)) (cond c (meant kind (boot body ∷ [])) (cond d (meant kind (settingIn body)) (refused 23)))))
     go true b c d = tt
-    go false true c d = meant-sound (timedIn body)
-    go false false true d = meant-sound (boot body ∷ [])
-    go false false false true = meant-sound (settingIn body)
+    go false true c d = meant-sound kind (timedIn body)
+    go false false true d = meant-sound kind (boot body ∷ [])
+    go false false false true = meant-sound kind (settingIn body)
     go false false false false = (omega arith, omega arith)
 
 -- a fault has a refusal, and a record that is no nearer than n

@@ -1,12 +1,10 @@
 -- What a record means: a body has at most the one item whose body it is, and is refused with 24 exactly where no line means it.
 -- Assumes nothing.
 use mathlib.Core.Path.{_≡_, refl, sym, ap, _∙_}
-use mathlib.Core.Bool.{Bool, true, false, cond, _&&_, false≢true, and-eq-true-iff}
+use mathlib.Core.Bool.{Bool, true, false, cond, _&&_, _||_, false≢true, and-eq-true-iff}
 use mathlib.Core.List.{List, [], _∷_}
 use mathlib.Core.Logic.{_⊎_, inl, inr}
 use Prim.Native.Nat.{ℕ, _+_, _≤_}
-use native.Mathlib.Nat.{lt-of-not-le}
-use native.Mathlib.Decide.{decLe}
 use native.Mathlib.Omega.{arith}
 use lib.ListN.{length, drop, length-append}
 use lib.Dec.{eqb, leb, ltb}
@@ -44,100 +42,105 @@ itemOr j (refused n) = j
 itemOr j (means i) = i
 
 -- the one item that is meant
-meant-one : (x i : Item) → meant (x ∷ []) ≡ means i → (isItem i ≡ true) × (x ≡ i)
+meant-one : (kind : ℕ) (x i : Item) → meant kind (x ∷ []) ≡ means i → (isItem i ≡ true) × (x ≡ i) × (kindOf i ≡ kind)
 unfolding meant
-meant-one x i e = go (isItem x) refl e
+meant-one kind x i e = go (eqb (kindOf x) kind) (isItem x) refl refl e
   where
-    go : (t : Bool) → isItem x ≡ t → cond t (means x) (refused 24) ≡ means i → (isItem i ≡ true) × (x ≡ i)
-    go true p e = let q : x ≡ i = ap (itemOr i) e in (rw (← q) p, q)
-    go false p e = absurd (false≢true (ap isMeaning e))
+    go : (a b : Bool) → eqb (kindOf x) kind ≡ a → isItem x ≡ b → cond (a && b) (means x) (refused 24) ≡ means i → (isItem i ≡ true) × (x ≡ i) × (kindOf i ≡ kind)
+    go true true k p e = let q : x ≡ i = ap (itemOr i) e in (rw (← q) p, q, rw (← q) (eqb-true (kindOf x) kind k))
+    go true false k p e = absurd (false≢true (ap isMeaning e))
+    go false b k p e = absurd (false≢true (ap isMeaning e))
 
-meant-none : {A : Type 0} {i : Item} → meant [] ≡ means i → A
+meant-none : {A : Type 0} (kind : ℕ) {i : Item} → meant kind [] ≡ means i → A
 unfolding meant
-meant-none e = absurd (false≢true (ap isMeaning e))
+meant-none kind e = absurd (false≢true (ap isMeaning e))
 
-module _ (body : List ℕ) (i : Item) (bytes : Bytes body) where
-  timed-of : meant (timedIn body) ≡ means i → Body 1 body i
-  unfolding timedIn kindOf bodyOf
+module _ (body : List ℕ) (i : Item) (bytes : Bytes body) (kind : ℕ) where
+  timed-of : meant kind (timedIn body) ≡ means i → Body kind body i
+  unfolding timedIn bodyOf
   timed-of = go (leb 20 (length body) && ltb (numberAt body 19 1) 32) refl
     where
       go : (t : Bool) → (leb 20 (length body) && ltb (numberAt body 19 1) 32) ≡ t
-          → meant (cond t (timed (scheduleAt body) (drop 20 body) ∷ []) []) ≡ means i → Body 1 body i
+          → meant kind (cond t (timed (scheduleAt body) (drop 20 body) ∷ []) []) ≡ means i → Body kind body i
       go true p e =
-          let m = meant-one (timed (scheduleAt body) (drop 20 body)) i e in
+          let m = meant-one kind (timed (scheduleAt body) (drop 20 body)) i e in
           let t = and-eq-true-iff (leb 20 (length body)) (ltb (numberAt body 19 1) 32) .0 p in
           record {
-            same-kind = rw (← (m .1));
+            same-kind = m .2;
             same-body = rw (← (m .1)) (timed-body body bytes (leb-true 20 (length body) (t .0)) (ltb-true (numberAt body 19 1) 32 (t .1)));
             proper = m .0;
           }
-      go false p e = meant-none e
+      go false p e = meant-none kind e
 
-  boot-of : meant (boot body ∷ []) ≡ means i → Body 2 body i
-  unfolding kindOf bodyOf
-  boot-of e = let m = meant-one (boot body) i e in record { same-kind = rw (← (m .1)); same-body = rw (← (m .1)); proper = m .0 }
+  boot-of : meant kind (boot body ∷ []) ≡ means i → Body kind body i
+  unfolding bodyOf
+  boot-of e = let m = meant-one kind (boot body) i e in record { same-kind = m .2; same-body = rw (← (m .1)); proper = m .0 }
 
-  setting-of : meant (settingIn body) ≡ means i → Body 3 body i
-  unfolding settingIn kindOf bodyOf
+  setting-of : meant kind (settingIn body) ≡ means i → Body kind body i
+  unfolding settingIn bodyOf
   setting-of = go (leb 2 (length body) && leb (2 + numberAt body 0 2) (length body)) refl
     where
       value : ℕ
       value = 2 + numberAt body 0 2
 
       go : (t : Bool) → (leb 2 (length body) && leb (2 + numberAt body 0 2) (length body)) ≡ t
-          → meant (cond t (setting (between body 2 (2 + numberAt body 0 2)) (drop (2 + numberAt body 0 2) body) ∷ []) []) ≡ means i → Body 3 body i
+          → meant kind (cond t (setting (between body 2 (2 + numberAt body 0 2)) (drop (2 + numberAt body 0 2) body) ∷ []) []) ≡ means i → Body kind body i
       go true p e =
-          let m = meant-one (setting (between body 2 (2 + numberAt body 0 2)) (drop (2 + numberAt body 0 2) body)) i e in
+          let m = meant-one kind (setting (between body 2 (2 + numberAt body 0 2)) (drop (2 + numberAt body 0 2) body)) i e in
           let t = and-eq-true-iff (leb 2 (length body)) (leb (2 + numberAt body 0 2) (length body)) .0 p in
           record {
-            same-kind = rw (← (m .1));
+            same-kind = m .2;
             same-body = rw (← (m .1)) (setting-body body bytes (leb-true 2 (length body) (t .0)) (leb-true (2 + numberAt body 0 2) (length body) (t .1)));
             proper = m .0;
           }
-      go false p e = meant-none e
+      go false p e = meant-none kind e
 
   -- an item that is meant has that body
-  pub body-of : (kind : ℕ) → contentOf kind body ≡ means i → Body kind body i
+  pub body-of : contentOf kind body ≡ means i → Body kind body i
   unfolding contentOf
-  body-of kind = go (isSkipped kind) (eqb kind 1) (eqb kind 2) (eqb kind 3) refl refl refl
+  body-of = go (isSkipped kind) (eqb kind 1) (eqb kind 2) (eqb kind 3 || eqb kind 4)
     where
-      go : (a b c d : Bool) → eqb kind 1 ≡ b → eqb kind 2 ≡ c → eqb kind 3 ≡ d
-          → cond a skipped (cond b (meant (timedIn body)) (cond c (meant (boot body ∷ [])) (cond d (meant (settingIn body)) (refused 23)))) ≡ means i → Body kind body i
-      go true b c d p q r e = absurd (false≢true (ap isMeaning e))
-      go false true c d p q r e = rw (eqb-true kind 1 p) (timed-of e)
-      go false false true d p q r e = rw (eqb-true kind 2 q) (boot-of e)
-      go false false false true p q r e = rw (eqb-true kind 3 r) (setting-of e)
-      go false false false false p q r e = absurd (false≢true (ap isMeaning e))
+      go : (a b c d : Bool)
+          → cond a skipped (cond b (meant kind (timedIn body)) (cond c (meant kind (boot body ∷ [])) (cond d (meant kind (settingIn body)) (refused 23)))) ≡ means i → Body kind body i
+      go true b c d e = absurd (false≢true (ap isMeaning e))
+      go false true c d e = timed-of e
+      go false false true d e = boot-of e
+      go false false false true e = setting-of e
+      go false false false false e = absurd (false≢true (ap isMeaning e))
 
 -- ---- what a known kind says
 
-meant-told : (is : List Item) → (meant is ≡ refused meaningless) ⊎ ((i : Item) × (meant is ≡ means i))
+meant-told : (kind : ℕ) (is : List Item) → (meant kind is ≡ refused meaningless) ⊎ ((i : Item) × (meant kind is ≡ means i))
 unfolding meant
-meant-told [] = inl refl
-meant-told (i ∷ is) = go (isItem i)
+meant-told kind [] = inl refl
+meant-told kind (i ∷ is) = go (eqb (kindOf i) kind && isItem i)
   where
     go : (t : Bool) → (cond t (means i) (refused 24) ≡ refused 24) ⊎ ((j : Item) × (cond t (means i) (refused 24) ≡ means j))
     go true = inr (i, refl)
     go false = inl refl
 
-kept-kind : (kind : ℕ) → kind ≤ 3 → isSkipped kind ≡ false
+kept-kind : (kind : ℕ) → kind ≤ 4 → isSkipped kind ≡ false
 unfolding isSkipped
 kept-kind kind high = rw (lt-leb skippedFrom kind (omega arith))
 
-pub content-told : (kind : ℕ) (body : List ℕ) → 1 ≤ kind → kind ≤ 3
+pub content-told : (kind : ℕ) (body : List ℕ) → 1 ≤ kind → kind ≤ 4
     → (contentOf kind body ≡ refused meaningless) ⊎ ((i : Item) × (contentOf kind body ≡ means i))
 unfolding contentOf
 content-told kind body low high =
-    rw (kept-kind kind high) (go (eqb kind 1) (eqb kind 2) (eqb kind 3) refl refl refl)
+    rw (kept-kind kind high) (go (eqb kind 1) (eqb kind 2) (eqb kind 3) (eqb kind 4) refl refl refl refl)
   where
-    go : (b c d : Bool) → eqb kind 1 ≡ b → eqb kind 2 ≡ c → eqb kind 3 ≡ d
-        → let x = cond b (meant (timedIn body)) (cond c (meant (boot body ∷ [])) (cond d (meant (settingIn body)) (refused 23))) in
+    go : (a b c d : Bool) → eqb kind 1 ≡ a → eqb kind 2 ≡ b → eqb kind 3 ≡ c → eqb kind 4 ≡ d
+        → let x = cond a (meant kind (timedIn body)) (cond b (meant kind (boot body ∷ [])) (cond (c || d) (meant kind (settingIn body)) (refused 23))) in
         (x ≡ refused 24) ⊎ ((i : Item) × (x ≡ means i))
-    go true c d p q r = meant-told (timedIn body)
-    go false true d p q r = meant-told (boot body ∷ [])
-    go false false true p q r = meant-told (settingIn body)
-    go false false false p q r =
-        absurd (elim (decLe kind 1) [ yes h ↦ eqb-false kind 1 p (omega arith) | no h ↦ elim (decLe kind 2) [ yes k ↦ eqb-false kind 2 q (omega (arith, lt-of-not-le h)) | no k ↦ eqb-false kind 3 r (omega (arith, lt-of-not-le k)) ] ])
+    go true b c d p q r u = meant-told kind (timedIn body)
+    go false true c d p q r u = meant-told kind (boot body ∷ [])
+    go false false true d p q r u = meant-told kind (settingIn body)
+    go false false false true p q r u = meant-told kind (settingIn body)
+    go false false false false p q r u =
+        let past2 : 2 ≤ kind = omega (arith, eqb-false kind 1 p) in
+        let past3 : 3 ≤ kind = omega (arith, past2, eqb-false kind 2 q) in
+        let past4 : 4 ≤ kind = omega (arith, past3, eqb-false kind 3 r) in
+        absurd (eqb-false kind 4 u (omega (arith, past4)))
 
 -- ---- lines
 
@@ -158,7 +161,6 @@ proper-line line i clean e = and-eq-true-iff (isItem i) true .0 (rw e at (line-p
 module _ (kind : ℕ) (body : List ℕ) (bytes : Bytes body) (short : length body ≤ longestBody) where
   -- a line's item is the one that is meant
   pub line-means : (line : List ℕ) (m : LineMeans kind body line) → contentOf kind body ≡ means (m .item)
-  unfolding meant
   line-means line m =
       let proper = proper-line line (m .item) (m .clean) (m .items) in
       let small : length (bodyOf (m .item)) ≤ longestBody = rw (m .same-body) short in
@@ -179,6 +181,6 @@ module _ (kind : ℕ) (body : List ℕ) (bytes : Bytes body) (short : length bod
   pub no-line : contentOf kind body ≡ refused meaningless → (line : List ℕ) → LineMeans kind body line → ⊥
   no-line e line m = false≢true (ap isMeaning (sym e ∙ line-means line m))
 
-  pub no-line-back : 1 ≤ kind → kind ≤ 3 → ((line : List ℕ) → LineMeans kind body line → ⊥) → contentOf kind body ≡ refused meaningless
+  pub no-line-back : 1 ≤ kind → kind ≤ 4 → ((line : List ℕ) → LineMeans kind body line → ⊥) → contentOf kind body ≡ refused meaningless
   no-line-back low high none =
       elim (content-told kind body low high) [ inl e ↦ e | inr (i, e) ↦ absurd (none (itemText i) (means-line i e)) ]

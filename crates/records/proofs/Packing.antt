@@ -19,7 +19,7 @@ use Rattle.crontab.specs.declared.time.When.{When}
 use Rattle.crontab.specs.declared.time.When.the-variants.{Reboot, Timed}
 use Rattle.crontab.specs.Settings.{partBytes}
 use Rattle.normal.specs.Meanings.{setting, entryItem}
-use Rattle.records.specs.Formats.{recordOf, scheduleBytes, kindOf, bodyOf}
+use Rattle.records.specs.Formats.{settingKindOf, recordOf, scheduleBytes, kindOf, bodyOf}
 use Rattle.records.specs.WriterSteps.{headOf, itemRecord, recordPart}
 
 -- ---- numbers
@@ -70,17 +70,17 @@ module _ (when : When) (command : List ℕ) where
 
 module _ (name value : List ℕ) where
   pub setting-record : itemRecord (setting name value)
-      ≡ headOf 3 (2 + length name + length value) ++ (littleEndian 2 (length name) ++ (name ++ value))
+      ≡ headOf (settingKindOf name) (2 + length name + length value) ++ (littleEndian 2 (length name) ++ (name ++ value))
   unfolding kindOf bodyOf
   setting-record =
-      record-framed 3 (2 + length name + length value) (littleEndian 2 (length name) ++ (name ++ value))
+      record-framed (settingKindOf name) (2 + length name + length value) (littleEndian 2 (length name) ++ (name ++ value))
       (omega (arith, length-append (littleEndian 2 (length name)) (name ++ value), length-littleEndian 2 (length name), length-append name value))
 
   pub setting-length : length (itemRecord (setting name value)) ≡ 6 + length name + length value
   setting-length =
       let n = 2 + length name + length value in
       rw setting-record
-      (omega (arith, length-append (headOf 3 n) (littleEndian 2 (length name) ++ (name ++ value)), head-size 3 n, length-append (littleEndian 2 (length name)) (name ++ value), length-littleEndian 2 (length name), length-append name value))
+      (omega (arith, length-append (headOf (settingKindOf name) n) (littleEndian 2 (length name) ++ (name ++ value)), head-size (settingKindOf name) n, length-append (littleEndian 2 (length name)) (name ++ value), length-littleEndian 2 (length name), length-append name value))
 
 -- ---- a line
 

@@ -8,17 +8,18 @@ use native.Mathlib.Nat.{add-zero}
 use native.Mathlib.Omega.{arith}
 use lib.ListN.{length, take, drop, length-drop, length-append}
 use lib.Seq.{take-all, drop-drop}
-use lib.Dec.{leb, ltb}
+use lib.Dec.{eqb, leb, ltb}
 use borrow.Author.Tests.{le-leb, lt-leb, lt-ltb, le-ltb}
 use Rattle.bytes.specs.Runs.{between}
 use Rattle.normal.specs.Meanings.{setting, timed, entryItem}
 use Rattle.normal.specs.Texts.{itemText}
-use Rattle.normal.specs.Proper.{isName, isValue, isCommand, isSchedule, isItem}
+use Rattle.normal.specs.Proper.{isCommand, isSchedule, isItem}
 use Rattle.bytes.specs.LittleEndian.{numberOf}
 use Rattle.crontab.specs.declared.time.When.{When}
 use Rattle.records.specs.declared.body.Content as held
 use Rattle.records.specs.declared.body.Content.the-variants.{Skipped, Entry, Setting, Refused}
 use Rattle.records.specs.declared.record.Step.{Step}
+use Rattle.records.specs.Formats.{kindOf}
 use Rattle.records.specs.Readings.{numberAt, lengthAt, isCut, saidFrom, afterRecord, scheduleAt, timedIn, settingIn, Content, refused, means, meant, contentOf}
 use Rattle.records.specs.ReaderSteps.{found, Within, StepIs, lineFound}
 use Rattle.records.proofs.Splits.{split-cut, split-next}
@@ -26,40 +27,41 @@ use Rattle.records.proofs.Splits.{split-cut, split-next}
 -- ---- a body
 
 module _ (body : List ℕ) where
-  pub timed-short : length body < 20 → refused 24 ≡ meant (timedIn body)
+  pub timed-short : length body < 20 → refused 24 ≡ meant 1 (timedIn body)
   unfolding timedIn meant
   timed-short h = rw (lt-leb 20 (length body) h)
 
-  pub timed-flags : 32 ≤ numberAt body 19 1 → refused 24 ≡ meant (timedIn body)
+  pub timed-flags : 32 ≤ numberAt body 19 1 → refused 24 ≡ meant 1 (timedIn body)
   unfolding timedIn meant
   timed-flags h = rw (le-ltb (numberAt body 19 1) 32 h) (go (leb 20 (length body)))
     where
-      go : (t : Bool) → refused 24 ≡ meant (cond (t && false) (timed (scheduleAt body) (drop 20 body) ∷ []) [])
+      go : (t : Bool) → refused 24 ≡ meant 1 (cond (t && false) (timed (scheduleAt body) (drop 20 body) ∷ []) [])
       go true = refl
       go false = refl
 
   pub timed-meant : 20 ≤ length body → numberAt body 19 1 < 32 → (t : Bool) → (isSchedule (scheduleAt body) && isCommand (drop 20 body)) ≡ t
-      → cond t (means (timed (scheduleAt body) (drop 20 body))) (refused 24) ≡ meant (timedIn body)
-  unfolding timedIn meant isItem
+      → cond t (means (timed (scheduleAt body) (drop 20 body))) (refused 24) ≡ meant 1 (timedIn body)
+  unfolding timedIn meant isItem kindOf
   timed-meant h k t e = rw (le-leb 20 (length body) h, lt-ltb (numberAt body 19 1) 32 k, e)
 
-  pub setting-short : length body < 2 → refused 24 ≡ meant (settingIn body)
+  pub setting-short : (kind : ℕ) → length body < 2 → refused 24 ≡ meant kind (settingIn body)
   unfolding settingIn meant
-  setting-short h = rw (lt-leb 2 (length body) h)
+  setting-short kind h = rw (lt-leb 2 (length body) h)
 
-  pub setting-past : length body < 2 + numberAt body 0 2 → refused 24 ≡ meant (settingIn body)
+  pub setting-past : (kind : ℕ) → length body < 2 + numberAt body 0 2 → refused 24 ≡ meant kind (settingIn body)
   unfolding settingIn meant
-  setting-past h = rw (lt-leb (2 + numberAt body 0 2) (length body) h) (go (leb 2 (length body)))
+  setting-past kind h = rw (lt-leb (2 + numberAt body 0 2) (length body) h) (go (leb 2 (length body)))
     where
-      go : (t : Bool) → refused 24 ≡ meant (cond (t && false) (setting (between body 2 (2 + numberAt body 0 2)) (drop (2 + numberAt body 0 2) body) ∷ []) [])
+      go : (t : Bool) → refused 24 ≡ meant kind (cond (t && false) (setting (between body 2 (2 + numberAt body 0 2)) (drop (2 + numberAt body 0 2) body) ∷ []) [])
       go true = refl
       go false = refl
 
-  pub setting-meant : 2 + numberAt body 0 2 ≤ length body
-      → let value = 2 + numberAt body 0 2 in (t : Bool) → (isName (between body 2 value) && isValue (drop value body)) ≡ t
-      → cond t (means (setting (between body 2 value) (drop value body))) (refused 24) ≡ meant (settingIn body)
-  unfolding settingIn meant isItem
-  setting-meant h t e = rw (le-leb 2 (length body) (omega arith), le-leb (2 + numberAt body 0 2) (length body) h, e)
+  pub setting-meant : (kind : ℕ) → 2 + numberAt body 0 2 ≤ length body
+      → let value = 2 + numberAt body 0 2 in
+      let i = setting (between body 2 value) (drop value body) in
+      (t : Bool) → (eqb (kindOf i) kind && isItem i) ≡ t → cond t (means i) (refused 24) ≡ meant kind (settingIn body)
+  unfolding settingIn meant
+  setting-meant kind h t e = rw (le-leb 2 (length body) (omega arith), le-leb (2 + numberAt body 0 2) (length body) h, e)
 
 -- the rest of a body, as a part of it
 pub rest-part : (s : List ℕ) (at : ℕ) → take (length s - at) (drop at s) ≡ drop at s

@@ -1,18 +1,20 @@
 -- What bytes say, record by record: items that are written are said again; records of skipped kinds say nothing; a later writer's items are said, or the
 -- bytes are refused.
 -- Assumes nothing.
+use Rattle.crontab.specs.Words.{same as equal}
 use mathlib.Core.Path.{_≡_, refl, ap}
 use mathlib.Core.Bool.{Bool, true, false, cond, and-eq-true-iff}
 use mathlib.Core.List.{List, [], _∷_, _++_, append-assoc}
 use Prim.Native.Nat.{ℕ, _+_, _≤_, _<_}
 use native.Mathlib.Omega.{arith}
 use lib.ListN.{length}
-use lib.Dec.{leb}
+use lib.Dec.{eqb}
 use borrow.Author.Tests.{leb-true, ne-eqb}
 use Rattle.bytes.specs.LittleEndian.{width}
+use Rattle.crontab.specs.Offsets.{zoneName}
 use Rattle.normal.specs.Meanings.{Item, setting, boot, timed}
 use Rattle.normal.specs.Proper.{isItem, areItems}
-use Rattle.records.specs.Formats.{recordOf, kindOf, bodyOf, recordsOf}
+use Rattle.records.specs.Formats.{recordOf, settingKindOf, kindOf, bodyOf, recordsOf}
 use Rattle.records.specs.Readings.{Records, Content, skipped, refused, means, meant, contentOf, skippedFrom, isSkipped, split}
 use Rattle.records.specs.Readings.{Said, afterRecord, saidFrom, itemsSaid, refusalSaid}
 use Rattle.records.specs.Readings as said
@@ -86,15 +88,11 @@ pub record Shown (x : Said) (xs : List Sent) : Type 0 where
   pub proper : areItems (itemsSaid x) ≡ true
   pub none : ChangesNone xs
 
-unknown : (kind : ℕ) (body : List ℕ) → isSkipped kind ≡ false → (1 ≤ kind → kind ≤ 3 → ⊥) → contentOf kind body ≡ refused 23
+unknown : (kind : ℕ) (body : List ℕ) → isSkipped kind ≡ false → (1 ≤ kind → kind ≤ 4 → ⊥) → contentOf kind body ≡ refused 23
 unfolding contentOf
 unknown kind body e other =
-    rw (
-      e,
-      ne-eqb kind 1 (λ q. other (omega (arith, q)) (omega (arith, q))),
-      ne-eqb kind 2 (λ q. other (omega (arith, q)) (omega (arith, q))),
-      ne-eqb kind 3 (λ q. other (omega (arith, q)) (omega (arith, q))),
-    )
+    let past : (k : ℕ) → 1 ≤ k → k ≤ 4 → eqb kind k ≡ false = λ k low high. ne-eqb kind k (λ q. other (omega (arith, q)) (omega (arith, q))) in
+    rw (e, past 1 (omega arith) (omega arith), past 2 (omega arith) (omega arith), past 3 (omega arith) (omega arith), past 4 (omega arith) (omega arith))
 
 pub sent-said : (n : ℕ) (xs : List Sent) → Writer xs → refusalSaid (saidFrom n (split (bytesOf (asRecords xs)))) ≡ 0
     → Shown (saidFrom n (split (bytesOf (asRecords xs)))) xs
@@ -140,10 +138,14 @@ Sendable [] = Unit {0}
 Sendable (i ∷ is) = (length (bodyOf i) ≤ longestBody) × Sendable is
 
 kind-small : (i : Item) → kindOf i < width 2
-unfolding kindOf
+unfolding kindOf settingKindOf
 kind-small (timed s command) = omega arith
 kind-small (boot command) = omega arith
-kind-small (setting name value) = omega arith
+kind-small (setting name value) = go (equal name zoneName)
+  where
+    go : (t : Bool) → cond t 4 3 < width 2
+    go true = omega arith
+    go false = omega arith
 
 pub items-said : (n : ℕ) (is : List Item) → areItems is ≡ true → Sendable is → Says (saidFrom n (split (recordsOf is))) is
 unfolding recordsOf areItems itemsSaid refusalSaid saidFrom meant afterRecord

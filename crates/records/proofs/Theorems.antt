@@ -5,10 +5,11 @@
 --   later-writer: a later writer's entries and settings are shown, all of them, in order and with their meaning, or the records are refused
 --   skipped-kinds: records of skipped kinds, taken out or put in, change at most a refusal's line
 --   equal-records: tables that mean the same have the same records
+--   decompile-written: and they are read where the text has room
 --   compiled-told, decompiled-told, fault-told: a refused call changes no byte, and any call keeps the buffer's length; a bad record is one of them
 -- Assumes nothing.
 use mathlib.Core.Path.{_≡_, refl, sym, ap, _∙_}
-use mathlib.Core.Bool.{Bool, true, false, cond, and-eq-true-iff}
+use mathlib.Core.Bool.{Bool, true, false, cond, and-eq-true-iff, _&&_}
 use mathlib.Core.List.{List, [], _∷_, _++_}
 use Prim.Native.Nat.{ℕ, _+_, _*_, _≤_}
 use native.Mathlib.Omega.{arith}
@@ -26,7 +27,10 @@ use Rattle.normal.specs.declared.NormalAnswer.the-variants.{Written, Refused}
 use Rattle.normal.specs.Meanings.{Item, setting, boot, timed, entriesIn, ofUser, meaningOf}
 use Rattle.normal.specs.Texts.{doubleQuote, singleQuote, inQuotes, isBareName, isBareValue, quoted, nameText, valueText, itemText, normalText, areShort, fits}
 use Rattle.normal.specs.NormalForms.{NormalForm, refusedForm, laidForm, formOf, normalForm}
-use Rattle.normal.proofs.Theorems.{FormTold, refused-told, laid-told, items-told, fits-parts, meaning-proper, meaning-few, read-back, written-good, written-means}
+use Rattle.normal.proofs.Theorems.{schedule-long, FormTold, refused-told, laid-told, items-told, fits-parts, meaning-proper, meaning-few, read-back, written-good, written-means}
+use Rattle.normal.specs.Proper.{isSchedule, isCommand, isName, isValue, isItem, areItems}
+use Rattle.crontab.specs.Offsets.{mayStand}
+use Rattle.records.proofs.Packing.{schedule-size}
 use Rattle.records.specs.Refusals.{meaningless}
 use Rattle.records.specs.Formats.{scheduleBytes, recordOf, bodyOf, recordsOf}
 use Rattle.records.specs.Readings.{refused, contentOf, split, saidOf, itemsSaid, refusalSaid}
@@ -39,7 +43,7 @@ use Rattle.records.proofs.Saids.{Alike, kept-alike, sent-said, Says, Se
 -- ---- 24
 
 -- "a body no table line of any length could mean"
-pub means-no-line : (kind : ℕ) (body : List ℕ) → Bytes body → length body ≤ longestBody → 1 ≤ kind → kind ≤ 3
+pub means-no-line : (kind : ℕ) (body : List ℕ) → Bytes body → length body ≤ longestBody → 1 ≤ kind → kind ≤ 4
     → (contentOf kind body ≡ refused meaningless → (line : List ℕ) → LineMeans kind body line → ⊥)
     × (((line : List ℕ) → LineMeans kind body line → ⊥) → contentOf kind body ≡ refused meaningless)
 means-no-line kind body bytes short low high = (no-line kind body bytes short, no-line-back kind body bytes short low high)
@@ -220,16 +224,29 @@ later-writer xs text size w e =
 
 -- ---- what comes back
 
--- a record has at most 24 bytes more than the line
-records-short : (is : List Item) → length (recordsOf is) ≤ 25 * length (normalText is)
-unfolding recordsOf recordOf normalText
-records-short [] = omega arith
-records-short (i ∷ is) =
+-- a record has at most 7 bytes for 3 of its line, as `A=` has
+record-short : (i : Item) → isItem i ≡ true → 3 * (4 + length (bodyOf i)) ≤ 7 * (length (itemText i) + 1)
+unfolding isItem isName isCommand bodyOf itemText nameText valueText
+record-short (timed s command) e =
+    let t = and-eq-true-iff (isSchedule s) (isCommand command) .0 e in
+    simp (length-append, schedule-size s) (omega (arith, schedule-long s (t .0)))
+record-short (boot command) e = simp length-append (omega arith)
+record-short (setting name value) e =
+    let some = leb-true 1 (length name) (and-eq-true-iff (leb 1 (length name)) _ .0 (and-eq-true-iff (isName name) (isValue value && mayStand name value) .0 e .0) .0) in
     simp (length-append, length-littleEndian)
-    (omega (arith, body-short i, records-short is, length-append (itemText i) (10 ∷ normalText is)))
+    (omega (arith, some, part-longer (isBareName name) name, part-longer (isBareValue value) value))
 
+records-short : (is : List Item) → areItems is ≡ true → 3 * length (recordsOf is) ≤ 7 * length (normalText is)
+unfolding recordsOf recordOf normalText areItems
+records-short [] e = omega arith
+records-short (i ∷ is) e =
+    let t = and-eq-true-iff (isItem i) (areItems is) .0 e in
+    simp (length-append, length-littleEndian)
+    (omega (arith, record-short i (t .0), records-short is (t .1), length-append (itemText i) (10 ∷ normalText is)))
+
+-- EREMOTHYN_MAX_COMPILED
 abbrev pub mostRecords : ℕ
-mostRecords = 25 * maxTable
+mostRecords = 114688
 
 pub compiled-told : (s buffer : List ℕ) → FormTold mostRecords buffer (compiled s buffer)
 unfolding compiled
@@ -237,7 +254,7 @@ compiled-told s buffer = go (eqb (tableOf ofUser s .refusal) 0) (fits (meaningOf
   where
     go : (a b : Bool) → eqb (tableOf ofUser s .refusal) 0 ≡ a → fits (meaningOf s) ≡ b
         → FormTold mostRecords buffer (cond a (cond b (laidForm (recordsOf (meaningOf s)) buffer) (refusedForm 21 buffer)) (refusedForm (tableOf ofUser s .refusal) buffer))
-    go true true p q = laid-told mostRecords (recordsOf (meaningOf s)) buffer (omega (arith, records-short (meaningOf s), fits-parts (meaningOf s) q .small))
+    go true true p q = laid-told mostRecords (recordsOf (meaningOf s)) buffer (omega (arith, records-short (meaningOf s) (meaning-proper s (eqb-true (tableOf ofUser s .refusal) 0 p)), fits-parts (meaningOf s) q .small))
     go true false p q = refused-told mostRecords 21 buffer (omega arith)
     go false b p q = refused-told mostRecords (tableOf ofUser s .refusal) buffer (omega (arith, eqb-false (tableOf ofUser s .refusal) 0 p))
 

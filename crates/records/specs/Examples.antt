@@ -58,6 +58,9 @@ tables : Hold records
     ∷ (text "@reboot  x y ", 6 ∷ 0 ∷ 2 ∷ 0 ∷ text "x y ")
     -- kind 3: a name of 2 bytes, and the value without its quotes
     ∷ (text "AB = 'cd '", 9 ∷ 0 ∷ 3 ∷ 0 ∷ 2 ∷ 0 ∷ text "ABcd ")
+    -- kind 4, with kind 3's body
+    ∷ (text "\"CRON_TZ\" = +05:30", 17 ∷ 0 ∷ 4 ∷ 0 ∷ 7 ∷ 0 ∷ text "CRON_TZ+05:30")
+    ∷ (text "CRON_T=+05:30", 16 ∷ 0 ∷ 3 ∷ 0 ∷ 6 ∷ 0 ∷ text "CRON_T+05:30")
     -- in order, without comments
     ∷ (text "#\nA=\n@reboot x\nA=", text "" ++ (5 ∷ 0 ∷ 3 ∷ 0 ∷ 1 ∷ 0 ∷ 65 ∷ 3 ∷ 0 ∷ 2 ∷ 0 ∷ 120 ∷ 5 ∷ 0 ∷ 3 ∷ 0 ∷ 1 ∷ 0 ∷ 65 ∷ []))
     ∷ [])
@@ -116,9 +119,9 @@ read : Hold decompile
     ∷ (1 ∷ 0 ∷ 2 ∷ [], bad 22 1)
     ∷ (4 ∷ 0 ∷ 2 ∷ 0 ∷ 120 ∷ [], bad 22 1)
     ∷ (3 ∷ 0 ∷ 9 ∷ 0 ∷ [], bad 22 1)
-    -- 23: kinds 0 and 4, and the last below 32,768
+    -- 23: kinds 0 and 5, and the last below 32,768
     ∷ (2 ∷ 0 ∷ 0 ∷ 0 ∷ [], bad 23 1)
-    ∷ (good ++ (2 ∷ 0 ∷ 4 ∷ 0 ∷ []), bad 23 2)
+    ∷ (good ++ (2 ∷ 0 ∷ 5 ∷ 0 ∷ []), bad 23 2)
     ∷ (2 ∷ 0 ∷ 255 ∷ 127 ∷ [], bad 23 1)
     -- 24: a body too short; a command that is empty or starts with a blank; a newline, and byte 0
     ∷ (3 ∷ 0 ∷ 1 ∷ 0 ∷ 120 ∷ [], bad 24 1)
@@ -133,6 +136,12 @@ read : Hold decompile
     -- a name and a value that no quotes can hold
     ∷ (6 ∷ 0 ∷ 3 ∷ 0 ∷ 2 ∷ 0 ∷ text "\"'", bad 24 1)
     ∷ (7 ∷ 0 ∷ 3 ∷ 0 ∷ 1 ∷ 0 ∷ text "A\"'", bad 24 1)
+    -- kind 4 with another name, kind 3 with `CRON_TZ`, and a kind 4 whose value is no offset
+    ∷ (6 ∷ 0 ∷ 4 ∷ 0 ∷ 1 ∷ 0 ∷ text "A1", bad 24 1)
+    ∷ (17 ∷ 0 ∷ 3 ∷ 0 ∷ 7 ∷ 0 ∷ text "CRON_TZ+01:00", bad 24 1)
+    ∷ (17 ∷ 0 ∷ 4 ∷ 0 ∷ 7 ∷ 0 ∷ text "CRON_TZ+1:000", bad 24 1)
+    -- which is 15 bytes long
+    ∷ (17 ∷ 0 ∷ 4 ∷ 0 ∷ 7 ∷ 0 ∷ text "CRON_TZ+01:00", bad 18 0)
     -- the first bad record, and its first refusal
     ∷ (2 ∷ 0 ∷ 9 ∷ 0 ∷ 2 ∷ 0 ∷ 2 ∷ 0 ∷ 1 ∷ [], bad 23 1)
     -- a length of 0; a record that would be skipped, cut short

@@ -2,11 +2,14 @@
 -- Assumes nothing.
 use Prim.Native.Nat.{ℕ, _+_, _*_}
 use mathlib.Core.List.{List, [], _∷_, _++_}
+use mathlib.Core.Bool.{cond}
 use lib.ListN.{length}
 use mir.Val.{boolByte}
 use Rattle.bytes.specs.LittleEndian.{littleEndian}
 use Rattle.schedule.specs.declared.Stars.{Stars}
 use Rattle.schedule.specs.declared.Schedule.{Schedule}
+use Rattle.crontab.specs.Words.{same}
+use Rattle.crontab.specs.Offsets.{zoneName}
 use Rattle.normal.specs.Meanings.{Item, setting, boot, timed}
 
 unfoldable pub recordOf : ℕ → List ℕ → List ℕ
@@ -44,10 +47,18 @@ bootKind = 2
 abbrev pub settingKind : ℕ
 settingKind = 3
 
+-- ticket 2026-09: "in records it is kind 4, with kind 3's body"
+abbrev pub zoneKind : ℕ
+zoneKind = 4
+
+-- a setting's, by its name
+unfoldable pub settingKindOf : List ℕ → ℕ
+settingKindOf name = cond (same name zoneName) zoneKind settingKind
+
 unfoldable pub kindOf : Item → ℕ
 kindOf (timed s command) = timedKind
 kindOf (boot command) = bootKind
-kindOf (setting name value) = settingKind
+kindOf (setting name value) = settingKindOf name
 
 -- "then the raw command"; "`@reboot` command"; "two-byte name length, name, value"
 unfoldable pub bodyOf : Item → List ℕ

@@ -14,7 +14,7 @@ use Rattle.schedule.specs.declared.Schedule.{Schedule}
 use Rattle.normal.specs.Meanings.{Item, setting, boot, timed}
 use Rattle.normal.specs.Proper.{isItem}
 use Rattle.records.specs.Refusals.{cutShort, unknownKind, meaningless}
-use Rattle.records.specs.Formats.{timedKind, bootKind, settingKind}
+use Rattle.records.specs.Formats.{timedKind, bootKind, settingKind, zoneKind, kindOf}
 
 -- the number in so many bytes at a place
 unfoldable pub numberAt : List ℕ → ℕ → ℕ → ℕ
@@ -87,10 +87,10 @@ pub data Content : Type 0 where
   refused : ℕ → Content
   means : Item → Content
 
--- of a known kind: a body that is no item's, or an item that no line means
-unfoldable pub meant : List Item → Content
-meant [] = refused meaningless
-meant (i ∷ is) = cond (isItem i) (means i) (refused meaningless)
+-- of a known kind: a body that is no item's, an item of another kind, or one that no line means
+unfoldable pub meant : ℕ → List Item → Content
+meant kind [] = refused meaningless
+meant kind (i ∷ is) = cond (eqb (kindOf i) kind && isItem i) (means i) (refused meaningless)
 
 -- "kinds from 32,768 are skipped"
 abbrev pub skippedFrom : ℕ
@@ -102,9 +102,9 @@ isSkipped kind = leb skippedFrom kind
 unfoldable pub contentOf : ℕ → List ℕ → Content
 contentOf kind body =
     cond (isSkipped kind) skipped
-    (cond (eqb kind timedKind) (meant (timedIn body))
-    (cond (eqb kind bootKind) (meant (boot body ∷ []))
-    (cond (eqb kind settingKind) (meant (settingIn body))
+    (cond (eqb kind timedKind) (meant kind (timedIn body))
+    (cond (eqb kind bootKind) (meant kind (boot body ∷ []))
+    (cond (eqb kind settingKind || eqb kind zoneKind) (meant kind (settingIn body))
     (refused unknownKind))))
 
 -- ---- what they say, one after the other

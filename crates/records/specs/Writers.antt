@@ -1,4 +1,4 @@
--- What the theorems of ticket 2026-08 speak of: a line that means a body; whole records, and a later writer, "which keeps kinds 1 to 3 and gives numbers from
+-- What the theorems of ticket 2026-08 speak of: a line that means a body; whole records, and a later writer, "which keeps kinds 1 to 4 and gives numbers from
 -- 32,768 only to what changes no entry".
 -- Assumes nothing.
 use mathlib.Core.Path.{_≡_}
@@ -13,7 +13,7 @@ use Rattle.bytes.specs.LittleEndian.{width}
 use Rattle.schedule.specs.declared.Schedule.{Schedule}
 use Rattle.normal.specs.Meanings.{Item, setting, boot, timed, lineItems}
 use Rattle.records.specs.Formats.{recordOf, kindOf, bodyOf}
-use Rattle.records.specs.Readings.{skippedFrom, isSkipped}
+use Rattle.records.specs.Readings.{skippedFrom}
 
 -- ---- a line, whatever its length
 
@@ -55,7 +55,7 @@ kept (r ∷ rs) = let more = kept rs in cond (leb skippedFrom (r .kind)) more (r
 -- ---- a later writer
 
 pub data Sent : Type 0 where
-  -- a setting or an entry of kinds 1 to 3
+  -- a setting or an entry of kinds 1 to 4
   same : Item → Sent
   -- what today's reader doesn't know, in another kind; from 32,768 on it changes no entry
   new : Record → Sent
@@ -82,10 +82,10 @@ unfoldable pub asRecords : List Sent → List Record
 asRecords [] = []
 asRecords (x ∷ xs) = asRecord x ∷ asRecords xs
 
--- kinds 1 to 3 are kept
+-- kinds 1 to 4 are kept
 abbrev pub Keeps : Sent → Type 0
 Keeps (same i) = Encodable i
-Keeps (new r) = 1 ≤ r .kind → r .kind ≤ 3 → ⊥
+Keeps (new r) = 1 ≤ r .kind → r .kind ≤ 4 → ⊥
 
 abbrev pub Writer : List Sent → Type 0
 Writer [] = Unit {0}

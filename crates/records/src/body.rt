@@ -4,9 +4,10 @@ ghost use mathlib.Core.Bool.{_&&_};
 ghost use mathlib.Core.List.{[], _∷_};
 ghost use Prim.Native.Nat.{_≤_};
 ghost use lib.ListN.{length, drop};
-ghost use Rattle.bytes.specs.Runs.{between};
-ghost use Rattle.normal.specs.Meanings.{boot};
-ghost use Rattle.normal.specs.Proper.{isName, isValue, isCommand, isSchedule};
+ghost use lib.Dec.{eqb};
+ghost use Rattle.normal.specs.Meanings.{boot, setting};
+ghost use Rattle.normal.specs.Proper.{isCommand, isSchedule, isItem};
+ghost use Rattle.records.specs.Formats.{kindOf};
 ghost use Rattle.records.specs.Readings.{starsOf, scheduleAt, timedIn, settingIn, meant, isSkipped, contentOf};
 ghost use Rattle.records.specs.ReaderSteps.{found, Within};
 use crate::BOOT;
@@ -15,13 +16,17 @@ use crate::SCHEDULE_SIZE;
 use crate::SETTING;
 use crate::TIMED;
 use crate::UNKNOWN_KIND;
+use crate::ZONE;
+use crate::kind;
 use bytes::little_endian;
 use bytes::set;
 use crontab::time::When;
+use normal::line::part;
 use normal::proper::is_command;
 use normal::proper::is_name;
 use normal::proper::is_schedule;
 use normal::proper::is_value;
+use normal::proper::is_zoned;
 use schedule::Schedule;
 use schedule::Stars;
 
@@ -78,7 +83,7 @@ fn is_timed(body: &[u8], s: Schedule) -> bool
 }
 
 fn timed(body: &[u8]) -> Content
-    ensures { λ r. ⌜ (found (now (body .entry)) r ≡ meant (timedIn (now (body .entry)))) × Within (now (body .entry)) r ⌝ }
+    ensures { λ r. ⌜ (found (now (body .entry)) r ≡ meant 1 (timedIn (now (body .entry)))) × Within (now (body .entry)) r ⌝ }
 {
     if body.len() < SCHEDULE_SIZE {
         return Content::Refused {
@@ -101,7 +106,7 @@ fn timed(body: &[u8]) -> Content
 }
 
 fn boot(body: &[u8]) -> Content
-    ensures { λ r. ⌜ (found (now (body .entry)) r ≡ meant (boot (now (body .entry)) ∷ [])) × Within (now (body .entry)) r ⌝ }
+    ensures { λ r. ⌜ (found (now (body .entry)) r ≡ meant 2 (boot (now (body .entry)) ∷ [])) × Within (now (body .entry)) r ⌝ }
 {
     if is_command(body) {
         return Content::Entry {
@@ -114,21 +119,20 @@ fn boot(body: &[u8]) -> Content
     }
 }
 
-// Whether a line can mean the name and the value that starts at a place.
-fn is_setting(body: &[u8], value: usize) -> bool
-    requires { ⌜ (2 ≤ value) × (value ≤ length (now body)) ⌝ }
-    ensures { λ r. ⌜ r ≡ (isName (between (now (body .entry)) 2 value) && isValue (drop value (now (body .entry)))) ⌝ }
+// Whether a line can mean a setting, and this is the kind for its name.
+fn is_setting(name: &[u8], value: &[u8], kind: u16) -> bool
+    ensures { λ r. ⌜ r ≡ (eqb (kindOf (setting (now (name .entry)) (now (value .entry)))) kind && isItem (setting (now (name .entry)) (now (value .entry)))) ⌝ }
 {
-    is_name(&body[2..value]) & is_value(&body[value..])
+    (kind::of_setting(name) == kind) & (is_name(name) & (is_value(value) & is_zoned(name, value)))
 }
 
-fn setting(body: &[u8]) -> Content
-    ensures { λ r. ⌜ (found (now (body .entry)) r ≡ meant (settingIn (now (body .entry)))) × Within (now (body .entry)) r ⌝ }
+fn setting(body: &[u8], kind: u16) -> Content
+    ensures { λ r. ⌜ (found (now (body .entry)) r ≡ meant kind (settingIn (now (body .entry)))) × Within (now (body .entry)) r ⌝ }
 {
     if 2 <= body.len() {
         let value = 2 + little_endian::read(body, 0, 2) as usize;
         if value <= body.len() {
-            if is_setting(body, value) {
+            if is_setting(part(body, 2, value), part(body, value, body.len()), kind) {
                 return Content::Setting { value };
             }
         }
@@ -157,8 +161,8 @@ pub fn read(body: &[u8], kind: u16) -> Content
     if kind == BOOT {
         return boot(body);
     }
-    if kind == SETTING {
-        return setting(body);
+    if (kind == SETTING) | (kind == ZONE) {
+        return setting(body, kind);
     }
     Content::Refused {
         number: UNKNOWN_KIND,

@@ -2,6 +2,7 @@
 mod body;
 pub mod compile;
 pub mod decompile;
+mod kind;
 mod line;
 mod pack;
 mod record;
@@ -19,6 +20,9 @@ const TIMED: u16 = 1;
 const BOOT: u16 = 2;
 
 const SETTING: u16 = 3;
+
+// A setting `CRON_TZ`.
+const ZONE: u16 = 4;
 
 // The sets and the flags of a timed entry stand before its command.
 const SCHEDULE_SIZE: usize = 20;

@@ -7,12 +7,12 @@ ghost use Rattle.bytes.specs.Laid.{Wrote};
 ghost use Rattle.crontab.specs.Limits.{maxTable};
 ghost use Rattle.normal.specs.Meanings.{setting, entryItem};
 ghost use Rattle.normal.specs.Steps.{Within};
-ghost use Rattle.records.specs.Formats.{flagsOf, scheduleBytes};
+ghost use Rattle.records.specs.Formats.{flagsOf, scheduleBytes, settingKindOf};
 ghost use Rattle.records.specs.WriterSteps.{headOf, itemRecord, recordPart};
 use crate::BOOT;
 use crate::SCHEDULE_SIZE;
-use crate::SETTING;
 use crate::TIMED;
+use crate::kind;
 use bytes::little_endian;
 use bytes::write;
 use crontab::item::Item;
@@ -97,11 +97,11 @@ fn write_schedule(s: Schedule, out: &mut [u8], at: usize) -> usize
     little_endian::write(out, at, flags(stars), 1)
 }
 
-fn write_setting(name: &[u8], value: &[u8], out: &mut [u8], at: usize) -> usize
-    requires { ⌜ at + length (itemRecord (setting (now name) (now value))) ≤ length (now out) ⌝ }
+fn write_setting(kind: u16, name: &[u8], value: &[u8], out: &mut [u8], at: usize) -> usize
+    requires { ⌜ (kind ≡ settingKindOf (now name)) × (at + length (itemRecord (setting (now name) (now value))) ≤ length (now out)) ⌝ }
     ensures { λ r. ⌜ Wrote at (itemRecord (setting (now (name .entry)) (now (value .entry)))) (now (out .entry)) r (now (out .exit)) ⌝ }
 {
-    let at = write_head(SETTING, 2 + name.len() + value.len(), out, at);
+    let at = write_head(kind, 2 + name.len() + value.len(), out, at);
     let at = little_endian::write(out, at, name.len() as u64, 2);
     let at = write::copy(out, at, name);
     write::copy(out, at, value)
@@ -133,7 +133,7 @@ pub(crate) fn write_record(s: &[u8], item: Item, out: &mut [u8], at: usize) -> u
         Item::Setting { name, value } => {
             let name = part(s, name.start, name.end);
             let value = part(s, value.start, value.end);
-            write_setting(name, value, out, at)
+            write_setting(kind::of_setting(name), name, value, out, at)
         }
         Item::Entry(e) => {
             let command = part(s, e.start as usize, e.end as usize);

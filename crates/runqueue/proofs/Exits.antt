@@ -1,18 +1,17 @@
 -- Laws of the three calls: what they come to where the table is refused, and where it isn't.
 -- Assumes nothing.
+use Rattle.fifo.specs.declared.Ticked.the-variants.{Refused as NotTicked}
+use Rattle.fifo.specs.declared.Popped.the-variants.{Refused as NotPopped}
 use mathlib.Core.Path.{_≡_, sym, _∙_}
 use mathlib.Core.Bool.{cond}
 use mathlib.Core.List.{List, []}
 use Prim.Native.Nat.{ℕ, _≤_, _<_}
 use borrow.Author.Tests.{eq-eqb, ne-eqb}
 use Rattle.crontab.specs.declared.table.Table.{Table}
-use Rattle.calendar.specs.declared.Date.{Date}
-use Rattle.calendar.specs.Dates.{dateAt, lastMinute}
-use Rattle.crontab.specs.declared.chosen.Which.the-variants.{AtBoot, On}
+use Rattle.calendar.specs.Dates.{lastMinute}
+use Rattle.crontab.specs.declared.chosen.Which.the-variants.{AtBoot, At}
 use Rattle.crontab.specs.Limits.{maxEntries}
 use Rattle.crontab.specs.Choices.{chosenIn}
-use Rattle.fifo.specs.declared.Ticked.the-variants.{Refused as NotTicked}
-use Rattle.fifo.specs.declared.Popped.the-variants.{Refused as NotPopped}
 use Rattle.fifo.specs.Refusals.{notALine, offCalendar}
 use Rattle.fifo.specs.Layout.{isLine}
 use Rattle.fifo.specs.Steps.{initStep, tickStep, popStep}
@@ -57,11 +56,11 @@ module _ (t : Table) (few : t .count ≤ maxEntries) (room : List ℕ) (good : t
   unfolding chosenIn jobsOf
   init-called = init-good t room good ∙ sym (init-marked (jobsOf t) (chosenIn AtBoot t .marks) room (marked-boot t few))
 
-  pub tick-called : (minute : ℕ) (date : Date) → date ≡ dateAt minute → minute ≤ lastMinute
-      → tickTable t minute room ≡ tickMarked (chosenIn (On date) t .count) (chosenIn (On date) t .marks) room
+  pub tick-called : (minute : ℕ) → minute ≤ lastMinute
+      → tickTable t minute room ≡ tickMarked (chosenIn (At minute) t .count) (chosenIn (At minute) t .marks) room
   unfolding chosenIn jobsOf
-  tick-called minute date on h =
-      tick-good t room good minute ∙ sym (tick-marked (jobsOf t) (chosenIn (On date) t .marks) room minute (marked-due t few minute date on) h)
+  tick-called minute h =
+      tick-good t room good minute ∙ sym (tick-marked (jobsOf t) (chosenIn (At minute) t .marks) room minute (marked-due t few minute h) h)
 
   pub tick-off : (minute : ℕ) → lastMinute < minute
       → tickTable t minute room ≡ record { answer = NotTicked (cond (isLine (t .count) room) offCalendar notALine); room = room }

@@ -4,32 +4,32 @@ use mathlib.Core.Path.{_≡_, refl, _∙_}
 use mathlib.Core.Bool.{true, false, not, _&&_}
 use Prim.Native.Nat.{ℕ, _≤_, _<_}
 use native.Mathlib.Omega.{arith}
-use borrow.Author.Tests.{lt-ltb}
+use borrow.Author.Tests.{lt-ltb, le-leb}
 use Rattle.bytes.specs.Marks.{marked}
 use Rattle.bytes.proofs.Marks.{marks-marked}
-use Rattle.calendar.specs.declared.Date.{Date}
-use Rattle.calendar.specs.Dates.{dateAt}
-use Rattle.schedule.specs.Match.{matchesDate, matches}
+use Rattle.calendar.specs.Dates.{lastMinute}
+use Rattle.schedule.specs.Local.{ahead, matchesIn}
 use Rattle.crontab.specs.declared.time.When.{When}
 use Rattle.crontab.specs.declared.time.When.the-variants.{Reboot, Timed}
 use Rattle.crontab.specs.declared.entry.Entry.{Entry}
 use Rattle.crontab.specs.declared.table.Table.{Table}
 use Rattle.crontab.specs.declared.chosen.Which.{Which}
-use Rattle.crontab.specs.declared.chosen.Which.the-variants.{AtBoot, On}
+use Rattle.crontab.specs.declared.chosen.Which.the-variants.{AtBoot, At}
 use Rattle.crontab.specs.Limits.{maxEntries}
-use Rattle.crontab.specs.Firings.{byWhen, isBoot, firesOn, firesAt}
+use Rattle.crontab.specs.Firings.{byWhen, isBoot, firesAt}
 use Rattle.crontab.specs.Choices.{isChosen, markWords, choice, chosenIn}
 use Rattle.runqueue.specs.Jobs.{jobAt, jobsOf}
 
--- an entry that matches the date of a minute is time-based and fires at that minute
-fires-timed : (e : Entry) (minute : ℕ) (date : Date) → date ≡ dateAt minute → firesOn e date ≡ (not (isBoot e) && firesAt e minute)
-unfolding isBoot firesOn firesAt matches
-fires-timed e minute date p = go (e .when)
+-- an entry that fires at a minute is time-based
+fires-timed : (e : Entry) (minute : ℕ) → firesAt e minute ≡ (not (isBoot e) && firesAt e minute)
+unfolding isBoot firesAt
+fires-timed e minute = go (e .when)
   where
     go : (w : When)
-        → byWhen w false (λ s. matchesDate s date) ≡ (not (byWhen w true (λ s. false)) && byWhen w false (λ s. matchesDate s (dateAt minute)))
+        → byWhen w false (λ s. matchesIn s (ahead (e .offset)) minute)
+        ≡ (not (byWhen w true (λ s. false)) && byWhen w false (λ s. matchesIn s (ahead (e .offset)) minute))
     go Reboot = refl
-    go (Timed s) = rw p
+    go (Timed s) = refl
 
 module _ (t : Table) (few : t .count ≤ maxEntries) where
   -- an entry's mark
@@ -41,7 +41,7 @@ module _ (t : Table) (few : t .count ≤ maxEntries) where
   unfolding isChosen jobsOf
   marked-boot e h = marked-at AtBoot e h
 
-  pub marked-due : (minute : ℕ) (date : Date) → date ≡ dateAt minute → (e : ℕ) → e < t .count
-      → marked (chosenIn (On date) t .marks) e ≡ (not (jobsOf t .boot e) && jobsOf t .matches e minute)
+  pub marked-due : (minute : ℕ) → minute ≤ lastMinute → (e : ℕ) → e < t .count
+      → marked (chosenIn (At minute) t .marks) e ≡ (not (jobsOf t .boot e) && jobsOf t .matches e minute)
   unfolding isChosen jobsOf
-  marked-due minute date on e h = marked-at (On date) e h ∙ fires-timed (jobAt t e) minute date on
+  marked-due minute on e h = marked-at (At minute) e h ∙ rw (le-leb minute lastMinute on) (fires-timed (jobAt t e) minute)

@@ -7,13 +7,13 @@ use mathlib.Core.List.{List}
 use Prim.Native.Nat.{ℕ, _+_, _≤_, _<_}
 use native.Mathlib.Omega.{arith}
 use borrow.Author.Tests.{lt-ltb}
-use Rattle.calendar.specs.Dates.{lastMinute, cycleMinutes}
+use Rattle.calendar.specs.Dates.{cycleMinutes}
 use Rattle.schedule.specs.declared.Schedule.{Schedule}
 use Rattle.schedule.specs.Match.{matches}
 use Rattle.schedule.specs.Next.{canFire}
-use Rattle.schedule.specs.Gap.{gap}
+use Rattle.schedule.specs.Local.{gapIn, matchesIn}
 use Rattle.schedule.proofs.Search.{from-some}
-use Rattle.schedule.proofs.Gap.{fires-within}
+use Rattle.schedule.proofs.Theorems.{fires-within-in}
 use Rattle.crontab.specs.declared.Rules.{Rules}
 use Rattle.crontab.specs.declared.time.When.{When}
 use Rattle.crontab.specs.declared.time.When.the-variants.{Reboot, Timed}
@@ -21,24 +21,25 @@ use Rattle.crontab.specs.Tables.{tableOf}
 use Rattle.crontab.specs.Firings.{byWhen, isBoot, firesAt}
 use Rattle.crontab.proofs.Theorems.{table-sound}
 use Rattle.fifo.specs.Layout.{limit}
-use Rattle.fifo.specs.Fairness.{Soon, bound}
+use Rattle.fifo.specs.Fairness.{Soon}
 use Rattle.runqueue.specs.Jobs.{jobAt, jobsOf}
-use Rattle.runqueue.specs.Demand.{jobsIn, CanFire}
+use Rattle.runqueue.specs.Demand.{jobsIn, CanFire, aheadOf, OnCalendar}
 
 fires : (s : Schedule) (m : ℕ) → m < cycleMinutes → matches s m ≡ true → canFire s ≡ true
 unfolding canFire
 fires s m h t = lt-ltb _ _ (from-some (matches s) cycleMinutes 0 m (omega arith) h t)
 
 -- an entry that can fire has a match soon
-pub soon : (rules : Rules) (table : List ℕ) (e t : ℕ) → CanFire rules table e → t + bound (jobsIn rules table) gap ≤ lastMinute → Soon (jobsIn rules table) gap e t
+pub soon : (rules : Rules) (table : List ℕ) (e t : ℕ) → CanFire rules table e → OnCalendar rules table e t
+    → Soon (jobsIn rules table) (gapIn (aheadOf rules table e) t) e t
 unfolding Soon jobsOf isBoot firesAt
-soon rules table e t f h = go (jobAt (tableOf rules table) e .when) refl (f .timed) (f .matched)
+soon rules table e t f on = go (jobAt (tableOf rules table) e .when) refl (f .timed) (f .matched)
   where
     go : (w : When) → jobAt (tableOf rules table) e .when ≡ w → byWhen w true (λ s. false) ≡ false → byWhen w false (λ s. matches s (f .minute)) ≡ true
-        → (m : ℕ) × (t < m) × (m ≤ t + gap) × (byWhen (jobAt (tableOf rules table) e .when) false (λ s. matches s m) ≡ true)
+        → (m : ℕ) × (t < m) × (m ≤ t + gapIn (aheadOf rules table e) t) × (byWhen (jobAt (tableOf rules table) e .when) false (λ s. matchesIn s (aheadOf rules table e) m) ≡ true)
     go Reboot p b m = absurd (true≢false b)
     go (Timed s) p b m =
-        let (n, u, v, x) = fires-within s (fires s (f .minute) (f .cycle) m) t (omega (arith, f .entry)) in
+        let (n, u, v, x) = fires-within-in s (aheadOf rules table e) (fires s (f .minute) (f .cycle) m) t (omega (arith, f .entry, on .local)) in
         (n, u, v, rw p x)
 
 -- and they are few

@@ -1,6 +1,8 @@
 -- The third demand holds: fifo's theorems, by table bytes. The claims are in specs/Demand. And what the three calls can
 -- answer, and that a refused one leaves the room as it was.
 -- Assumes nothing.
+use Rattle.fifo.specs.declared.Ticked.the-variants.{Refused as NotTicked}
+use Rattle.fifo.specs.declared.Popped.the-variants.{Refused as NotPopped}
 use mathlib.Core.Path.{_≡_, refl}
 use mathlib.Core.Bool.{Bool, true, false, cond}
 use mathlib.Core.List.{List}
@@ -10,22 +12,20 @@ use native.Mathlib.Omega.{arith}
 use lib.Dec.{eqb}
 use borrow.Author.Tests.{eq-eqb, eqb-false, lt-ltb, le-leb}
 use Rattle.calendar.specs.Dates.{lastMinute}
-use Rattle.schedule.specs.Gap.{gap}
+use Rattle.schedule.specs.Local.{gapIn}
 use Rattle.crontab.specs.declared.Rules.{Rules}
 use Rattle.crontab.specs.declared.table.Table.{Table}
 use Rattle.crontab.specs.Tables.{tableOf, entryIn}
 use Rattle.crontab.specs.Firings.{dueOf, dueAnswer, dueIn}
 use Rattle.crontab.proofs.Theorems.{table-sound}
 use Rattle.fifo.specs.declared.Ticked.{Ticked}
-use Rattle.fifo.specs.declared.Ticked.the-variants.{Refused as NotTicked}
 use Rattle.fifo.specs.declared.Popped.{Popped}
-use Rattle.fifo.specs.declared.Popped.the-variants.{Refused as NotPopped}
 use Rattle.fifo.specs.Steps.{Step, initStep, tickStep, popStep}
 use Rattle.fifo.proofs.Theorems as fifo
 use Rattle.fifo.proofs.Theorems.{TickedWithin, PoppedWithin, init-within, tick-within, pop-within, fair-from, fair, refused-only, fair-in-buffer, fair-steady}
 use Rattle.runqueue.specs.Jobs.{jobAt, jobsOf}
 use Rattle.runqueue.specs.Calls.{initTable, tickTable, popTable}
-use Rattle.runqueue.specs.Demand.{jobsIn, TableDue, TableFair, TableFairFrom, TableSteps, TableStepsGood, TableRefusedOnly, TableFairInBuffer, TableFairSteady}
+use Rattle.runqueue.specs.Demand.{jobsIn, TableDue, TableFair, TableFairFrom, TableSteps, TableStepsGood, TableRefusedOnly, TableFairInBuffer, TableFairSteady, aheadOf}
 use Rattle.runqueue.proofs.Exits.{init-good, tick-good, pop-good}
 use Rattle.runqueue.proofs.TableJobs.{soon, few}
 
@@ -114,12 +114,12 @@ module _ (t : Table) (room : List ℕ) (n : ℕ) where
 -- the third demand, from any line of the table
 pub table-fair-from : TableFairFrom
 table-fair-from rules table e t l second f entries follows end =
-    fair-from (jobsIn rules table) gap e t l second (few rules table) (f .entry) (f .timed) (soon rules table e t f end) entries follows
+    fair-from (jobsIn rules table) (gapIn (aheadOf rules table e) t) e t l second (few rules table) (f .entry) (f .timed) (soon rules table e t f end) entries follows
 
 -- from its fresh line: the third demand as it is said
 pub table-fair : TableFair
 table-fair rules table e t first second f follows end =
-    fair (jobsIn rules table) gap e t first second (few rules table) (f .entry) (f .timed) (soon rules table e t f end) follows
+    fair (jobsIn rules table) (gapIn (aheadOf rules table e) t) e t first second (few rules table) (f .entry) (f .timed) (soon rules table e t f end) follows
 
 -- a call is refused only for too little room or for a minute off the calendar
 pub table-refused-only : TableRefusedOnly
@@ -128,10 +128,10 @@ table-refused-only rules table cs g = refused-only (jobsIn rules table) cs (few 
 -- in one buffer
 pub table-fair-in-buffer : TableFairInBuffer
 table-fair-in-buffer rules table e t size buffer first second f r end =
-    fair-in-buffer (jobsIn rules table) gap e t size buffer first second (few rules table) (f .entry) (f .timed) (soon rules table e t f end) r
+    fair-in-buffer (jobsIn rules table) (gapIn (aheadOf rules table e) t) e t size buffer first second (few rules table) (f .entry) (f .timed) (soon rules table e t f end) r
 
 -- in the steady list
 pub table-fair-steady : TableFairSteady
 unfolding jobsOf
 table-fair-steady rules table e t size buffer first f r end =
-    fair-steady (jobsIn rules table) gap e t size buffer first (few rules table) (f .entry) (f .timed) (soon rules table e t f end) r end
+    fair-steady (jobsIn rules table) (gapIn (aheadOf rules table e) t) e t size buffer first (few rules table) (f .entry) (f .timed) (soon rules table e t f end) r (end .utc)

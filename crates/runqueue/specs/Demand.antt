@@ -8,11 +8,12 @@ use mathlib.Core.Bool.{true, false, cond}
 use mathlib.Core.List.{List, _++_}
 use lib.ListN.{take}
 use Rattle.calendar.specs.Dates.{lastMinute, cycleMinutes}
-use Rattle.schedule.specs.Gap.{gap}
+use Rattle.schedule.specs.Match.{matches}
+use Rattle.schedule.specs.Local.{ahead, gapIn}
 use Rattle.crontab.specs.declared.Rules.{Rules}
 use Rattle.crontab.specs.declared.firing.DueAnswer.the-variants.{Yes, No}
 use Rattle.crontab.specs.Tables.{tableOf}
-use Rattle.crontab.specs.Firings.{dueIn}
+use Rattle.crontab.specs.Firings.{byWhen, dueIn}
 use Rattle.fifo.specs.WaitingLine.{entriesOf}
 use Rattle.fifo.specs.Layout.{roomy}
 use Rattle.fifo.specs.Steps.{Jobs, fresh, initStep, tickStep, popStep}
@@ -20,20 +21,37 @@ use Rattle.fifo.specs.Fairness.{Call, Follows, unrefused, Paced, upTo, Names, b
 use Rattle.fifo.specs.RefusedCalls.{Expected}
 use Rattle.fifo.specs.Buffer.{Use, callsOn, bufferAfterAll, started}
 use Rattle.fifo.specs.Steady.{steady}
-use Rattle.runqueue.specs.Jobs.{jobsOf}
+use Rattle.runqueue.specs.Jobs.{jobAt, jobsOf}
 use Rattle.runqueue.specs.Calls.{initTable, tickTable, popTable}
 
 -- the jobs that a table's bytes say, read by the rules for its kind
 abbrev pub jobsIn : Rules → List ℕ → Jobs
 jobsIn rules table = jobsOf (tableOf rules table)
 
--- a time-based entry that some minute of the cycle matches
+-- a time-based entry that some minute of the cycle matches, as its local minute
 pub record CanFire (rules : Rules) (table : List ℕ) (e : ℕ) : Type 0 where
   pub entry : e < jobsIn rules table .count
   pub timed : jobsIn rules table .boot e ≡ false
   pub minute : ℕ
   pub cycle : minute < cycleMinutes
-  pub matched : jobsIn rules table .matches e minute ≡ true
+  pub matched : byWhen (jobAt (tableOf rules table) e .when) false (λ s. matches s minute) ≡ true
+
+-- ---- ticket 2026-09
+
+-- the offset that an entry is under, as a number from 0 to 1,560
+abbrev pub aheadOf : Rules → List ℕ → ℕ → ℕ
+aheadOf rules table e = ahead (jobAt (tableOf rules table) e .offset)
+
+-- "where t falls before 1970 locally, 720 minutes are added to its bound"
+abbrev pub boundFrom : Rules → List ℕ → ℕ → ℕ → ℕ
+boundFrom rules table e t = bound (jobsIn rules table) (gapIn (aheadOf rules table e) t)
+
+-- "the last minute in the third demand must be on the calendar locally too"
+pub record OnCalendar (rules : Rules) (table : List ℕ) (e t : ℕ) : Type 0 where
+  pub utc : t + boundFrom rules table e t ≤ lastMinute
+  pub local : t + boundFrom rules table e t + aheadOf rules table e ≤ lastMinute + 720
+
+-- ---- the claims
 
 -- the third demand
 abbrev pub TableFair : Type 0
@@ -41,9 +59,9 @@ TableFair = (rules : Rules) (table : List ℕ) (e t : ℕ) (first second : List 
     → let jobs = jobsIn rules table in
     CanFire rules table e
     → Follows jobs (fresh jobs) (first ++ second)
-    → t + bound jobs gap ≤ lastMinute
-    → Paced (t + 1) (bound jobs gap) true (unrefused jobs second)
-    → Names jobs e (upTo (bound jobs gap) (unrefused jobs second))
+    → OnCalendar rules table e t
+    → Paced (t + 1) (boundFrom rules table e t) true (unrefused jobs second)
+    → Names jobs e (upTo (boundFrom rules table e t) (unrefused jobs second))
 
 -- the same from any line of the table, such as one that was left when the table was changed
 abbrev pub TableFairFrom : Type 0
@@ -52,9 +70,9 @@ TableFairFrom = (rules : Rules) (table : List ℕ) (e t : ℕ) (l : List ℕ) (s
     CanFire rules table e
     → entriesOf (jobs .count) l ≡ true
     → Follows jobs l second
-    → t + bound jobs gap ≤ lastMinute
-    → Paced (t + 1) (bound jobs gap) true (unrefused jobs second)
-    → Names jobs e (upTo (bound jobs gap) (unrefused jobs second))
+    → OnCalendar rules table e t
+    → Paced (t + 1) (boundFrom rules table e t) true (unrefused jobs second)
+    → Names jobs e (upTo (boundFrom rules table e t) (unrefused jobs second))
 
 -- what the three functions promise for a table is the steps of which the claims speak
 abbrev pub ByTheSteps : Rules → List ℕ → Type 0
@@ -89,9 +107,9 @@ TableFairInBuffer = (rules : Rules) (table : List ℕ) (e t : ℕ) (size : ℕ) 
     → let jobs = jobsIn rules table in
     CanFire rules table e
     → roomy (jobs .count) (take size buffer) ≡ true
-    → t + bound jobs gap ≤ lastMinute
+    → OnCalendar rules table e t
     → let calls = unrefused jobs (callsOn jobs (bufferAfterAll jobs (started jobs size buffer) first) second) in
-    Paced (t + 1) (bound jobs gap) true calls → Names jobs e (upTo (bound jobs gap) calls)
+    Paced (t + 1) (boundFrom rules table e t) true calls → Names jobs e (upTo (boundFrom rules table e t) calls)
 
 -- the claim with no hypothesis about calls: whatever went before, each minute is announced and one request follows
 abbrev pub TableFairSteady : Type 0
@@ -99,5 +117,5 @@ TableFairSteady = (rules : Rules) (table : List ℕ) (e t size : ℕ) (buffer : 
     → let jobs = jobsIn rules table in
     CanFire rules table e
     → roomy (jobs .count) (take size buffer) ≡ true
-    → t + bound jobs gap ≤ lastMinute
-    → Names jobs e (upTo (bound jobs gap) (callsOn jobs (bufferAfterAll jobs (started jobs size buffer) first) (steady size (t + 1) (bound jobs gap))))
+    → OnCalendar rules table e t
+    → Names jobs e (upTo (boundFrom rules table e t) (callsOn jobs (bufferAfterAll jobs (started jobs size buffer) first) (steady size (t + 1) (boundFrom rules table e t))))

@@ -28,8 +28,7 @@ pub fn tick(table: &[u8], rules: Rules, room: &mut [u8], minute: u64) -> Ticked
     ensures answer { λ r. ⌜ r ≡ tickTable (tableOf rules (now (table .entry))) minute (now (room .entry)) .answer ⌝ }
     ensures room { λ _. ⌜ now (room .exit) ≡ tickTable (tableOf rules (now (table .entry))) minute (now (room .entry)) .room ⌝ }
 {
-    let date = calendar::date_of(minute).date;
-    let jobs = chosen::read(table, rules, Which::On(date));
+    let jobs = chosen::read(table, rules, Which::At(minute));
     let refusal = jobs.refusal;
     if refusal != 0 {
         return Ticked::Refused(refusal);

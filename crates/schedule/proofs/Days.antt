@@ -15,19 +15,19 @@ use Rattle.schedule.specs.declared.Schedule.{Schedule}
 use Rattle.bytes.specs.Sets.{hasBit}
 use Rattle.schedule.specs.Match.{matchesDay, matchesOn}
 use Rattle.schedule.specs.Search.{from}
-use Rattle.schedule.specs.Days.{matchesIn, MonthAfter}
+use Rattle.schedule.specs.Days.{matchesInMonth, MonthAfter}
 use Rattle.schedule.proofs.Search.{from-none, from-same, from-part, from-behind}
 use Rattle.schedule.proofs.Dates.{month-lengths}
 
 -- no day matches in a month that isn't in the set
-pub month-out : (s : Schedule) (month first day : ℕ) → hasBit (s .months) month ≡ false → matchesIn s month first day ≡ false
-unfolding matchesIn matchesDay
+pub month-out : (s : Schedule) (month first day : ℕ) → hasBit (s .months) month ≡ false → matchesInMonth s month first day ≡ false
+unfolding matchesInMonth matchesDay
 month-out s month first day e = rw e
 
 -- a day of month number c matches as a day within its month
 pub month-day : (s : Schedule) (c day : ℕ) → 23640 ≤ c → c < 120000 → firstOf c ≤ day → day < firstOf c + lengthOf c
-    → matchesIn s (c % 12 + 1) (firstOf c) day ≡ matchesOn s day
-unfolding matchesIn matchesOn
+    → matchesInMonth s (c % 12 + 1) (firstOf c) day ≡ matchesOn s day
+unfolding matchesInMonth matchesOn
 month-day s c day h k u v =
     let j = day - firstOf c in
     let l : j < lengthOf c = omega arith in
@@ -75,7 +75,7 @@ module _ {s : Schedule} {day c first at : ℕ} (g : Searching s day c first at) 
       let e : c + 1 + (120000 - (c + 1)) ≡ 120000 = omega arith in
       omega (arith, g .start, month-next c (g .low), month-mono (c + 1) (120000 - (c + 1)) (omega (arith, g .low)), ap firstOf e, months-end)
 
-  module _ {l f : ℕ} (el : l ≡ lengthOf c) (ef : f ≡ from (matchesIn s (c % 12 + 1) first) (first + l) at) where
+  module _ {l f : ℕ} (el : l ≡ lengthOf c) (ef : f ≡ from (matchesInMonth s (c % 12 + 1) first) (first + l) at) where
     in-month : f ≡ from (matchesOn s) (first + l) at
     in-month =
         ef
@@ -124,7 +124,7 @@ pub searching-skip : {s : Schedule} {day c first : ℕ} (n : ℕ) → Searching 
 searching-skip {s} {day} {c} {first} zero g h none = let e : c + 0 ≡ c = omega arith in rw (e, ← (g .start)) g
 searching-skip {s} {day} {c} {first} (suc n) g h none =
     let e : c + suc n ≡ c + 1 + n = omega arith in
-    let out = from-none (matchesIn s (c % 12 + 1) first) (first + lengthOf c) first (omega arith) (λ k _ _. month-out s (c % 12 + 1) first k (none c (omega arith) (omega arith))) in
+    let out = from-none (matchesInMonth s (c % 12 + 1) first) (first + lengthOf c) first (omega arith) (λ k _ _. month-out s (c % 12 + 1) first k (none c (omega arith) (omega arith))) in
     let on = searching-on g (rw (g .start) (begins-on c (g .low) (omega arith))) refl refl (omega (arith, out)) in
     rw e (searching-skip n on (omega arith) (λ i u v. none i (omega arith) (omega arith)))
 
@@ -140,7 +140,7 @@ month-starts c h k = elim (decLe 120000 c) [ yes e ↦ last (omega arith) | no e
 
 -- from a month in which nothing was found to the next one of the set
 pub searching-after : {s : Schedule} {day c first at l f r : ℕ} → Searching s day c first at → at < calendarDays
-    → l ≡ lengthOf c → f ≡ from (matchesIn s (c % 12 + 1) first) (first + l) at → first + l ≤ f
+    → l ≡ lengthOf c → f ≡ from (matchesInMonth s (c % 12 + 1) first) (first + l) at → first + l ≤ f
     → MonthAfter s c r → Searching s day r (monthStart r) (monthStart r)
 searching-after {s} {day} {c} {first} {at} {l} {f} {r} g h el ef none m =
     let e : c + 1 + (r - (c + 1)) ≡ r = omega (arith, m .later) in

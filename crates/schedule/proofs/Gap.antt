@@ -79,6 +79,16 @@ can-fire s =
     (λ t. let p = fires-some s t in rw (p .0, p .1))
     (λ t. let p = and-true (someTime s) (someDay s) t in some-fires s (p .0) (p .1))
 
+-- a schedule that matches any minute of the calendar matches one of the cycle
+pub matching-fires : (s : Schedule) (n : ℕ) → n ≤ lastMinute → matches s n ≡ true → canFire s ≡ true
+matching-fires s n h t =
+    let p = and-true (matchesOn s (n / 1440)) (matchesAt s (n % 1440)) (sym (matches-parts s n) ∙ t) in
+    rw (
+      can-fire s,
+      lt-ltb _ _ (from-some (matchesAt s) 1440 0 (n % 1440) (omega arith) (omega arith) (p .1)),
+      matching-some s (n / 1440) (omega arith) (p .0),
+    )
+
 -- ---- the gap
 
 -- A schedule that some minute of the cycle matches has a matching minute in each window of `gap` minutes on the calendar.

@@ -30,7 +30,7 @@ unfoldable pub firesAt : Schedule → ℕ → ℕ → Bool
 firesAt s m n =
     ever s && (ltb m lastMinute && (ltb ((m + 1) / 1440 + 1) calendarDays && (ltb (dayFrom s 500 ((m + 1) / 1440 + 1)) calendarDays && eqb (quick s 500 m) n)))
 
-T-true : (b : Bool) → T b → b ≡ true
+pub T-true : (b : Bool) → T b → b ≡ true
 T-true true t = refl
 T-true false t = absurd t
 

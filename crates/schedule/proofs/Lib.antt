@@ -7,8 +7,13 @@ pub mod Possible
 pub mod Gap
 pub mod Firing
 pub mod Clocks
+pub mod Offsets
+pub mod LocalMinutes
+pub mod LocalFirings
+pub mod LocalTheorems
 pub mod MonthSets
 pub mod NextMonths
 pub mod Quick
 pub mod KnownDays
+pub mod KnownLocalDays
 pub mod Theorems

@@ -15,7 +15,7 @@ use Rattle.schedule.specs.declared.Schedule.{Schedule}
 use Rattle.calendar.specs.Dates.{weekdayOf}
 use Rattle.schedule.specs.Match.{bothMust, byDayRule, matchesDay}
 use Rattle.schedule.specs.Search.{from}
-use Rattle.schedule.specs.Days.{matchesIn, weekly, monthSet}
+use Rattle.schedule.specs.Days.{matchesInMonth, weekly, monthSet}
 use Rattle.schedule.proofs.Search.{from-least, least-from}
 
 -- ---- week by week
@@ -95,14 +95,14 @@ month-has s w d h k l = go (bothMust s)
 -- ---- the least day of a month
 
 module _ (s : Schedule) (month first end : ℕ) (chosen : hasBit (s .months) month ≡ true) (short : end ≤ first + 31) where
-  set-day : (day : ℕ) → first ≤ day → day < end → matchesIn s month first day ≡ hasBit (monthSet s ((first + 4) % 7)) (day - first + 1)
-  unfolding matchesIn matchesDay weekdayOf
+  set-day : (day : ℕ) → first ≤ day → day < end → matchesInMonth s month first day ≡ hasBit (monthSet s ((first + 4) % 7)) (day - first + 1)
+  unfolding matchesInMonth matchesDay weekdayOf
   set-day day h k =
       let e : ((first + 4) % 7 + (day - first + 1 - 1)) % 7 ≡ (day + 4) % 7 = omega arith in
       rw chosen (sym (month-has s ((first + 4) % 7) (day - first + 1) (omega arith) (omega arith) (omega arith) ∙ rw e))
 
   pub day-by-set : (at : ℕ) → first ≤ at → at ≤ end
-      → first + from (hasBit (monthSet s ((first + 4) % 7))) (end - first + 1) (at - first + 1) - 1 ≡ from (matchesIn s month first) end at
+      → first + from (hasBit (monthSet s ((first + 4) % 7))) (end - first + 1) (at - first + 1) - 1 ≡ from (matchesInMonth s month first) end at
   day-by-set at h k =
       let n = from (hasBit (monthSet s ((first + 4) % 7))) (end - first + 1) (at - first + 1) in
       let l = from-least (hasBit (monthSet s ((first + 4) % 7))) (end - first + 1) (at - first + 1) (omega arith) in

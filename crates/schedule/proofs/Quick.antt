@@ -13,7 +13,7 @@ use Rattle.schedule.specs.declared.Schedule.{Schedule}
 use Rattle.schedule.specs.declared.Next.the-variants.{At}
 use Rattle.schedule.specs.Match.{matchesOn, matchesAt}
 use Rattle.schedule.specs.Search.{from}
-use Rattle.schedule.specs.Days.{matchesIn}
+use Rattle.schedule.specs.Days.{matchesInMonth}
 use Rattle.schedule.specs.Next.{firingAfter}
 use Rattle.schedule.proofs.Search.{digits-here, digits-later}
 use Rattle.schedule.proofs.Days.{Searching, searching-starts, searching-found, searching-on}
@@ -24,7 +24,7 @@ unfoldable pub monthsFrom : Schedule → ℕ → ℕ → ℕ → ℕ → ℕ
 monthsFrom s zero c first at = calendarDays
 monthsFrom s (suc n) c first at =
     let end = first + lengthOf c in
-    let found = from (matchesIn s (c % 12 + 1) first) end at in
+    let found = from (matchesInMonth s (c % 12 + 1) first) end at in
     let later = monthsFrom s n (c + 1) end end in
     let here = cond (ltb found end) found later in
     cond (ltb at calendarDays) here calendarDays
@@ -36,7 +36,7 @@ months-found s zero g h = absurd (omega arith)
 months-found s (suc n) {day} {c} {first} {at} g h = go (ltb at calendarDays) (ltb f (first + lengthOf c)) refl refl (λ k l. months-found s n k l) h
   where
     f : ℕ
-    f = from (matchesIn s (c % 12 + 1) first) (first + lengthOf c) at
+    f = from (matchesInMonth s (c % 12 + 1) first) (first + lengthOf c) at
 
     go : (a b : Bool) → ltb at calendarDays ≡ a → ltb f (first + lengthOf c) ≡ b
         → (Searching s day (c + 1) (first + lengthOf c) (first + lengthOf c)

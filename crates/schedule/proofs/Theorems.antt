@@ -7,38 +7,36 @@
 --   gap-is, gap-reached: the number, and that it is exactly reached
 --   known-days: the next firings among paper 01's known days
 --   slow-agrees: a plain clock walk, minute by minute, comes to the same at every entry and minute
+-- And under an offset from UTC:
+--   local-date: a local date serves as well as the minute
+--   utc-same, utc-next: an offset of 0 changes nothing
+--   next-at-in, next-never-in, next-past-in: the next firing, all of it in UTC; next-is-in: and what one that is told is
+--   matching-fires-in, next-on-calendar-in: as without an offset
+--   known-days-in: next firings around the ends of the local calendar
+--   gap-on, gap-before, fires-within-in, next-within-in: silent for at most `gap` minutes, and 720 more from before 1970 locally
+--   matches-before, matches-at, matches-after: under an offset a minute matches by its local minute, and by none off the calendar
 -- Assumes nothing.
-use mathlib.Core.Path.{_≡_, refl, sym, _∙_}
+use mathlib.Core.Path.{_≡_, refl}
 use mathlib.Core.Bool.{Bool, true, false, cond}
-use Prim.Native.Nat.{ℕ, _+_, _/_, _%_, _≤_, _<_}
+use Prim.Native.Nat.{ℕ, _+_, _≤_, _<_}
 use native.Mathlib.Nat.{lt-of-not-le}
 use native.Mathlib.Decide.{decLe}
 use native.Mathlib.Omega.{arith}
 use lib.Dec.{leb}
-use borrow.Author.Tests.{le-leb, lt-leb, lt-ltb, leb-true}
+use borrow.Author.Tests.{le-leb, lt-leb, leb-true}
 use Rattle.calendar.specs.Dates.{lastMinute, cycleMinutes}
-use Rattle.calendar.proofs.Tests.{and-true}
 use Rattle.schedule.specs.declared.Schedule.{Schedule}
 use Rattle.schedule.specs.declared.Next.the-variants.{At, Never, PastEnd}
-use Rattle.schedule.specs.Match.{matches, matchesOn, matchesAt}
+use Rattle.schedule.specs.Match.{matches}
 use Rattle.schedule.specs.Search.{from}
 use Rattle.schedule.specs.Next.{canFire, firingAfter, nextAfter}
-use Rattle.schedule.proofs.Search.{Least, least-from, from-none, from-past, from-some}
-use Rattle.schedule.proofs.Possible.{matching-some}
-use Rattle.schedule.proofs.Gap.{matches-parts}
-pub use Rattle.schedule.proofs.Gap.{can-fire, fires-within, next-within}
+use Rattle.schedule.proofs.Search.{Least, least-from, from-none, from-past}
+pub use Rattle.schedule.proofs.Gap.{can-fire, matching-fires, fires-within, next-within}
 pub use Rattle.schedule.proofs.KnownDays.{known-days, gap-is, gap-reached}
 pub use Rattle.schedule.proofs.Clocks.{slow-agrees}
-
--- a schedule that matches any minute of the calendar matches one of the cycle
-pub matching-fires : (s : Schedule) (n : ℕ) → n ≤ lastMinute → matches s n ≡ true → canFire s ≡ true
-matching-fires s n h t =
-    let p = and-true (matchesOn s (n / 1440)) (matchesAt s (n % 1440)) (sym (matches-parts s n) ∙ t) in
-    rw (
-      can-fire s,
-      lt-ltb _ _ (from-some (matchesAt s) 1440 0 (n % 1440) (omega arith) (omega arith) (p .1)),
-      matching-some s (n / 1440) (omega arith) (p .0),
-    )
+pub use Rattle.schedule.proofs.KnownLocalDays.{known-days-in}
+pub use Rattle.schedule.proofs.LocalMinutes.{matches-before, matches-at, matches-after}
+pub use Rattle.schedule.proofs.LocalTheorems.{local-date, utc-same, utc-next, next-at-in, next-never-in, next-past-in, next-is-in, matching-fires-in, next-on-calendar-in, gap-on, gap-before, fires-within-in, next-within-in}
 
 -- the least matching minute after m, up to the calendar's last
 pub next-at : (s : Schedule) (m n : ℕ) → m < n → n ≤ lastMinute → matches s n ≡ true

@@ -5,9 +5,10 @@ use Rattle.bytes.specs.Sets.{hasBit, withBit, withAll, setOf, fromOn, upTo}
 use Rattle.calendar.specs.Computing.{dating}
 use Rattle.schedule.specs.Match.{bothMust, byDayRule, matchesDay, matchesTime, matchesDate, matches, isDue, matchesOn, matchesAt}
 use Rattle.schedule.specs.Search.{leastOf, from}
-use Rattle.schedule.specs.Days.{matchesIn, hasDate, someDay}
+use Rattle.schedule.specs.Days.{matchesInMonth, hasDate, someDay}
+use Rattle.schedule.specs.Local.{localOf, matchesIn, localDate, matchesLocal}
 
 unfoldable pub firing : Unit {0}
 unfolding hasBit withBit withAll setOf fromOn upTo dating bothMust byDayRule matchesDay matchesTime matchesDate matches isDue matchesOn
-    matchesAt leastOf from matchesIn hasDate someDay
+    matchesAt leastOf from matchesInMonth hasDate someDay localOf matchesIn localDate matchesLocal
 firing = tt

@@ -14,8 +14,8 @@ use Rattle.schedule.specs.Match.{bothMust, matchesDay}
 use Rattle.schedule.specs.Search.{from}
 
 -- a day, counted from 1970-01-01, of a month whose first day is `first`
-unfoldable pub matchesIn : Schedule → ℕ → ℕ → ℕ → Bool
-matchesIn s month first day = matchesDay s month (day - first + 1) (weekdayOf day)
+unfoldable pub matchesInMonth : Schedule → ℕ → ℕ → ℕ → Bool
+matchesInMonth s month first day = matchesDay s month (day - first + 1) (weekdayOf day)
 
 -- the weekdays' set week by week, six times: bit n has the weekday that comes n days after a Sunday
 unfoldable pub weekly : ℕ → ℕ

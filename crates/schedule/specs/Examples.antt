@@ -59,9 +59,19 @@ oddMondays = fields (0 ∷ []) (0 ∷ []) (1 ∷ 3 ∷ 5 ∷ 7 ∷ 9 ∷ 11 ∷ 
 unfoldable pub leapSundays : Schedule
 leapSundays = fields (0 ∷ []) (0 ∷ []) (29 ∷ []) (2 ∷ []) (0 ∷ []) (starsAt false false true)
 
+-- `0 18 * * *`
+unfoldable pub evenings : Schedule
+evenings = fields (0 ∷ []) (18 ∷ []) (upTo 1 31) (upTo 1 12) (upTo 0 6) (starsAt true true true)
+
+-- `* * * * *`
+unfoldable pub everyMinute : Schedule
+everyMinute =
+    fields (upTo 0 59) (upTo 0 23) (upTo 1 31) (upTo 1 12) (upTo 0 6)
+    (record { minutes = true; hours = true; days = true; months = true; weekdays = true })
+
 -- all of them, to be computed
 unfoldable pub schedules : Unit {0}
-unfolding firing leapDay fridays february30 mondays30 lastDay mondays oddMondays leapSundays
+unfolding firing leapDay fridays february30 mondays30 lastDay mondays oddMondays leapSundays evenings everyMinute
 schedules = tt
 
 -- which minutes match

@@ -5,5 +5,7 @@ pub mod Next
 pub mod Clocks
 pub mod Days
 pub mod Gap
+pub mod Local
 pub mod Computing
 pub mod Examples
+pub mod LocalExamples

@@ -4,7 +4,7 @@ ghost use Prim.Native.Nat.{_+_, _≤_, _<_};
 ghost use Rattle.calendar.specs.Dates.{calendarDays};
 ghost use Rattle.schedule.specs.Match.{bothMust, matchesDay, matchesOn};
 ghost use Rattle.schedule.specs.Search.{from};
-ghost use Rattle.schedule.specs.Days.{matchesIn, monthSet, MonthAfter};
+ghost use Rattle.schedule.specs.Days.{matchesInMonth, monthSet, MonthAfter};
 use crate::Schedule;
 use crate::set::next;
 use bytes::set::has;
@@ -52,7 +52,7 @@ fn month_set(s: Schedule, weekday: u64) -> u64
 // The least matching day from `at` on in a month that is the days from `first` to before `end`; `end` where there is none.
 fn day_in_month(s: Schedule, month: u64, first: u64, at: u64, end: u64) -> u64
     requires { ⌜ (first ≤ at) × (at ≤ end) × (end ≤ calendarDays) × (end ≤ first + 31) ⌝ }
-    ensures { λ r. ⌜ r ≡ from (matchesIn s month first) end at ⌝ }
+    ensures { λ r. ⌜ r ≡ from (matchesInMonth s month first) end at ⌝ }
 {
     if has(s.months as u64, month) {
         let set = month_set(s, (first + 4) % 7);

@@ -1,14 +1,16 @@
 // What an entry's five sets mean (paper 01, "Match"): whether a minute matches, and when the entry fires next.
 pub mod clock;
 mod day;
+pub mod local;
 mod never;
 mod set;
 mod time;
 
 ghost use mathlib.Core.Path.{_≡_};
-ghost use Prim.Native.Nat.{_<_};
-ghost use Rattle.calendar.specs.Dates.{calendarDays};
-ghost use Rattle.schedule.specs.Match.{matchesDate, isDue, matchesOn};
+ghost use Prim.Native.Nat.{_+_, _≤_, _<_};
+ghost use Rattle.calendar.specs.Dates.{calendarDays, lastMinute};
+ghost use Rattle.schedule.specs.Match.{matchesDate, matches, isDue, matchesOn};
+ghost use Rattle.schedule.specs.Search.{from};
 ghost use Rattle.schedule.specs.Next.{firingAfter, nextAfter, refusalOf, minuteIn};
 use calendar::CALENDAR_DAYS;
 use calendar::DAY_MINUTES;
@@ -105,23 +107,35 @@ fn matches_on(s: Schedule, day: u64) -> bool
     matches_day(s, date.month, date.day, date.weekday)
 }
 
-// The least matching minute after a minute: in the rest of that minute's day, or the first time of a later day.
+// The least matching minute from `start` on, in the rest of its day or the first time of a later day; the minute after the calendar's last
+// where none is left.
+pub(crate) fn minute_from(s: Schedule, start: u64) -> u64
+    requires { ⌜ start ≤ lastMinute ⌝ }
+    ensures { λ r. ⌜ r ≡ from (matches s) (lastMinute + 1) start ⌝ }
+{
+    let day = start / DAY_MINUTES;
+    let time = time_from(s, start % DAY_MINUTES);
+    if matches_on(s, day) & (time < DAY_MINUTES) {
+        return day * DAY_MINUTES + time;
+    }
+    let later = day_from(s, day + 1);
+    let first = time_from(s, 0);
+    if (later < CALENDAR_DAYS) & (first < DAY_MINUTES) {
+        return later * DAY_MINUTES + first;
+    }
+    LAST_MINUTE + 1
+}
+
+// The least matching minute after a minute.
 fn firing_after(s: Schedule, minute: u64) -> Next
     ensures { λ r. ⌜ r ≡ firingAfter s minute ⌝ }
 {
     if LAST_MINUTE <= minute {
         return Next::PastEnd;
     }
-    let start = minute + 1;
-    let day = start / DAY_MINUTES;
-    let time = time_from(s, start % DAY_MINUTES);
-    if matches_on(s, day) & (time < DAY_MINUTES) {
-        return Next::At(day * DAY_MINUTES + time);
-    }
-    let later = day_from(s, day + 1);
-    let first = time_from(s, 0);
-    if (later < CALENDAR_DAYS) & (first < DAY_MINUTES) {
-        return Next::At(later * DAY_MINUTES + first);
+    let found = minute_from(s, minute + 1);
+    if found <= LAST_MINUTE {
+        return Next::At(found);
     }
     Next::PastEnd
 }

@@ -114,6 +114,7 @@ int main(void)
         "@reboot u heaters on\n",
         "1,4-9,11-59/2 0-5,7,9-23/3 1-15/2,20,25-31 1-6,8-12/2 0-2,mon-sun/2 u a\\%b%c\n",
         "NAME = \"a value\"\n",
+        "CRON_TZ = \"-03:30\"\n",
         "# a comment\n",
         "60 * * * * a\n",
         "x",

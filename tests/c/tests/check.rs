@@ -8,8 +8,11 @@ fn check_in(folder: &str) -> Subcommand {
     Subcommand::new("check", folder)
 }
 
+const NO_OFFSET: &str =
+    "not an offset from UTC: CRON_TZ is -12:00 to +14:00, as +05:30, with a sign and two digits each";
+
 /// The paper's words of each fault, in short, and a table that has it: line and column beside.
-const FAULTS: [(u64, &str, &str, &str); 9] = [
+const FAULTS: [(u64, &str, &str, &str); 12] = [
     (3, "1:1", "\0", "the line has a byte 0"),
     (4, "1:4", "5 5", "fewer than five time fields"),
     (5, "2:3", "#\n0 5/2 * * * x", "not a time field: *, */step, or a list of n, n-m and n-m/step, with names for months and weekdays"),
@@ -19,6 +22,9 @@ const FAULTS: [(u64, &str, &str, &str); 9] = [
     (9, "1:10", "0 0 * * *", "no command after the time, or in a system table after the user"),
     (10, "1:1", "@noon x", "not one of @reboot, @yearly, @annually, @monthly, @weekly, @daily, @midnight and @hourly"),
     (11, "1:2", "\tname", "neither an entry nor a setting, which is name=value"),
+    (25, "2:9", "\nCRON_TZ=Japan\n", NO_OFFSET),
+    (25, "1:11", "CRON_TZ = '+5:30'", NO_OFFSET),
+    (25, "1:9", "CRON_TZ=", NO_OFFSET),
 ];
 
 #[test]

@@ -1,19 +1,33 @@
 //! `examples/daemon.c` beside the second program, which keeps the same site's line.
 
 use c::{build, complaint, root, run, scratch, told, word};
-use second::calendar::{date_of, minute_of};
+use second::calendar::{date_of, minute_of, Date};
 use second::command::split;
 use second::queue::Queue;
-use second::table::{calls::Calls, read, Kind, Part, Setting, Table};
+use second::table::offset::known;
+use second::table::{calls::Calls, read, Entry, Kind, Part, Setting, Table};
 use std::fs;
 
 const WEEKDAYS: [&str; 7] = ["Sun", "Mon", "Tue", "Wed", "Thu", "Fri", "Sat"];
 
 fn date(minute: u64) -> String {
-    let [year, month, day, hour, minute, weekday] =
-        date_of(minute).expect("on the calendar").parts();
+    date_text(date_of(minute).expect("on the calendar"))
+}
+
+fn date_text(date: Date) -> String {
+    let [year, month, day, hour, minute, weekday] = date.parts();
     let weekday = WEEKDAYS[weekday as usize];
     format!("{year:04}-{month:02}-{day:02} {weekday} {hour:02}:{minute:02}")
+}
+
+/// What the clock of an entry shows at a minute, if that isn't UTC.
+fn local(entry: &Entry, minute: u64) -> String {
+    let shown = minute.checked_add_signed(entry.offset).and_then(date_of);
+    match (entry.offset, shown) {
+        (0, _) => String::new(),
+        (_, Some(shown)) => format!("  local {}", date_text(shown)),
+        (_, None) => "  local off the calendar".to_string(),
+    }
 }
 
 /// What the daemon's log says of a table, a pace and spans of minutes.
@@ -40,7 +54,10 @@ fn opening(bytes: &[u8], kind: Kind, table: &Table, first: u64) -> Vec<String> {
         |(_, of): &(u64, Setting)| format!("setting   |{}| = |{}|", text(of.name), text(of.value));
     let calls = Calls::of(bytes, kind);
     let next = |entry: u64| match calls.next(entry, first) {
-        Ok(minute) => format!("entry {entry:2}  next {}", date(minute)),
+        Ok(minute) => {
+            let local = local(&table.entries[entry as usize], minute);
+            format!("entry {entry:2}  next {}{local}", date(minute))
+        }
         Err(15) => format!("entry {entry:2}  fires at boot only"),
         Err(16) => format!("entry {entry:2}  never fires"),
         Err(_) => format!("entry {entry:2}  fires no more before the year 10000"),
@@ -78,8 +95,9 @@ fn lived(bytes: &[u8], table: &Table, queue: &mut Queue, minute: u64, pace: u64)
             .filter_map(|(name, part)| Some(format!("  {name} |{}|", text(bytes, part?))))
             .collect();
         log.push(format!(
-            "{at}  start entry {entry:2}  |{}|{runs_as}",
-            shown(&command.shell)
+            "{at}  start entry {entry:2}  |{}|{runs_as}{}",
+            shown(&command.shell),
+            local(taken, minute)
         ));
         if let Some(input) = command.input {
             log.push(format!("{:>38}  |{}|", "standard input", shown(&input)));
@@ -113,10 +131,11 @@ fn the_log_is_the_second_programs() {
     let folder = scratch("daemon-log");
     let program = build(&["examples/daemon.c"], &folder);
     let evening = minute_of(2026, 11, 15, 21, 0).expect("a date");
-    let [observatory, system] = ["observatory", "system"].map(|name| {
+    let [observatory, system, two_sites] = ["observatory", "system", "two_sites"].map(|name| {
         fs::read(root().join(format!("examples/{name}.crontab"))).expect("the crontab")
     });
-    let tables: [(&[u8], Kind); 8] = [
+    let several = known::SEVERAL.replace('~', "u:g ");
+    let tables: [(&[u8], Kind); 12] = [
         (&observatory, Kind::User),
         (b"* * * * * a\n@reboot b\n0 * * * * c\n", Kind::User),
         (
@@ -132,6 +151,17 @@ fn the_log_is_the_second_programs() {
             Kind::System,
         ),
         (b"A=b\n", Kind::System),
+        (&two_sites, Kind::User),
+        (several.as_bytes(), Kind::System),
+        (
+            b"* * * * * a\n  \"CRON_TZ\"='-12:00'\n* * * * * b\nCRON_TZ = +14:00 \n* * * * * c",
+            Kind::User,
+        ),
+        // A boot job under a clock that shows no date of the calendar yet, or any more.
+        (
+            b"CRON_TZ=-12:00\n@reboot a\nCRON_TZ=+14:00\n@reboot b\n",
+            Kind::User,
+        ),
     ];
     let spans: [&[(u64, u64)]; 4] = [
         &[(0, 20), (evening, evening + 60)],

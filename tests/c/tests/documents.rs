@@ -61,6 +61,14 @@ fn the_system_table_is_checked_and_run_as_shown() {
 }
 
 #[test]
+fn the_two_sites_are_run_as_shown() {
+    prints_what_is_shown(
+        "target/c/daemon",
+        "examples/two_sites.crontab 1 2026-11-15T18:14 2026-11-15T18:16 2026-11-15T21:29 2026-11-15T21:31",
+    );
+}
+
+#[test]
 fn eremothyn_format_prints_what_is_shown() {
     prints_what_is_shown("target/c/eremothyn", "format examples/observatory.crontab");
 }
@@ -113,6 +121,25 @@ fn the_pages_show_what_is_printed() {
             assert_eq!(found.trim_end(), text.trim_end(), "{command}");
             assert_eq!(status, Some(0), "{command}");
         }
+    }
+}
+
+/// The crontab on the page of tables fires when the page says so.
+#[test]
+fn the_page_of_tables_shows_two_clocks() {
+    let page = page("eremothyn.5");
+    let table = scratch("documents-clocks").join("table");
+    fs::write(&table, examples(&page)[0]).expect("the table is written");
+    let minute = "1970-01-01T00:00";
+    let daemon = format!("target/c/daemon {} 1 {minute} {minute}", word(&table));
+    let (log, status) = script(&daemon);
+    assert_eq!(status, Some(0));
+    for line in [
+        "entry  0  next 1970-01-01 Thu 01:00\n",
+        "entry  1  next 1970-01-01 Thu 21:30  local 1970-01-01 Thu 18:00\n",
+        "entry  2  next 1970-01-01 Thu 05:15  local 1970-01-01 Thu 18:00\n",
+    ] {
+        assert!(log.contains(line), "{log}");
     }
 }
 

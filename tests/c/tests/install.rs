@@ -105,6 +105,12 @@ fn the_installed_command_runs_and_the_version_is_told() {
         told(&run(&command, &["check", "--system", &system])),
         (line, Some(0))
     );
+    let two_sites = format!("{examples}/two_sites.crontab");
+    let line = format!("{two_sites}: 6 entries\n");
+    assert_eq!(
+        told(&run(&command, &["check", &two_sites])),
+        (line, Some(0))
+    );
     let header = fs::read_to_string(root().join("include/eremothyn.h")).expect("the header");
     let version = flags(&folder, &["--modversion"]);
     assert!(header.contains(&format!("EREMOTHYN_VERSION \"{}\"\n", version[0])));

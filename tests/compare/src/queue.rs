@@ -4,7 +4,7 @@
 use eremothyn::{Answer, Table, USER_TABLE};
 use guard::{filled, Guarded};
 use second::queue::Queue;
-use second::table::{self, read, Kind, When};
+use second::table::{self, read, Kind};
 use std::fmt::Debug;
 
 /// Refusal: not a waiting line of this table, or too little room for one.
@@ -46,10 +46,7 @@ impl<'a> Case<'a> {
 
     /// The next firing of an entry, by the second program.
     pub fn next(&self, entry: u64, minute: u64) -> Answer {
-        match self.table.entries[entry as usize].when {
-            When::Times(schedule) => schedule.next_after(minute),
-            When::Reboot => Err(15),
-        }
+        self.table.entries[entry as usize].next_after(minute)
     }
 
     /// As much room as is always enough.

@@ -1,6 +1,7 @@
 //! Dates, tables and rooms for the comparisons.
 
 use second::random::Random;
+use second::table::offset::samples as offsets;
 use second::table::{samples, Kind};
 
 /// Year, month, day, hour and minute of a date, each of which may be a little past its limits.
@@ -63,6 +64,10 @@ pub fn busy_table(random: &mut Random, kind: Kind, entries: u64) -> Vec<u8> {
         match random.below(10) {
             0 => table.extend(b"# comment\n"),
             1 => table.extend(b"A=b\n"),
+            2 => {
+                table.extend(offsets::any_line(random).bytes());
+                table.push(b'\n');
+            }
             _ => {}
         }
         let line = match random.below(8) {

@@ -105,10 +105,11 @@ fn a_fresh_line_is_the_same_whatever_the_room_held() {
 #[test]
 fn refusals_in_their_order() {
     // The table first: also where the room is too short, no line, and the minute off the calendar.
-    let tables: [(&[u8], u64, u64); 11] = [
+    let tables: [(&[u8], u64, u64); 12] = [
         (b"60 * * * * a", 0, 6),
         (b"* * * * *", 0, 9),
         (b"a", 0, 11),
+        (b"CRON_TZ=a", 0, 25),
         (b"* * * * * a\n\0", 0, 3),
         (&[b'\n'; TABLE_BYTES + 1], 0, 1),
         (b"60 * * * * u a", 1, 6),

@@ -39,7 +39,7 @@ impl Queue {
             return Err(NOT_ON_CALENDAR);
         }
         let joins = |entry: &u64| {
-            table.entries[*entry as usize].when.matches(minute) && !self.waiting.contains(entry)
+            table.entries[*entry as usize].matches(minute) && !self.waiting.contains(entry)
         };
         let joiners: Vec<u64> = numbers(table).filter(joins).collect();
         self.waiting.extend(&joiners);

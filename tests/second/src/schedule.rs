@@ -49,6 +49,12 @@ impl Schedule {
 
     /// The least matching minute strictly after a minute, or 14, 16 or 17.
     pub fn next_after(&self, minute: u64) -> Answer {
+        self.next_under(0, minute)
+    }
+
+    /// The same by a local clock, so many minutes ahead of UTC; the minute given and the one answered are UTC. Local days are
+    /// gone through, from the one before the minute's own in UTC: no clock is a whole day off.
+    pub fn next_under(&self, offset: i64, minute: u64) -> Answer {
         if minute > LAST_MINUTE {
             return Err(NOT_ON_CALENDAR);
         }
@@ -57,12 +63,15 @@ impl Schedule {
             return Err(NEVER);
         }
         let firing_on = |day: u64| {
-            let mut firings = times.iter().map(|time| day * MINUTES_PER_DAY + time);
+            let local = times.iter().map(|time| day * MINUTES_PER_DAY + time);
+            let mut firings = local.filter_map(|local| local.checked_add_signed(-offset));
             firings.find(|&firing| firing > minute)
         };
-        (minute / MINUTES_PER_DAY..DAYS)
+        let first = (minute / MINUTES_PER_DAY).saturating_sub(1);
+        (first..DAYS)
             .filter(|&day| self.has_shown(cycle()[day as usize % DAYS_PER_CYCLE]))
             .find_map(firing_on)
+            .filter(|&firing| firing <= LAST_MINUTE)
             .ok_or(PAST_THE_END)
     }
 

@@ -4,12 +4,14 @@
 pub mod calls;
 pub mod documents;
 pub mod normal;
+pub mod offset;
 pub mod records;
 pub mod samples;
 mod user_column;
 
 pub use user_column::{Kind, UserColumn, NAME_BYTES};
 
+use crate::answer::Answer;
 use crate::schedule::Schedule;
 
 /// Limits of a table, of a line without its newline, and of a table's entries.
@@ -29,6 +31,7 @@ const NO_COMMAND: u64 = 9;
 const UNKNOWN_WORD: u64 = 10;
 const BAD_SETTING: u64 = 11;
 const TOO_MANY_ENTRIES: u64 = 12;
+const NEXT_OF_REBOOT: u64 = 15;
 const BAD_USER_COLUMN: u64 = 20;
 
 /// Why a table is refused, and where: line and column count from 1, and are 0 for the whole table.
@@ -49,6 +52,8 @@ pub struct Table<'a> {
 #[derive(Clone, Debug, PartialEq, Eq)]
 pub struct Entry<'a> {
     pub when: When,
+    /// How many minutes its clock is ahead of UTC.
+    pub offset: i64,
     pub column: UserColumn,
     pub command: &'a [u8],
 }
@@ -81,11 +86,21 @@ impl Table<'_> {
     }
 }
 
-impl When {
+impl Entry<'_> {
+    /// Whether its clock shows a minute of the calendar that matches, at a minute of the calendar in UTC.
     pub fn matches(&self, minute: u64) -> bool {
-        match self {
+        let local = minute.checked_add_signed(self.offset);
+        match self.when {
             When::Reboot => false,
-            When::Times(schedule) => schedule.matches(minute),
+            When::Times(schedule) => local.is_some_and(|local| schedule.matches(local)),
+        }
+    }
+
+    /// The least such minute after a minute of the calendar, or 15, 16 or 17.
+    pub fn next_after(&self, minute: u64) -> Answer {
+        match self.when {
+            When::Reboot => Err(NEXT_OF_REBOOT),
+            When::Times(schedule) => schedule.next_under(self.offset, minute),
         }
     }
 }
@@ -100,6 +115,7 @@ pub fn read(bytes: &[u8], kind: Kind) -> Result<Table<'_>, Fault> {
         });
     }
     let mut table = Table::default();
+    let mut start = 0;
     let mut offset = 0;
     for (before, line) in lines(bytes).enumerate() {
         let number = before as u64 + 1;
@@ -110,16 +126,20 @@ pub fn read(bytes: &[u8], kind: Kind) -> Result<Table<'_>, Fault> {
         };
         match meaning(line, kind).map_err(fault)? {
             Line::Ignored => {}
-            Line::Setting(setting) => table.settings.push((number, setting.later(offset))),
+            Line::Setting(setting, given) => {
+                table.settings.push((number, setting.later(start)));
+                offset = given.unwrap_or(offset);
+            }
             Line::Entry(_) if table.entries.len() == ENTRIES => {
                 return Err(fault(Bad(TOO_MANY_ENTRIES, 0)));
             }
             Line::Entry(entry) => table.entries.push(Entry {
-                column: entry.column.later(offset),
+                column: entry.column.later(start),
+                offset,
                 ..entry
             }),
         }
-        offset += line.len() + 1;
+        start += line.len() + 1;
     }
     Ok(table)
 }
@@ -127,10 +147,12 @@ pub fn read(bytes: &[u8], kind: Kind) -> Result<Table<'_>, Fault> {
 /// A refusal's number, and how many bytes of the line stand before its place.
 struct Bad(u64, usize);
 
-/// Offsets are in the line.
+/// Places are in the line.
 enum Line<'a> {
     Ignored,
-    Setting(Setting),
+    /// With the offset from UTC that it gives to the entries after it, if any.
+    Setting(Setting, Option<i64>),
+    /// As if no setting stood before it.
     Entry(Entry<'a>),
 }
 
@@ -165,12 +187,14 @@ fn content(line: &[u8], kind: Kind) -> Result<Line<'_>, Bad> {
         }
         _ => {
             let setting = setting(line, first.at).ok_or(Bad(BAD_SETTING, first.at))?;
-            return Ok(Line::Setting(setting));
+            let offset = offset::given(line, setting)?;
+            return Ok(Line::Setting(setting, offset));
         }
     };
     let (column, command) = after_time(line, kind, words)?;
     Ok(Line::Entry(Entry {
         when,
+        offset: 0,
         column,
         command,
     }))

@@ -1,10 +1,8 @@
 -- `runqueue::tick` meets its contract: each return is a law of the calls.
 -- Assumes nothing.
-use mathlib.Core.Path.{refl, sym, ap, _∙_}
+use mathlib.Core.Path.{refl, sym, _∙_}
 use native.Mathlib.Omega.{arith}
 use borrow.Author.Needs.{needs}
-use Rattle.calendar.specs.declared.DateAnswer.{DateAnswer}
-use Rattle.calendar.proofs.Minutes.{dateOf-on}
 use Rattle.crontab.specs.Tables.{tableOf}
 use Rattle.crontab.specs.Choices.{chosenIn}
 use Rattle.crontab.proofs.Theorems.{table-sound}
@@ -21,7 +19,7 @@ returns-2 : tie.Need-returns-2
 unfolding chosenIn
 returns-2 c =
     let b = c .before .before .before .before in
-    let a = b .before .before .before .before .before .before .args in
+    let a = b .before .before .before .before .args in
     let e = b .before .read .ensures in
     rw (
       tick-off (tableOf (a .rules) (a .table .now)) (table-sound (a .rules) (a .table .now) .few) (a .room .now) (rw e at (b .if1 .left)) _ (c .before .before .before .if2 .taken),
@@ -32,7 +30,7 @@ returns-3 : tie.Need-returns-3
 unfolding chosenIn
 returns-3 c =
     let b = c .before .before .before .before in
-    let a = b .before .before .before .before .before .before .args in
+    let a = b .before .before .before .before .args in
     let e = b .before .read .ensures in
     rw (
       tick-off (tableOf (a .rules) (a .table .now)) (table-sound (a .rules) (a .table .now) .few) (a .room .now) (rw e at (b .if1 .left)) _ (c .before .before .before .if2 .taken),
@@ -42,7 +40,7 @@ returns-3 c =
 cast-tick : tie.Need-cast-tick
 unfolding chosenIn
 cast-tick c = let r = c .before .before .before .before .before in
-    let a = r .before .before .before .before .before .args in
+    let a = r .before .before .before .args in
     rw (r .read .ensures) (omega (arith, table-sound (a .rules) (a .table .now) .few))
 
 returns-4 : tie.Need-returns-4
@@ -50,18 +48,16 @@ unfolding chosenIn
 returns-4 c =
     let b = c .before .before .before .before .before .before .before in
     let r = b .before .before in
-    let a = r .before .before .before .before .before .args in
+    let a = r .before .before .before .args in
     let e = r .read .ensures in
     let on = b .if2 .left in
-    let date = ap (λ (d : DateAnswer). d .date) (r .before .before .date-of .ensures ∙ dateOf-on _ on) in
-    rw (tick-called (tableOf (a .rules) (a .table .now)) (table-sound (a .rules) (a .table .now) .few) (a .room .now) (rw e at (b .before .if1 .left)) (a .minute) _ date on)
+    rw (tick-called (tableOf (a .rules) (a .table .now)) (table-sound (a .rules) (a .table .now) .few) (a .room .now) (rw e at (b .before .if1 .left)) (a .minute) on)
     (rw e at (c .before .before .tick .ensures))
 
 pub tick-spec : {M : Type 1} → statement M
 tick-spec =
     tie.close
     (tie.spec
-    (λ c κs. search needs)
     (λ c κs. search needs)
     returns
     (λ c κs. search needs)

@@ -24,6 +24,7 @@ fn the_normal_text_is_printed() {
         ("", ""),
         ("# a\n", ""),
         ("A=b", "A=b\n"),
+        ("'CRON_TZ' = \"+05:30\"\n", "CRON_TZ=+05:30\n"),
     ] {
         let path = format.write("table", table);
         assert_eq!(all(&format.run(&[&path])), is(text, "", 0));

@@ -38,7 +38,14 @@ fn the_records_are_written() {
 #[test]
 fn a_refused_table_is_told_as_check_tells_it() {
     let compile = compile_in("compile-refused");
-    for table in ["\0", "5 5", "@noon x", "\tname", "a=b\n0 0 * * *"] {
+    for table in [
+        "\0",
+        "5 5",
+        "@noon x",
+        "\tname",
+        "CRON_TZ=x",
+        "a=b\n0 0 * * *",
+    ] {
         compile.write("table", table);
         let verdict = compile.verdict("table");
         assert_eq!(all(&compile.run(&["table"])), is("", &verdict, 1));

@@ -33,13 +33,15 @@ fn a_refused_record_is_told_by_its_number() {
     let no_line = "refused 24: the record says what no line of a table could mean";
     let good = hex(RECORDS);
     let skipped = [&good[..], &record(0x8000, b"?")].concat();
-    let rows: [(&[u8], &[u8], &str); 6] = [
+    let offset_as_setting = record(3, b"\x07\0CRON_TZ+05:30");
+    let rows: [(&[u8], &[u8], &str); 7] = [
         (b"", b"\0", &format!("record 1: {cut}")),
         (b"", b"# a crontab\n", &format!("record 1: {cut}")),
         (&good, b"\x03\0\x02\0", &format!("record 4: {cut}")),
-        (&good, b"\x02\0\x04\0", &format!("record 4: {unknown}")),
+        (&good, b"\x02\0\x05\0", &format!("record 4: {unknown}")),
         (&skipped, b"\x02\0\0\0", &format!("record 5: {unknown}")),
         (&skipped, b"\x03\0\x02\0 ", &format!("record 5: {no_line}")),
+        (&good, &offset_as_setting, &format!("record 4: {no_line}")),
     ];
     for (before, bad, told) in rows {
         decompile.write("records", [before, bad].concat());

@@ -32,7 +32,7 @@ pub fn table(random: &mut Random, kind: Kind) -> Vec<u8> {
 }
 
 /// How a line may start well.
-const STARTS: [&str; 10] = [
+const STARTS: [&str; 12] = [
     "* ",
     "1 1 1 1 1 ",
     "a=",
@@ -43,6 +43,8 @@ const STARTS: [&str; 10] = [
     "@daily a:",
     "@daily a/",
     "* * * * * a:b/",
+    "CRON_TZ=",
+    "CRON_TZ = \"-0",
 ];
 
 /// A good table, or one of lines that stand in the documents.

@@ -42,7 +42,8 @@ fn every_call_with_tables_cut_at_every_place() {
         b"# a\n \tA = 'b' \n\"c\"=d\n1-2/3,4 */5 6,7 fEb 0-7\ta\\%%b\\\n@reboot \\\n@weekly %";
     let system: &[u8] =
         b"A = 'b' \n1-2/3,4 */5 6,7 fEb 0-7\tu:g/l\ta\\%%b\\\n@reboot a/.b- \\\n@weekly _:0 %";
-    for table in [user, system] {
+    let offsets: &[u8] = b"CRON_TZ = '-03:30'\n@daily u a\nCRON_TZ=+14:00";
+    for table in [user, system, offsets] {
         for length in 0..=table.len() {
             for start in 0..=length {
                 every_call_in_both_kinds(&mut random, &table[start..length]);

@@ -193,7 +193,7 @@ fn lengths_of_names() {
 fn bodies_of_every_length() {
     let timed = [&with_set(0, 1, false)[..], b" b c d e"].concat();
     for length in 0..=timed.len() {
-        for kind in 1..=3 {
+        for kind in 1..=4 {
             let _ = answer(kind, &timed[..length]);
             let _ = answer(kind, &timed[timed.len() - length..]);
             let _ = answer(kind, &vec![0; length]);

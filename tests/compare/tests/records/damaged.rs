@@ -64,7 +64,7 @@ fn damaged_tables() {
 /// Every bit of some records flipped, and each byte set to each number.
 #[test]
 fn every_bit_and_every_byte() {
-    let table = b"A=b\n@reboot c\n*/7 1 * 2 0 d\n";
+    let table = b"A=b\n@reboot c\nCRON_TZ=+05:30\n*/7 1 * 2 0 d\n";
     let records = second::table::records::compiled(table).expect("a good table");
     for at in 0..records.len() {
         for byte in 0..=255 {
@@ -104,14 +104,14 @@ fn spliced() {
     }
 }
 
-/// Any bytes, and any bodies of the three kinds.
+/// Any bytes, and any bodies of the four kinds.
 #[test]
 fn any_bytes() {
     let mut random = Random::seeded();
     for _ in 0..100_000 {
         let length = random.below(60);
         let bytes: Vec<u8> = (0..length).map(|_| random.number() as u8).collect();
-        let records = match random.below(4) as u16 {
+        let records = match random.below(5) as u16 {
             0 => bytes,
             kind => record(kind, &bytes),
         };

@@ -16,7 +16,7 @@ fn every_kind() {
             let compared = Compared::of(&records);
             let _ = compared.decompile_whole();
             match kind {
-                1..=3 => {}
+                1..=4 => {}
                 32_768.. => assert_eq!(compared.text, Ok(b"@reboot a\n".repeat(2)), "{kind}"),
                 _ => assert_eq!((compared.fault, compared.text), (2, Err(UNKNOWN)), "{kind}"),
             }
@@ -73,7 +73,7 @@ fn long_and_many_skipped_records() {
         let compared = Compared::of(&records);
         compared.decompile_into_all();
         assert_eq!(compared.text, Ok(b"@reboot a\n".to_vec()));
-        let bad = [&records[..], &record(4, b"")].concat();
+        let bad = [&records[..], &record(5, b"")].concat();
         let numbers = 2 * apart(&skipped).len() as u64 + 2;
         assert_eq!(Compared::of(&bad).fault, numbers);
     }

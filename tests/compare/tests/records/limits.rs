@@ -68,7 +68,7 @@ fn lines_about_as_long_as_may_be() {
 #[test]
 fn the_order_of_refusals() {
     let [short, long] = [9, LINE_BYTES + 1].map(boot);
-    let bad = record(4, b"");
+    let bad = record(5, b"");
     let rows = [
         (short.repeat(ENTRIES), Ok(10 * ENTRIES as u64)),
         (short.repeat(ENTRIES + 1), TOO_MANY),

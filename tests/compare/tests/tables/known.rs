@@ -143,6 +143,9 @@ fn the_documents_settings() {
             .map(|part| &table[part.offset..part.offset + part.length]);
         assert_eq!(shown, [name, value], "{line}");
     }
+    let (zone, column) = documents::NAMED_ZONE;
+    let fault = Compared::of(zone.as_bytes()).fault();
+    assert_eq!(fault, Some([25, 1, column]));
 }
 
 #[test]

@@ -38,7 +38,7 @@ fn written_by_law(table: &[u8]) -> Vec<u8> {
 
 #[test]
 fn known_texts() {
-    let rows: [(&str, &str); 20] = [
+    let rows: [(&str, &str); 21] = [
         ("", ""),
         ("# a\n\n \t\n", ""),
         ("A=b", "A=b\n"),
@@ -47,6 +47,7 @@ fn known_texts() {
         ("'A B'=' b'", "\"A B\"=\" b\"\n"),
         ("'\"'='\"b'", "'\"'='\"b'\n"),
         ("'1'=b'", "\"1\"=b'\n"),
+        ("'CRON_TZ' =\t\"-00:00\" ", "CRON_TZ=-00:00\n"),
         ("@reboot\ta  b ", "@reboot a  b \n"),
         ("@yearly a", "0 0 1 1 * a\n"),
         ("@annually a", "0 0 1 1 * a\n"),

@@ -1,13 +1,12 @@
 //! The paper's "What comes back": the calls with a table, each with its refusals in their order.
 
-use super::{read, Entry, Fault, Kind, Setting, Table, When};
+use super::{read, Entry, Fault, Kind, Setting, Table};
 use crate::answer::Answer;
 use crate::calendar::LAST_MINUTE;
 use crate::command::{split, Command};
 
 const NO_ENTRY: u64 = 13;
 const NOT_ON_CALENDAR: u64 = 14;
-const NEXT_OF_REBOOT: u64 = 15;
 pub(super) const BUFFER_TOO_SHORT: u64 = 18;
 const NO_SETTING: u64 = 19;
 
@@ -37,19 +36,19 @@ impl<'a> Calls<'a> {
     }
 
     pub fn due(&self, entry: u64, minute: u64) -> Answer {
-        let when = self.entry(entry)?.when;
+        let entry = self.entry(entry)?;
         if minute > LAST_MINUTE {
             return Err(NOT_ON_CALENDAR);
         }
-        Ok(when.matches(minute).into())
+        Ok(entry.matches(minute).into())
     }
 
     pub fn next(&self, entry: u64, minute: u64) -> Answer {
-        match self.entry(entry)?.when {
-            _ if minute > LAST_MINUTE => Err(NOT_ON_CALENDAR),
-            When::Reboot => Err(NEXT_OF_REBOOT),
-            When::Times(schedule) => schedule.next_after(minute),
+        let entry = self.entry(entry)?;
+        if minute > LAST_MINUTE {
+            return Err(NOT_ON_CALENDAR);
         }
+        entry.next_after(minute)
     }
 
     /// An entry's command, split.

@@ -158,8 +158,7 @@ pub const SYSTEM_ENTRIES: [SystemExample; 26] = [
 ];
 
 /// A setting, its name and its value.
-pub const SETTINGS: [(&str, &str, &str); 6] = [
-    ("CRON_TZ=Japan ", "CRON_TZ", "Japan"),
+pub const SETTINGS: [(&str, &str, &str); 5] = [
     (
         "MAILTO=ashley.gray@example.com",
         "MAILTO",
@@ -170,6 +169,9 @@ pub const SETTINGS: [(&str, &str, &str); 6] = [
     ("SHELL=/bin/sh", "SHELL", "/bin/sh"),
     ("TZ=Iceland", "TZ", "Iceland"),
 ];
+
+/// The documents name zones; ticket 2026-09 has offsets in their place. The column of the refusal.
+pub const NAMED_ZONE: (&str, u64) = ("CRON_TZ=Japan ", 9);
 
 /// The known days of the paper and its tickets: an entry's fields, a minute, and the next firing after it.
 pub const KNOWN_DAYS: [(&str, u64, Answer); 17] = [

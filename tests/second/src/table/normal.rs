@@ -34,7 +34,7 @@ pub fn meaning(table: &[u8]) -> Result<Vec<Item<'_>>, Fault> {
 /// What a line means, whatever its length: nothing if it is ignored, or bad.
 pub fn item(line: &[u8]) -> Option<Item<'_>> {
     match content(line, Kind::User) {
-        Ok(Line::Setting(setting)) => Some(Item::Setting {
+        Ok(Line::Setting(setting, _)) => Some(Item::Setting {
             name: setting.name.of(line),
             value: setting.value.of(line),
         }),
@@ -96,9 +96,11 @@ impl Item<'_> {
     }
 }
 
+/// With a value that is good for any name.
 fn name_text(name: &[u8]) -> Option<Vec<u8>> {
-    let meant = Some(Item::Setting { name, value: b"" });
-    ways(name).find(|way| item(&[way, &b"="[..]].concat()) == meant)
+    let value = b"+00:00";
+    let meant = Some(Item::Setting { name, value });
+    ways(name).find(|way| item(&[way, &b"="[..], value].concat()) == meant)
 }
 
 fn value_text(value: &[u8]) -> Option<Vec<u8>> {

@@ -8,6 +8,7 @@ pub mod known;
 pub mod samples;
 
 use super::normal::{item, laid, meaning, text, within_limits, Item};
+use super::offset::CRON_TZ;
 use super::{When, ENTRIES, TOO_MANY_ENTRIES};
 use crate::answer::Answer;
 use crate::schedule::Schedule;
@@ -19,6 +20,7 @@ const NO_LINE: u64 = 24;
 const TIMED: u16 = 1;
 const REBOOT: u16 = 2;
 const SETTING: u16 = 3;
+const OFFSET: u16 = 4;
 const SKIPPED: u16 = 32_768;
 
 /// The number of a bad record, from 1, and why it is refused.
@@ -105,7 +107,7 @@ fn line(whole: &[u8]) -> Result<Option<Vec<u8>>, u64> {
             when: When::Reboot,
             command: body,
         }),
-        SETTING => setting(body),
+        SETTING | OFFSET => setting(body),
         _ => return Err(UNKNOWN),
     };
     let means_it = |line: &Vec<u8>| {
@@ -137,7 +139,7 @@ fn timed(body: &[u8]) -> Option<Item<'_>> {
     })
 }
 
-/// What a body of kind 3 may mean.
+/// What a body of kind 3 or 4 may mean.
 fn setting(body: &[u8]) -> Option<Item<'_>> {
     let length = number(body)?;
     let (name, value) = body[2..].split_at_checked(length.into())?;
@@ -151,7 +153,10 @@ fn record(item: &Item) -> Vec<u8> {
             When::Times(schedule) => (TIMED, [&sets(&schedule)[..], command].concat()),
             When::Reboot => (REBOOT, command.to_vec()),
         },
-        Item::Setting { name, value } => (SETTING, [&word(name.len()), name, value].concat()),
+        Item::Setting { name, value } => {
+            let kind = if name == CRON_TZ { OFFSET } else { SETTING };
+            (kind, [&word(name.len()), name, value].concat())
+        }
     };
     [&word(2 + body.len())[..], &kind.to_le_bytes(), &body].concat()
 }

@@ -1,5 +1,6 @@
 //! Tables of both kinds for the comparisons: good ones, bad lines with their place, and tables with some bytes changed.
 
+use super::offset::samples as offsets;
 use super::{read, Kind, When, NAME_BYTES};
 use crate::random::Random;
 use crate::schedule::Schedule;
@@ -213,7 +214,10 @@ pub fn line(random: &mut Random, kind: Kind) -> Vec<u8> {
     };
     match random.below(8) {
         0 => line.extend(random.pick(&IGNORED)),
-        1 => line.extend(random.pick(&SETTINGS)),
+        1 => match random.below(3) {
+            0 => line.extend(offsets::any_line(random).bytes()),
+            _ => line.extend(random.pick(&SETTINGS)),
+        },
         2 => {
             line.extend(random.pick(&WORDS).bytes());
             line.extend(random.pick(&BLANKS).bytes());
@@ -404,6 +408,10 @@ pub fn bad_line(random: &mut Random, kind: Kind) -> BadLine {
             let rest = random.pick(&["", " ", " a", "\tb"]);
             let text = random.pick(&UNKNOWN_WORDS).to_string() + rest;
             indented(random, text.as_bytes(), 10, 0)
+        }
+        5 if random.below(2) == 0 => {
+            let (text, before) = offsets::bad_line(random);
+            indented(random, text.as_bytes(), 25, before)
         }
         5 => {
             let setting = random.pick(&BAD_SETTINGS);

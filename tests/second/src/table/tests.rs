@@ -244,6 +244,11 @@ fn settings_have_their_parts() {
         assert_eq!((part(setting.name), part(setting.value)), (name, value));
         assert!(table.setting(1).is_none() && table.setting(3).is_none());
     }
+    let (zone, column) = documents::NAMED_ZONE;
+    assert_eq!(
+        read(zone.as_bytes(), Kind::User).err(),
+        fault(25, 1, column)
+    );
     let empty = read(b"A= \t\n", Kind::System).expect("a setting");
     let empty = empty.setting(1);
     assert_eq!(empty.map(|setting| setting.value.offset), Some(4));

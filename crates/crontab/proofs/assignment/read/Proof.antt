@@ -1,9 +1,13 @@
 -- `crontab::assignment::read` meets its contract.
 -- Assumes nothing.
+use mathlib.Core.Path.{sym, _∙_}
+use Prim.Native.Nat.{_≤_}
+use lib.ListN.{length}
 use borrow.Author.Tests.{eq-eqb, ne-eqb}
 use Rattle.bytes.specs.declared.class.Class.the-variants.{Blank}
 use Rattle.crontab.specs.Assignments.{settingAt, afterName, afterEquals}
 use Rattle.bytes.proofs.Runs.{byte-within, skipped-within}
+use Rattle.crontab.proofs.Texts.{found-inside, name-inside, value-inside}
 use borrow.Author.Needs.{needs}
 use native.Mathlib.Omega.{arith}
 use Rattle.crontab.proofs.assignment.read.Statement.{statement}
@@ -29,9 +33,25 @@ returns-3 : tie.Need-returns-3
 unfolding settingAt afterName afterEquals
 returns-3 c = rw (← (c .before .before .before .before .before .before .before .before .before .before .name-at .ensures), c .before .before .before .before .before .before .before .before .name .given .1, ← (c .before .before .before .before .before .before .skip .ensures .0), ← (c .before .before .before .before .before .byte-at .ensures), eq-eqb _ _ (c .before .before .before .before .if1 .left), ← (c .before .before .before .skip2 .ensures .0), ← (c .before .before .value-at .ensures), c .enum-told2 .given .1)
 
+-- name and value stand in the line
+zoned-requires : tie.Need-zoned-requires
+zoned-requires c κs =
+    let v = c .before .before .before in
+    let e = v .before .before .before in
+    let n = e .before .before .before in
+    let a = n .before .before .before .before .args in
+    let s = a .s .now in
+    let l : v .before .skip2 .result ≤ length s =
+    rw (v .before .skip2 .ensures .0) (skipped-within Blank s _ (omega (arith, byte-within s (e .before .skip .result) (omega arith)))) in
+    let name = found-inside s (name-inside s (a .at) (omega arith)) (sym (n .before .before .name-at .ensures) ∙ n .name .given .1) in
+    let value = found-inside s (value-inside s _ l) (sym (v .value-at .ensures) ∙ c .before .value .given .1) in
+    (l, name .order, name .within, value .order, value .within)
+
 returns-4 : tie.Need-returns-4
 unfolding settingAt afterName afterEquals
-returns-4 c = rw (← (c .before .before .before .before .before .before .before .before .before .before .before .name-at .ensures), c .before .before .before .before .before .before .before .before .before .name .given .1, ← (c .before .before .before .before .before .before .before .skip .ensures .0), ← (c .before .before .before .before .before .before .byte-at .ensures), eq-eqb _ _ (c .before .before .before .before .before .if1 .left), ← (c .before .before .before .before .skip2 .ensures .0), ← (c .before .before .before .value-at .ensures), c .before .value .given .1)
+returns-4 c =
+    c .zoned .ensures
+    ∙ rw (← (c .before .before .before .before .before .before .before .before .before .before .before .before .name-at .ensures), c .before .before .before .before .before .before .before .before .before .before .name .given .1, ← (c .before .before .before .before .before .before .before .before .skip .ensures .0), ← (c .before .before .before .before .before .before .before .byte-at .ensures), eq-eqb _ _ (c .before .before .before .before .before .before .if1 .left), ← (c .before .before .before .before .before .skip2 .ensures .0), ← (c .before .before .before .before .value-at .ensures), c .before .before .value .given .1)
 
 pub read-spec : {M : Type 1} → statement M
 read-spec =
@@ -51,4 +71,5 @@ read-spec =
     (λ c. search needs)
     (λ c. search needs)
     returns-3
+    zoned-requires
     returns-4)

@@ -1,5 +1,5 @@
 -- `crontab::chosen::read` meets its contract: what is left of the items, with the entries so far, always gives the same table, and those
--- that were chosen so far are marked. The entries stand in the invariant alone.
+-- that were chosen so far are marked; the local date is that of the offset in force. The entries stand in the invariant alone.
 -- Assumes nothing.
 use mathlib.Core.Path.{_≡_, refl, sym, ap, _∙_}
 use mathlib.Core.List.{List}
@@ -14,78 +14,104 @@ use Rattle.crontab.specs.Limits.{maxEntries}
 use Rattle.crontab.specs.Items.{itemsOf}
 use Rattle.crontab.specs.Steps.{itemsAt, Reached}
 use Rattle.crontab.specs.Tables.{noEntries, refusedTable, emptyTable, withItems, tableOf}
-use Rattle.crontab.specs.Choices.{markWords, choice, chosenIn}
+use Rattle.crontab.specs.Choices.{dateUnder, markWords, choice, chosenIn}
 use Rattle.crontab.proofs.Tables.{good}
 use Rattle.crontab.proofs.Items.{items-start, start-reached, items-end}
-use Rattle.crontab.proofs.Walks.{count-entry, count-setting, count-nothing, entry-room, table-here, table-setting, table-nothing, table-refused}
-use Rattle.crontab.proofs.Choices.{chosen-more, chosen-refused}
+use Rattle.crontab.proofs.Walks.{count-entry, count-setting, count-nothing, entry-under, entry-room, table-here, table-setting, table-nothing, table-refused}
+use Rattle.crontab.proofs.Choices.{chosen-more, chosen-refused, date-kept, date-back}
+use Rattle.crontab.proofs.Offsets.{kept-in}
 use Rattle.crontab.proofs.chosen.read.Statement.{statement}
 use Rattle.crontab.proofs.chosen.read.Tie as tie
 
 abbrev Inv-loop : tie.InvT-loop
-Inv-loop s rules which marks₀ c₀ marks c =
+Inv-loop s rules which marks₀ c₀ date₀ marks c date =
     (es : List Entry)
     × (withItems (good (c .count) es) (itemsAt rules s c) ≡ tableOf rules s)
     × (length es ≡ maxEntries)
     × (marks ≡ marksOf markWords (choice which es) (c .count))
     × Reached s c
+    × (date ≡ dateUnder which (c .offset))
 
 abbrev μ-loop : tie.MeasureT-loop
-μ-loop s rules which marks₀ c₀ marks c = length s + 1 - c .at
+μ-loop s rules which marks₀ c₀ date₀ marks c date = length s + 1 - c .at
 
 returns : tie.Need-returns Inv-loop μ-loop
 unfolding itemsOf tableOf withItems
 returns c = c .refused .ensures ∙ rw (lt-ltb _ _ (c .before .if1 .taken)) (chosen-refused _ _ 0 0)
 
+date-under-requires : tie.Need-date-under-requires Inv-loop μ-loop
+date-under-requires c κs = omega arith
+
 loop-holds : tie.Need-loop-holds Inv-loop μ-loop
 unfolding tableOf emptyTable refusedTable noEntries marksOf
-loop-holds c = (noEntries, rw (items-start _ _ (c .if1 .left)), refl, refl, start-reached _ (c .if1 .left))
+loop-holds c =
+    let short = c .before .if1 .left in
+    (noEntries, rw (items-start _ _ short), refl, refl, start-reached _ short, c .date-under .ensures)
 
 advance-requires : tie.Need-advance-requires Inv-loop μ-loop
-advance-requires c κs = (c .before .before .loop .inv .4, c .if2 .taken)
+advance-requires c κs = (c .before .before .before .loop .inv .4, c .before .if2 .taken)
+
+moved-on-requires : tie.Need-moved-on-requires Inv-loop μ-loop
+moved-on-requires c κs =
+    let l = c .before .before .before .before .before .before .loop in
+    let a = c .before .before .advance in
+    let zone = l .inv .4 .zone in
+    (kept-in (l .c .offset) zone, kept-in (a .result .next .offset) (a .ensures .reached .zone), date-back _ (l .c .offset) zone (l .inv .5))
 
 returns-2 : tie.Need-returns-2 Inv-loop μ-loop
 returns-2 c =
-    let a = c .before .before .before .before .before in
-    let inv = a .before .before .before .loop .inv in
-    c .refused2 .ensures ∙ chosen-refused _ _ _ _ ∙ ap (chosenIn _) (table-refused (a .advance .ensures) (inv .0) (c .before .before .item .given .1) ∙ inv .1)
+    let inv = c .before .before .before .before .before .before .before .before .before .before .before .loop .inv in
+    c .refused2 .ensures
+    ∙ chosen-refused _ _ _ _
+    ∙ ap (chosenIn _) (table-refused (c .before .before .before .before .before .before .before .advance .ensures) (inv .0) (c .before .before .item .given .1) ∙ inv .1)
+
+is-chosen-requires : tie.Need-is-chosen-requires Inv-loop μ-loop
+is-chosen-requires c κs =
+    c .before .before .before .before .before .before .before .before .before .before .before .loop .inv .5 ∙ ap (dateUnder _) (sym (entry-under (c .before .before .before .before .before .before .before .advance .ensures) (c .before .before .item2 .given .1)))
 
 loop-less : tie.Need-loop-less Inv-loop μ-loop
 loop-less c =
-    let step = c .before .before .before .before .before .before .before .advance .ensures in
+    let step = c .before .before .before .before .before .before .before .before .before .advance .ensures in
     omega (arith, step .onward, step .reached .place)
 
 loop-again : tie.Need-loop-again Inv-loop μ-loop
 loop-again c =
-    let a = c .before .before .before .before .before .before .before in
-    let inv = a .before .before .before .loop .inv in
-    let step = a .advance .ensures in
+    let inv = c .before .before .before .before .before .before .before .before .before .before .before .before .before .loop .inv in
+    let a = c .before .before .before .before .before .before .before .before .before .advance in
+    let step = a .ensures in
     let is = c .before .before .before .before .item2 .given .1 in
-    (set (inv .0) _ _, table-here step (inv .0) is ∙ inv .1, simp length-set (inv .2), rw (count-entry step is) (c .mark-if .ensures ∙ rw (c .before .is-chosen .ensures, inv .3) (sym (chosen-more _ (inv .0) _ _ (omega (arith, entry-room step is, inv .2))))), step .reached)
+    (set (inv .0) _ _, table-here step (inv .0) is ∙ inv .1, simp length-set (inv .2), rw (count-entry step is) (c .mark-if .ensures ∙ rw (c .before .is-chosen .ensures, inv .3) (sym (chosen-more _ (inv .0) _ _ (omega (arith, entry-room step is, inv .2))))), step .reached, date-kept _ (a .result .next .offset) (step .reached .zone) (c .before .before .before .before .before .before .moved-on .ensures))
 
 loop-less-2 : tie.Need-loop-less-2 Inv-loop μ-loop
-loop-less-2 c = let step = c .before .before .before .advance .ensures in
+loop-less-2 c =
+    let step = c .before .before .before .before .before .advance .ensures in
     omega (arith, step .onward, step .reached .place)
 
 loop-again-2 : tie.Need-loop-again-2 Inv-loop μ-loop
 loop-again-2 c =
-    let a = c .before .before .before in
-    let inv = a .before .before .before .loop .inv in
-    (inv .0, table-setting (a .advance .ensures) (inv .0) (c .enum-told .given .1) ∙ inv .1, inv .2, rw (count-setting (a .advance .ensures) (c .enum-told .given .1)) (inv .3), a .advance .ensures .reached)
+    let inv = c .before .before .before .before .before .before .before .before .before .loop .inv in
+    let a = c .before .before .before .before .before .advance in
+    let step = a .ensures in
+    let is = c .enum-told .given .1 in
+    (inv .0, table-setting step (inv .0) is ∙ inv .1, inv .2, rw (count-setting step is) (inv .3), step .reached, date-kept _ (a .result .next .offset) (step .reached .zone) (c .before .before .moved-on .ensures))
 
 loop-less-3 : tie.Need-loop-less-3 Inv-loop μ-loop
-loop-less-3 c = let step = c .before .before .before .advance .ensures in
+loop-less-3 c =
+    let step = c .before .before .before .before .before .advance .ensures in
     omega (arith, step .onward, step .reached .place)
 
 loop-again-3 : tie.Need-loop-again-3 Inv-loop μ-loop
 loop-again-3 c =
-    let a = c .before .before .before in
-    let inv = a .before .before .before .loop .inv in
-    (inv .0, table-nothing (a .advance .ensures) (inv .0) (c .enum-told2 .given .1) ∙ inv .1, inv .2, rw (count-nothing (a .advance .ensures) (c .enum-told2 .given .1)) (inv .3), a .advance .ensures .reached)
+    let inv = c .before .before .before .before .before .before .before .before .before .loop .inv in
+    let a = c .before .before .before .before .before .advance in
+    let step = a .ensures in
+    let is = c .enum-told2 .given .1 in
+    (inv .0, table-nothing step (inv .0) is ∙ inv .1, inv .2, rw (count-nothing step is) (inv .3), step .reached, date-kept _ (a .result .next .offset) (step .reached .zone) (c .before .before .moved-on .ensures))
 
 returns-3 : tie.Need-returns-3 Inv-loop μ-loop
 unfolding withItems chosenIn
-returns-3 c = let inv = c .before .before .loop .inv in
+returns-3 c =
+    let inv = c .before .before .loop .inv in
     rw (← (rw (items-end _ _ (c .before .before .loop .c) (c .if2 .left)) at (inv .1)), inv .3)
 
 pub read-spec : {M : Type 1} → statement M
@@ -96,13 +122,15 @@ read-spec =
     μ-loop
     (λ c κs. tt)
     returns
+    date-under-requires
     loop-holds
     advance-requires
+    moved-on-requires
     (λ c. search needs)
     (λ c κs. tt)
     returns-2
     (λ c. search needs)
-    (λ c κs. tt)
+    is-chosen-requires
     (λ c κs. tt)
     loop-less
     loop-again

@@ -16,7 +16,7 @@ returns c = rw (c .enum-told .given .1)
 -- src/firing.rt:41:1
 returns-2 : tie.Need-returns-2
 unfolding firesOn
-returns-2 c = rw (c .before .before .when .given .1) (c .matches-date .ensures)
+returns-2 c = rw (c .before .before .when .given .1) (c .matches-local .ensures)
 
 pub fires-on-spec : {M : Type 1} → statement M
 fires-on-spec =

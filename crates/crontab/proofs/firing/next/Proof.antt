@@ -1,10 +1,15 @@
 -- `crontab::firing::next` meets its contract.
 -- Assumes nothing.
-use mathlib.Core.Path.{_∙_}
+use mathlib.Core.Path.{sym, _∙_}
 use Rattle.crontab.specs.Firings.{nextIn, nextAnswer}
+use Rattle.crontab.proofs.Theorems.{entry-sound}
 use borrow.Author.Needs.{needs}
 use Rattle.crontab.proofs.firing.next.Statement.{statement}
 use Rattle.crontab.proofs.firing.next.Tie as tie
+
+-- an entry that was read is under an offset that may be
+next-after-requires : tie.Need-next-after-requires
+next-after-requires c κs = entry-sound _ _ _ (sym (c .before .before .before .find-entry .ensures) ∙ c .before .found .given .1) .zone
 
 returns : tie.Need-returns
 unfolding nextIn nextAnswer
@@ -20,7 +25,7 @@ next-spec =
     (tie.spec
     (λ c κs. search needs)
     (λ c. search needs)
-    (λ c κs. search needs)
+    next-after-requires
     (λ c. search needs)
     returns
     returns-2)

@@ -1,7 +1,7 @@
 -- `crontab::table::read` meets its contract: what is left of the items, with the table so far, always gives the same.
 -- Assumes nothing.
 use Rattle.crontab.proofs.Walks.{entry-room, table-here, table-setting, table-nothing, table-refused}
-use mathlib.Core.Path.{_≡_, refl, sym, _∙_}
+use mathlib.Core.Path.{_≡_, refl, _∙_}
 use Prim.Native.Nat.{_+_, _-_}
 use lib.ListN.{length, length-set}
 use native.Mathlib.Omega.{arith}
@@ -13,7 +13,7 @@ use Rattle.crontab.specs.Steps.{itemsAt, Reached}
 use Rattle.crontab.specs.Tables.{noEntries, refusedTable, emptyTable, withItems, tableOf}
 use Rattle.crontab.proofs.Tables.{good}
 use Rattle.crontab.proofs.Items.{items-start, start-reached, items-end}
-use mathlib.Core.Path.{_≡_, sym, _∙_}
+use mathlib.Core.Path.{_≡_, _∙_}
 use lib.ListN.{length}
 use Rattle.crontab.specs.Steps.{itemsAt, Reached}
 use Rattle.crontab.specs.Tables.{withItems, tableOf}

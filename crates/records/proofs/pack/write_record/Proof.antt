@@ -16,7 +16,7 @@ part-requires-2 c κs = setting-within _ _ (c .before .before .item .given .1) (
 
 write-setting-requires : tie.Need-write-setting-requires
 write-setting-requires c κs =
-    rw (c .before .before .part .ensures .0, c .before .part2 .ensures .0) (rw (part-setting _ _ (c .before .before .before .before .item .given .1)) at (c .before .before .before .before .before .before .before .before .pre .1))
+    (c .before .of-setting .ensures, rw (c .before .before .before .part .ensures .0, c .before .before .part2 .ensures .0) (rw (part-setting _ _ (c .before .before .before .before .before .item .given .1)) at (c .before .before .before .before .before .before .before .before .before .pre .1)))
 
 part-requires-3 : tie.Need-part-requires-3
 part-requires-3 c κs = entry-within _ _ (c .before .before .before .item2 .given .1) (c .before .before .before .before .before .before .before .pre .0)
@@ -31,7 +31,7 @@ returns c =
 
 returns-2 : tie.Need-returns-2
 returns-2 c =
-    rw (part-setting _ _ (c .before .before .before .before .before .before .before .item .given .1), ← (c .before .before .before .before .before .part .ensures .0), ← (c .before .before .before .before .part2 .ensures .0)) (c .before .before .write-setting .ensures)
+    rw (part-setting _ _ (c .before .before .before .before .before .before .before .before .item .given .1), ← (c .before .before .before .before .before .before .part .ensures .0), ← (c .before .before .before .before .before .part2 .ensures .0)) (c .before .before .write-setting .ensures)
 
 returns-3 : tie.Need-returns-3
 returns-3 c = rw (part-entry _ _ (c .before .before .before .before .before .before .before .before .item2 .given .1), ← (c .before .before .before .before .part3 .ensures .0)) (c .before .before .write-entry .ensures)
@@ -49,6 +49,7 @@ write-record-spec =
     (λ c. search needs)
     part-requires
     part-requires-2
+    (λ c κs. search needs)
     write-setting-requires
     (λ c. search needs)
     (λ c. search needs)

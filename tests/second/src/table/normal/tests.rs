@@ -60,6 +60,9 @@ fn settings_have_quotes_only_where_a_bare_reading_would_differ() {
         ("A='\rb\r'", "A=\rb\r"),
         ("'A\r'=b", "A\r=b"),
         ("A=\u{a0}b\u{a0}", "A=\u{a0}b\u{a0}"),
+        // As any other.
+        ("'CRON_TZ' =\t\"+05:30\" ", "CRON_TZ=+05:30"),
+        ("CRON_TZ = -00:00", "CRON_TZ=-00:00"),
     ];
     for (line, expected) in rows {
         assert_eq!(written(line), format!("{expected}\n"), "{line}");

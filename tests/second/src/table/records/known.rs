@@ -34,7 +34,7 @@ pub const RECORDS: &str = "
     76 65 6e 74                   | vent";
 
 /// Lines, each with its normal text and its record.
-pub const LINES: [(&str, &str, &str); 19] = [
+pub const LINES: [(&str, &str, &str); 22] = [
     ("# a", "", ""),
     // Every value of every field, with stars and without; the last value of each.
     (
@@ -103,6 +103,18 @@ pub const LINES: [(&str, &str, &str); 19] = [
     ("'\"' = ", "'\"'=\n", "05 00 03 00 01 00 22"),
     ("A = b\"'", "A=b\"'\n", "08 00 03 00 01 00 41 62 22 27"),
     ("'1'=' '", "\"1\"=\" \"\n", "06 00 03 00 01 00 31 20"),
+    // CRON_TZ, which is a kind of its own, and a name that only looks like it.
+    (
+        "CRON_TZ = '+05:30'",
+        "CRON_TZ=+05:30\n",
+        "11 00 04 00 07 00 43 52 4f 4e 5f 54 5a 2b 30 35 3a 33 30",
+    ),
+    (
+        "'CRON_TZ'=-00:00",
+        "CRON_TZ=-00:00\n",
+        "11 00 04 00 07 00 43 52 4f 4e 5f 54 5a 2d 30 30 3a 30 30",
+    ),
+    ("cron_tz=x", "cron_tz=x\n", "0c 00 03 00 07 00 63 72 6f 6e 5f 74 7a 78"),
 ];
 
 /// Records with the number of the first bad one, and their text or its refusal.
@@ -118,24 +130,24 @@ pub const REFUSED: [(&str, u64, Result<&str, u64>); 22] = [
     ("01 00 02 00 61", 1, Err(22)),
     ("03 00 00 00", 1, Err(22)),
     ("03 00 02 00", 1, Err(22)),
-    ("ff ff 04 00", 1, Err(22)),
+    ("ff ff 05 00", 1, Err(22)),
     ("03 01 00 80 61", 1, Err(22)),
     // Unknown kinds, and one that is skipped.
     ("02 00 00 00", 1, Err(23)),
-    ("02 00 04 00", 1, Err(23)),
+    ("02 00 05 00", 1, Err(23)),
     ("02 00 00 01", 1, Err(23)),
     ("02 00 ff 7f", 1, Err(23)),
     ("03 00 02 00 61 02 00 00 80", 0, Ok("@reboot a\n")),
     // The first bad record decides, and its number counts a skipped one.
-    ("03 00 02 00 61 02 00 00 80 02 00 04 00 00", 3, Err(23)),
+    ("03 00 02 00 61 02 00 00 80 02 00 05 00 00", 3, Err(23)),
     ("03 00 02 00 61 02 00 00 80 02 00 02 00 00", 3, Err(24)),
     ("03 00 02 00 61 02 00 00 80 00 00 02 00 04", 3, Err(22)),
-    ("02 00 02 00 02 00 04 00 00", 1, Err(24)),
-    ("02 00 04 00 02 00 02 00 00", 1, Err(23)),
+    ("02 00 02 00 02 00 05 00 00", 1, Err(24)),
+    ("02 00 05 00 02 00 02 00 00", 1, Err(23)),
 ];
 
-/// Records of the kinds 2 and 3 that no line could mean.
-pub const NO_LINES: [&str; 22] = [
+/// Records of the kinds 2, 3 and 4 that no line could mean.
+pub const NO_LINES: [&str; 35] = [
     // @reboot with no command, with a blank before it, a byte 0, a newline
     "02 00 02 00",
     "03 00 02 00 20",
@@ -162,6 +174,22 @@ pub const NO_LINES: [&str; 22] = [
     "08 00 03 00 01 00 41 20 22 27",
     "08 00 03 00 01 00 41 22 27 20",
     "08 00 03 00 01 00 41 27 22 09",
+    // CRON_TZ as kind 3, with a good value and with none
+    "11 00 03 00 07 00 43 52 4f 4e 5f 54 5a 2b 30 35 3a 33 30",
+    "0b 00 03 00 07 00 43 52 4f 4e 5f 54 5a",
+    // another name as kind 4, and no name
+    "05 00 04 00 01 00 41",
+    "11 00 04 00 07 00 63 72 6f 6e 5f 74 7a 2b 30 35 3a 33 30",
+    "12 00 04 00 08 00 43 52 4f 4e 5f 54 5a 20 2b 30 35 3a 33 30",
+    "02 00 04 00",
+    "04 00 04 00 00 00",
+    "0a 00 04 00 00 00 2b 30 35 3a 33 30",
+    "0a 00 04 00 07 00 43 52 4f 4e 5f 54",
+    // a value that is no offset: none, +14:01, -12:01, with a blank before it
+    "0b 00 04 00 07 00 43 52 4f 4e 5f 54 5a",
+    "11 00 04 00 07 00 43 52 4f 4e 5f 54 5a 2b 31 34 3a 30 31",
+    "11 00 04 00 07 00 43 52 4f 4e 5f 54 5a 2d 31 32 3a 30 31",
+    "12 00 04 00 07 00 43 52 4f 4e 5f 54 5a 20 2b 30 35 3a 33 30",
 ];
 
 /// The body of `0 0 1 1 0 a`.

@@ -49,7 +49,7 @@ fn records_cut_short() {
 
 #[test]
 fn unknown_kinds_are_refused_and_later_ones_skipped() {
-    for kind in (0..=u16::MAX).filter(|kind| !(1..=3).contains(kind)) {
+    for kind in (0..=u16::MAX).filter(|kind| !(1..=4).contains(kind)) {
         for body in [&b""[..], b"a"] {
             let expected = if kind < 32_768 { Err(23) } else { Ok(vec![]) };
             assert_eq!(decompiled(&samples::record(kind, body)), expected, "{kind}");
@@ -89,7 +89,7 @@ fn limits_come_last_and_in_order() {
     assert!(decompiled(&entry.repeat(ENTRIES)).is_ok());
     assert_eq!(decompiled(&entry.repeat(ENTRIES + 1)), Err(12));
     assert_eq!(decompiled(&over.repeat(ENTRIES + 1)), Err(12));
-    let bad = hex("02 00 04 00");
+    let bad = hex("02 00 05 00");
     let many = [over.repeat(ENTRIES + 1), bad].concat();
     assert_eq!(decompiled(&many), Err(23));
     assert_eq!(record_fault(&many), ENTRIES as u64 + 2);
