@@ -91,19 +91,6 @@ fn the_documents_tables() {
         }
     }
     let _ = written_by_law(good.join("\n# and\n").as_bytes());
-    let vixie = "# use /bin/sh to run commands, no matter what /etc/passwd says\n\
-        SHELL=/bin/sh\n\
-        # mail any output to `paul', no matter whose crontab this is\n\
-        MAILTO=paul\n\
-        #\n\
-        # run five minutes after midnight, every day\n\
-        5 0 * * *       $HOME/bin/daily.job >> $HOME/tmp/out 2>&1\n\
-        # run at 2:15pm on the first of every month -- output mailed to paul\n\
-        15 14 1 * *     $HOME/bin/monthly\n\
-        # run at 10 pm on weekdays, annoy Joe\n\
-        0 22 * * 1-5\tmail -s \"It's 10pm\" joe%Joe,%%Where are your kids?%\n\
-        23 0-23/2 * * * echo \"run 23 minutes after midn, 2am, 4am ..., everyday\"\n\
-        5 4 * * sun     echo \"run at 5 after 4 every sunday\"\n";
     let normal = "SHELL=/bin/sh\n\
         MAILTO=paul\n\
         5 0 * * * $HOME/bin/daily.job >> $HOME/tmp/out 2>&1\n\
@@ -111,7 +98,10 @@ fn the_documents_tables() {
         0 22 * * 1,2,3,4,5 mail -s \"It's 10pm\" joe%Joe,%%Where are your kids?%\n\
         23 0,2,4,6,8,10,12,14,16,18,20,22 * * * echo \"run 23 minutes after midn, 2am, 4am ..., everyday\"\n\
         5 4 * * 0 echo \"run at 5 after 4 every sunday\"\n";
-    assert_eq!(written_by_law(vixie.as_bytes()), normal.as_bytes());
+    assert_eq!(
+        written_by_law(documents::VIXIE.as_bytes()),
+        normal.as_bytes()
+    );
 }
 
 /// An entry with one field given, and 1 in the others.

@@ -197,3 +197,18 @@ pub const KNOWN_DAYS: [(&str, u64, Answer); 17] = [
 ];
 
 const DAY: u64 = 1_440;
+
+/// The example of crontab(5), whole.
+pub const VIXIE: &str = "# use /bin/sh to run commands, no matter what /etc/passwd says\n\
+    SHELL=/bin/sh\n\
+    # mail any output to `paul', no matter whose crontab this is\n\
+    MAILTO=paul\n\
+    #\n\
+    # run five minutes after midnight, every day\n\
+    5 0 * * *       $HOME/bin/daily.job >> $HOME/tmp/out 2>&1\n\
+    # run at 2:15pm on the first of every month -- output mailed to paul\n\
+    15 14 1 * *     $HOME/bin/monthly\n\
+    # run at 10 pm on weekdays, annoy Joe\n\
+    0 22 * * 1-5\tmail -s \"It's 10pm\" joe%Joe,%%Where are your kids?%\n\
+    23 0-23/2 * * * echo \"run 23 minutes after midn, 2am, 4am ..., everyday\"\n\
+    5 4 * * sun     echo \"run at 5 after 4 every sunday\"\n";
