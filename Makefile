@@ -47,9 +47,10 @@ $(COMMAND): $(COMMAND_SOURCES) $(wildcard programs/*.h) $(HEADER) $(LIBRARY)
 target/c/%: examples/%.c examples/table_file.h $(HEADER) $(LIBRARY)
 	$(COMPILE) $< $(LIBRARY)
 
-# The clock wakes in 1970; when the time job has had its turn, the clock is right.
+# The clock wakes in 1970; when the time job has had its turn, it is right. Then it jumps two hours forward, and back.
 example: all
-	target/c/daemon examples/observatory.crontab 1 1970-01-01T00:00 1970-01-01T00:08 2026-11-15T21:30 2026-11-15T21:37
+	target/c/daemon examples/observatory.crontab 1 1970-01-01T00:00 1970-01-01T00:08 2026-11-15T21:20 2026-11-15T21:21 \
+	  2026-11-15T23:22 2026-11-15T23:29 2026-11-15T21:30 2026-11-15T21:37
 
 # `man` finds the one page by the name of each function.
 $(PAGES_3): packaging/eremothyn.3 $(HEADER)

@@ -5,13 +5,25 @@
  *     daemon [-s] FILE PACE FROM TO [FROM TO]...
  *
  * With -s the file is a system table, as /etc/crontab is one, and whom a job runs as is shown with it. PACE is how many jobs
- * may start in a minute. FROM and TO are dates in UTC such as 1970-01-01T00:00. With more than one pair the clock jumps, and
- * the queue of waiting jobs goes on as it stands. For an entry that CRON_TZ gives a clock of its own, what that clock shows
- * stands behind the date in UTC.
+ * may start in a minute. FROM and TO are dates in UTC such as 1970-01-01T00:00. With more than one pair the clock jumps,
+ * forward or back, and the queue of waiting jobs goes on as it stands. For an entry that CRON_TZ gives a clock of its own, what
+ * that clock shows stands behind the date in UTC.
  *
- * A real daemon has the minute from the clock, time(NULL) / 60, which is UTC; it sleeps until the next one, announces those
- * that it slept through as well, in their order, and starts what this one only shows. When its crontab changes, it makes
- * a new queue: the numbers in the old one mean other entries.
+ * A real daemon has the minute from the clock, time(NULL) / 60, which is UTC. It sleeps until the clock shows another one,
+ * announces that, and starts what this one only shows. What it announces is the minute that the clock shows now, wherever the
+ * clock went; the queue knows what to make of it:
+ *
+ *   - Up to 180 minutes on, slept through or jumped over: fixed jobs, those with set times of the day, are caught up, once.
+ *     The others come at their next time.
+ *   - Further on, as from 1970: nothing is caught up.
+ *   - Back by less than 180 minutes: fixed jobs have run, and don't run again until the clock is past where it was. The others
+ *     go by the clock, and so it goes on announcing all that while.
+ *   - Back by 180 minutes or more: all jobs go by the clock.
+ *
+ * If it is only a few minutes late, it first announces each of those that it slept through, in their order, and no job is
+ * missed. After a longer sleep or a jump it doesn't, or a job of every minute could run again and again for minutes long gone.
+ *
+ * When its crontab changes, it makes a new queue: the numbers in the old one mean other entries.
  */
 
 #include <errno.h>

@@ -29,7 +29,7 @@ extern "C" {
 #endif
 
 /* The middle number counts the change requests that have landed. */
-#define EREMOTHYN_VERSION "1.9.0"
+#define EREMOTHYN_VERSION "1.10.0"
 
 /* The last minute of the calendar, 9999-12-31 23:59. */
 #define EREMOTHYN_LAST_MINUTE UINT64_C(4223371679)
@@ -279,19 +279,32 @@ uint64_t eremothyn_record_fault(const uint8_t *records, uint64_t records_length)
  * The run queue: a table's waiting jobs, in a room of bytes that the caller lends. An entry stands in the
  * queue at most once, and whoever has stood longest goes next. EREMOTHYN_ROOM(entries) bytes are always room enough; what
  * they hold is the library's. Each call is refused with EREMOTHYN_NOT_A_QUEUE for room that can't hold all of the table's
- * entries. A queue keeps the numbers of entries: one that another table left is taken if its numbers fit, so make a fresh
- * one when the table changes.
+ * entries. A queue keeps the numbers of entries and a mark: one that another table left is taken if its numbers fit, so make a
+ * fresh one when the table changes.
+ *
+ * The mark is the minute up to which fixed entries have been judged; a fresh queue has none. An entry is fixed if neither its
+ * minute nor its hour field begins with a star: it has its set times of the day. @daily is fixed, @hourly and @reboot aren't.
+ * By the mark a fixed entry is neither missed nor doubled where the clock jumps by less than three hours. All other entries
+ * go by the minute that is announced, and by nothing else.
  */
 #define EREMOTHYN_ROOM(entries) (8 * (entries) + 64)
 
-/* Makes a fresh queue, whatever the room held: the @reboot entries in file order. Answers how many wait. */
+/* Makes a fresh queue, whatever the room held: the @reboot entries in file order, and no mark. Answers how many wait. */
 uint64_t eremothyn_queue_init(const uint8_t *table, uint64_t table_length, uint64_t kind, uint8_t *room,
                               uint64_t room_length);
 
 /*
- * Announces a minute: each time-based entry that is due and isn't waiting joins at the back, in file order. Answers
- * how many joined. Refused with EREMOTHYN_NOT_A_QUEUE for bytes that name an entry which the table doesn't have, or one
- * twice, then EREMOTHYN_NOT_ON_CALENDAR. Minutes may repeat or go back.
+ * Announces a minute: each entry that is called and isn't waiting joins at the back, in file order. Answers how many joined.
+ * Minutes may repeat, go back and jump. Who is called goes by how far the minute is from the mark, both in UTC:
+ *
+ *   - There is no mark, or the minute is more than 180 above it, or 180 or more below: all entries that are due at the minute.
+ *     It becomes the mark.
+ *   - It is 1 to 180 above: fixed entries that are due at any minute after the mark, up to this one; others that are due at
+ *     this one. It becomes the mark.
+ *   - It is the mark, or up to 179 below: no fixed entries; others that are due at the minute. The mark stays.
+ *
+ * Refused with EREMOTHYN_NOT_A_QUEUE for bytes that are no queue, as zeros are none, or one that names an entry which the table
+ * doesn't have, or one twice, or has a mark off the calendar; then with EREMOTHYN_NOT_ON_CALENDAR.
  */
 uint64_t eremothyn_queue_tick(const uint8_t *table, uint64_t table_length, uint64_t kind, uint8_t *room,
                               uint64_t room_length, uint64_t minute);

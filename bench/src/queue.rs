@@ -1,6 +1,8 @@
 //! An announcement and a request with a full table, of 49,152 bytes and 512 entries. Both programs read the table at
 //! every call, and start each call from the same line. Then both calls beside reading the table alone.
 
+mod catching_up;
+
 use crate::measure::{in_turn, nanoseconds, print_pair, print_pair_head, round};
 use crate::table::entries_alone;
 use eremothyn::Table;
@@ -15,8 +17,9 @@ const CALLS: usize = 200;
 /// As much room as is always enough.
 const ROOM: usize = 8 * ENTRIES + 64;
 
-/// At the first every entry is due, at the second none.
+/// At these minutes every entry is due, and at those before and after them none.
 const ALL_DUE: u64 = 28_401_120;
+const ALL_DUE_AGAIN: u64 = ALL_DUE + 30;
 const NONE_DUE: u64 = ALL_DUE + 1;
 
 /// A line, in the library's bytes and in the second program's list.
@@ -26,24 +29,45 @@ struct Line {
     queue: Queue,
 }
 
+impl Line {
+    /// A line of a table without boot jobs: nobody waits, and there is no mark.
+    fn fresh(table: &[u8]) -> Line {
+        let mut room = [0; ROOM];
+        assert_eq!(Table::of(table).queue_init(&mut room[..]), Ok(0));
+        Line {
+            room,
+            queue: Queue::default(),
+        }
+    }
+
+    /// The line after an announcement.
+    fn ticked(mut self, table: &[u8], minute: u64, joined: usize) -> Line {
+        let joined = Ok(joined as u64);
+        assert_eq!(library_tick(table, &mut self, minute), joined);
+        assert_eq!(second_tick(table, &mut self, minute), joined);
+        self
+    }
+}
+
 pub fn run() {
+    each_minute();
+    catching_up::run();
+}
+
+fn each_minute() {
     let table = full();
-    let mut empty = Line {
-        room: [0; ROOM],
-        queue: Queue::default(),
-    };
-    assert_eq!(Table::of(&table).queue_init(&mut empty.room[..]), Ok(0));
-    let mut waiting = empty.clone();
-    let joined = Ok(ENTRIES as u64);
-    assert_eq!(library_tick(&table, &mut waiting, ALL_DUE), joined);
-    assert_eq!(second_tick(&table, &mut waiting, ALL_DUE), joined);
+    // Every call is made a minute after the mark.
+    let empty = Line::fresh(&table).ticked(&table, ALL_DUE - 1, 0);
+    let waiting = empty.clone().ticked(&table, ALL_DUE, ENTRIES);
+    let waiting = waiting.ticked(&table, ALL_DUE_AGAIN - 1, 0);
+    let idle = Line::fresh(&table).ticked(&table, NONE_DUE, 0);
 
     let title = format!("queue, {TABLE_BYTES} bytes and {ENTRIES} entries, microseconds a call");
     print_pair_head(&title, "second program");
     let rows = [
-        ("tick, nothing is due", &empty, NONE_DUE),
+        ("tick, nothing is due", &idle, NONE_DUE + 1),
         ("tick, all join", &empty, ALL_DUE),
-        ("tick, all wait", &waiting, ALL_DUE),
+        ("tick, all wait", &waiting, ALL_DUE_AGAIN),
     ];
     for (what, line, minute) in rows {
         row(
@@ -63,15 +87,16 @@ pub fn run() {
         "queue, the same beside reading the table, microseconds a call",
         "reading",
     );
+    let all = Ok(ENTRIES as u64);
     beside_reading("tick, all wait", &table, &waiting, |line| {
-        library_tick(&table, line, ALL_DUE).is_ok()
+        library_tick(&table, line, ALL_DUE_AGAIN) == Ok(0)
     });
     beside_reading("tick, all join", &table, &empty, |line| {
-        library_tick(&table, line, ALL_DUE).is_ok()
+        library_tick(&table, line, ALL_DUE) == all
     });
-    let clocks = with_clocks();
+    let clocks = with_clocks("*/10 * * * *");
     beside_reading("tick, all join, 64 clocks", &clocks, &empty, |line| {
-        library_tick(&clocks, line, ALL_DUE) == joined
+        library_tick(&clocks, line, ALL_DUE) == all
     });
     beside_reading("pop, all wait", &table, &waiting, |line| pop(line).is_ok());
     println!("times as long as reading; goals: a tick where all wait at most 1.3, a pop 1.1");
@@ -128,15 +153,13 @@ fn full() -> Vec<u8> {
     entries_alone(&fields.map(|fields| format!("{fields} /usr/local/bin/camera --expose ")))
 }
 
-/// As many entries, and a local clock for each eight, whole tens of minutes ahead of UTC.
-fn with_clocks() -> Vec<u8> {
-    let lines = (0..ENTRIES).map(|number| {
-        let entry = format!("{:x<93}\n", "*/10 * * * * /usr/local/bin/camera --expose ");
-        let clock = format!("CRON_TZ={}\n", text(WEST + 20 * (number as i64 / 8)));
-        match number % 8 {
-            0 => clock + &entry,
-            _ => entry,
-        }
+/// As many entries with these fields, and a local clock for each eight, whole tens of minutes ahead of UTC.
+fn with_clocks(fields: &str) -> Vec<u8> {
+    let entry = format!("{fields} /usr/local/bin/camera --expose ");
+    let entry = format!("{entry:x<93}\n");
+    let lines = (0..ENTRIES).map(|number| match number % 8 {
+        0 => format!("CRON_TZ={}\n{entry}", text(WEST + 20 * (number as i64 / 8))),
+        _ => entry.clone(),
     });
     lines.collect::<String>().into_bytes()
 }

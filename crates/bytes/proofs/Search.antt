@@ -6,7 +6,9 @@ use Prim.Native.Nat.{ℕ, zero, suc, _+_, _-_, _≤_, _<_}
 use native.Mathlib.Nat.{lt-of-not-le}
 use native.Mathlib.Decide.{decLe}
 use native.Mathlib.Omega.{arith}
-use Rattle.bytes.specs.Search.{leastOf, from}
+use lib.Dec.{leb}
+use borrow.Author.Tests.{leb-true, le-leb, lt-leb}
+use Rattle.bytes.specs.Search.{leastOf, from, passes}
 
 -- n is the least number from a on and below e that passes p, or e
 pub record Least (p : ℕ → Bool) (e a n : ℕ) : Type 0 where
@@ -107,3 +109,53 @@ from-same p q e a h same =
       passes = λ k. sym (same _ (l .low) k) ∙ l .passes k;
       none = λ k u v. sym (same k u (omega (arith, l .high))) ∙ l .none k u v;
     })
+
+-- ---- whether any number above a and up to b passes
+
+module _ (p : ℕ → Bool) (a b : ℕ) where
+  pub some-passes : (n : ℕ) → a < n → n ≤ b → p n ≡ true → passes p a b ≡ true
+  unfolding passes
+  some-passes n h k t = le-leb (from p (b + 1) (a + 1)) b (omega (arith, from-some p (b + 1) (a + 1) n (omega arith) (omega arith) t))
+
+  pub passes-some : passes p a b ≡ true → (n : ℕ) × (a < n) × (n ≤ b) × (p n ≡ true)
+  unfolding passes
+  passes-some e = elim (decLe a b) [ yes h ↦ within h | no h ↦ absurd (past (lt-of-not-le h)) ]
+    where
+      found : from p (b + 1) (a + 1) ≤ b
+      found = leb-true _ _ e
+
+      within : a ≤ b → (n : ℕ) × (a < n) × (n ≤ b) × (p n ≡ true)
+      within h =
+          let (n, u, v, t) = some-from p (b + 1) (a + 1) (omega arith) (omega (arith, found)) in
+          (n, omega arith, omega arith, t)
+
+      past : b < a → ⊥
+      past h = omega (arith, found, from-past p (b + 1) (a + 1) (omega arith))
+
+  pub none-passes : ((k : ℕ) → a < k → k ≤ b → p k ≡ false) → passes p a b ≡ false
+  unfolding passes
+  none-passes none = lt-leb (from p (b + 1) (a + 1)) b (elim (decLe a b) [ yes h ↦ within h | no h ↦ omega (arith, lt-of-not-le h, past (lt-of-not-le h)) ])
+    where
+      within : a ≤ b → b < from p (b + 1) (a + 1)
+      within h = omega (arith, from-none p (b + 1) (a + 1) (omega arith) (λ k u v. none k (omega arith) (omega arith)))
+
+      past : b < a → a + 1 ≡ from p (b + 1) (a + 1)
+      past h = from-past p (b + 1) (a + 1) (omega arith)
+
+  -- a search that goes on behind b tells as well
+  pub passes-search : (e : ℕ) → b < e → passes p a b ≡ leb (from p e (a + 1)) b
+  passes-search e h = elim (decLe (from p e (a + 1)) b) [ yes k ↦ found k | no k ↦ behind (lt-of-not-le k) ]
+    where
+      start : from p e (a + 1) ≤ b → a + 1 ≤ e
+      start k = elim (decLe (a + 1) e) [ yes j ↦ j | no j ↦ absurd (omega (arith, from-past p e (a + 1) (omega (arith, lt-of-not-le j)))) ]
+
+      found : from p e (a + 1) ≤ b → passes p a b ≡ leb (from p e (a + 1)) b
+      found k =
+          let l = from-least p e (a + 1) (start k) in
+          some-passes (from p e (a + 1)) (omega (arith, l .low)) k (l .passes (omega arith)) ∙ sym (le-leb _ _ k)
+
+      behind : b < from p e (a + 1) → passes p a b ≡ leb (from p e (a + 1)) b
+      behind k = none-passes none ∙ sym (lt-leb _ _ k)
+        where
+          none : (i : ℕ) → a < i → i ≤ b → p i ≡ false
+          none i u v = from-least p e (a + 1) (omega arith) .none i (omega arith) (omega arith)

@@ -1,28 +1,31 @@
 -- Laws of the entries that are chosen, entry by entry.
 -- Assumes nothing.
 use mathlib.Core.Path.{_≡_, refl, sym, ap, _∙_}
-use mathlib.Core.Bool.{cond}
+use mathlib.Core.Bool.{false, cond}
 use mathlib.Core.List.{List}
-use Prim.Native.Nat.{ℕ, _+_, _<_}
+use Prim.Native.Nat.{ℕ, _+_, _≤_, _<_}
 use native.Mathlib.Numerals.{add-one}
 use native.Mathlib.Omega.{arith}
 use lib.ListN.{length, set}
 use lib.Seq.{getD-set-same, getD-set-other}
 use lib.IntN.{ℤ}
+use borrow.Author.Tests.{le-leb, lt-leb}
 use mir.Syntax.{w32}
 use mir.Val.{toZ, ofZ}
 use Rattle.bytes.specs.Marks.{mark, marksOf}
 use Rattle.bytes.proofs.Marks.{marks-same}
 use Rattle.schedule.specs.declared.local.LocalDate.{LocalDate}
-use Rattle.schedule.specs.Local.{InZones}
+use Rattle.calendar.specs.Dates.{lastMinute}
+use Rattle.schedule.specs.declared.jump.Case.{Case}
+use Rattle.schedule.specs.Local.{InZones, ahead, localDate}
+use Rattle.schedule.specs.Jumps.{judged}
 use Rattle.crontab.specs.declared.entry.Entry.{Entry}
 use Rattle.crontab.specs.declared.chosen.Which.{Which}
 use Rattle.crontab.specs.declared.chosen.Which.the-variants.{At}
 use Rattle.crontab.specs.Tables.{blankEntry, refusedTable}
 use Rattle.crontab.specs.Choices.{isChosen, dateUnder, markWords, refusedChoice, choice, chosenIn}
-use Rattle.crontab.specs.Firings.{firesOn}
+use Rattle.crontab.specs.Firings.{isFixed, firesAt}
 use Rattle.crontab.proofs.Offsets.{kept}
-use Rattle.crontab.proofs.Firings.{fires-under}
 
 -- one entry more
 pub chosen-more : (which : Which) (es : List Entry) (k : ℕ) (e : Entry) → k < length es
@@ -39,10 +42,19 @@ pub chosen-refused : (which : Which) (number line column : ℕ) → refusedChoic
 unfolding refusedChoice chosenIn refusedTable marksOf
 chosen-refused which number line column = refl
 
--- an entry that fires on the local date under its offset
-pub chosen-at : {which : Which} {m : ℕ} (e : Entry) {d : LocalDate} → which ≡ At m → d ≡ dateUnder which (e .offset) → firesOn e d ≡ isChosen which e
-unfolding isChosen dateUnder
-chosen-at {which} {m} e is p = rw (p, is) (fires-under e m)
+-- an announced minute off the calendar calls nobody; on it, the local date is the minute's
+module _ {which : Which} {m : ℕ} {case : Case} (e : Entry) (is : which ≡ At m case) where
+  pub chosen-off : lastMinute < m → false ≡ isChosen which e
+  unfolding isChosen
+  chosen-off h = rw (is, lt-leb m lastMinute h)
+
+  pub chosen-at : m ≤ lastMinute → isChosen which e ≡ judged case (isFixed e) (firesAt e) m
+  unfolding isChosen
+  chosen-at h = rw (is, le-leb m lastMinute h)
+
+  pub date-at : m ≤ lastMinute → dateUnder which (e .offset) ≡ localDate (ahead (e .offset)) m
+  unfolding dateUnder
+  date-at h = rw (is, le-leb m lastMinute h)
 
 -- the date under an offset that was read back
 module _ (which : Which) (z : ℤ) {d : LocalDate} (h : InZones z) where

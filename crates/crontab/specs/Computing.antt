@@ -15,7 +15,7 @@ use Rattle.crontab.specs.Items.{afterLine, itemsFrom, itemsOf}
 use Rattle.crontab.specs.Tables.{noEntries, refusedTable, emptyTable, withEntry, withItems, tableOf, entryIn, commandIn}
 use Rattle.crontab.specs.Owners.{namedOwner, behind, timeRuns, lineOwner, shifted, ownerFrom, ownerOf, ownerAnswer}
 use Rattle.crontab.specs.Settings.{refusedSetting, settingFrom, settingIn}
-use Rattle.crontab.specs.Firings.{isBoot, firesOn, firesAt, dueOf, dueAnswer, dueIn}
+use Rattle.crontab.specs.Firings.{isBoot, isFixed, firesOn, firesAt, dueOf, dueAnswer, dueIn}
 
 unfoldable pub reading : Unit {0}
 unfolding field.reading isAccount skipped trimmed between quotedAt nonEmpty nameAt closed valueAt afterEquals afterName settingAt answered
@@ -28,5 +28,5 @@ reading = tt
 
 -- and all that an entry is due by
 unfoldable pub zoning : Unit {0}
-unfolding reading firing isBoot firesOn firesAt dueOf dueAnswer dueIn
+unfolding reading firing isBoot isFixed firesOn firesAt dueOf dueAnswer dueIn
 zoning = tt

@@ -3,7 +3,7 @@
 -- that are asked and told are UTC.
 -- Assumes nothing.
 use Prim.Native.Nat.{ℕ}
-use mathlib.Core.Bool.{Bool, true, false, cond}
+use mathlib.Core.Bool.{Bool, true, false, not, cond, _||_}
 use lib.Dec.{leb}
 use Rattle.calendar.specs.Refusals.{notOnCalendar}
 use Rattle.calendar.specs.Dates.{lastMinute}
@@ -35,6 +35,10 @@ byWhen (Timed s) boot timed = timed s
 
 unfoldable pub isBoot : Entry → Bool
 isBoot e = byWhen (e .when) true (λ s. false)
+
+-- "An entry is fixed if neither its minute nor its hour field begins with `*`" (ticket 2026-10); `@reboot` has no fields
+unfoldable pub isFixed : Entry → Bool
+isFixed e = byWhen (e .when) false (λ s. not (s .stars .minutes || s .stars .hours))
 
 -- an `@reboot` entry matches no local date, and no minute
 unfoldable pub firesOn : Entry → LocalDate → Bool

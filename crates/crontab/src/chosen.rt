@@ -15,6 +15,7 @@ use crate::item;
 use crate::item::Item;
 use bytes::mark;
 use calendar::LAST_MINUTE;
+use schedule::jump::Case;
 use schedule::local::LocalDate;
 use schedule::local::local_date;
 
@@ -22,8 +23,8 @@ use schedule::local::local_date;
 pub enum Which {
     // The boot jobs.
     AtBoot,
-    // Those that match a minute; none if it is off the calendar.
-    At(u64),
+    // Those that an announced minute calls, by its case; none if it is off the calendar.
+    At { minute: u64, case: Case },
 }
 
 const WORDS: usize = MAX_ENTRIES / 64;
@@ -40,7 +41,7 @@ fn date_under(which: Which, offset: i32) -> LocalDate
     requires { ⌜ InZones offset ⌝ }
     ensures { λ r. ⌜ r ≡ dateUnder which offset ⌝ }
 {
-    let Which::At(minute) = which else {
+    let Which::At { minute, case: _ } = which else {
         return LocalDate::Off;
     };
     if LAST_MINUTE < minute {
@@ -62,12 +63,17 @@ fn moved_on(which: Which, date: LocalDate, offset: i32, next: i32) -> LocalDate
 
 // Whether an entry is chosen, by the local date under its offset.
 fn is_chosen(entry: Entry, which: Which, date: LocalDate) -> bool
-    requires { ⌜ date ≡ dateUnder which (entry .offset) ⌝ }
+    requires { ⌜ InZones (entry .offset) × (date ≡ dateUnder which (entry .offset)) ⌝ }
     ensures { λ r. ⌜ r ≡ isChosen which entry ⌝ }
 {
     match which {
         Which::AtBoot => firing::is_boot(entry),
-        Which::At(_) => firing::fires_on(entry, date),
+        Which::At { minute, case } => {
+            if LAST_MINUTE < minute {
+                return false;
+            }
+            firing::is_called(entry, minute, case, date)
+        }
     }
 }
 

@@ -1,8 +1,12 @@
 // Whether an entry is due at a minute, and when it fires next.
 ghost use mathlib.Core.Path.{_≡_};
-ghost use Rattle.schedule.specs.Local.{InZones};
+ghost use Prim.Native.Nat.{_≤_};
+ghost use Rattle.bytes.specs.Search.{passes};
+ghost use Rattle.calendar.specs.Dates.{lastMinute};
+ghost use Rattle.schedule.specs.Local.{InZones, ahead, localDate};
+ghost use Rattle.schedule.specs.Jumps.{judged};
 ghost use Rattle.crontab.specs.Tables.{tableOf};
-ghost use Rattle.crontab.specs.Firings.{isBoot, firesOn, dueOf, told, nextOf, dueIn, nextIn};
+ghost use Rattle.crontab.specs.Firings.{isBoot, isFixed, firesOn, firesAt, dueOf, told, nextOf, dueIn, nextIn};
 use crate::AT_BOOT_ONLY;
 use crate::Rules;
 use crate::entry::Entry;
@@ -12,6 +16,7 @@ use crate::time::When;
 use calendar::LAST_MINUTE;
 use calendar::NOT_ON_CALENDAR;
 use schedule::Next;
+use schedule::jump::Case;
 use schedule::local;
 use schedule::local::LocalDate;
 
@@ -89,6 +94,44 @@ fn next_after(entry: Entry, minute: u64) -> NextAnswer
         When::Reboot => NextAnswer::Refused(AT_BOOT_ONLY),
         When::Timed(times) => told(local::next_firing_in(times, entry.offset, minute)),
     }
+}
+
+// Whether an entry is fixed: neither its minute nor its hour field begins with `*` (ticket 2026-10).
+fn is_fixed(entry: Entry) -> bool
+    ensures { λ r. ⌜ r ≡ isFixed entry ⌝ }
+{
+    let when = entry.when;
+    let When::Timed(times) = when else {
+        return false;
+    };
+    let stars = times.stars;
+    !(stars.minutes | stars.hours)
+}
+
+// Whether an entry matches any minute after a mark, up to a minute of the calendar: its next firing after the mark tells.
+fn caught_up(entry: Entry, mark: u64, minute: u64) -> bool
+    requires { ⌜ InZones (entry .offset) × (minute ≤ lastMinute) ⌝ }
+    ensures { λ r. ⌜ r ≡ passes (firesAt entry) mark minute ⌝ }
+{
+    match next_after(entry, mark) {
+        NextAnswer::At(next) => next <= minute,
+        NextAnswer::Refused(_) => false,
+    }
+}
+
+// Whether an announced minute calls an entry, by its case and by the local date under the entry's offset.
+pub fn is_called(entry: Entry, minute: u64, case: Case, date: LocalDate) -> bool
+    requires { ⌜ InZones (entry .offset) × (minute ≤ lastMinute) × (date ≡ localDate (ahead (entry .offset)) minute) ⌝ }
+    ensures { λ r. ⌜ r ≡ judged case (isFixed entry) (firesAt entry) minute ⌝ }
+{
+    if is_fixed(entry) {
+        return match case {
+            Case::Anew => fires_on(entry, date),
+            Case::After(mark) => caught_up(entry, mark, minute),
+            Case::Held => false,
+        };
+    }
+    fires_on(entry, date)
 }
 
 // The same of an entry of a table, by its number.

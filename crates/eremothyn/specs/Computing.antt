@@ -4,7 +4,7 @@
 use Rattle.calendar.specs.Computing.{dating}
 use Rattle.schedule.specs.Computing.{firing}
 use Rattle.crontab.specs.Computing.{reading}
-use Rattle.crontab.specs.Firings.{isBoot, firesOn, firesAt, dueOf, told, nextOf, dueAnswer, dueIn, nextAnswer, nextIn}
+use Rattle.crontab.specs.Firings.{isBoot, isFixed, firesOn, firesAt, dueOf, told, nextOf, dueAnswer, dueIn, nextAnswer, nextIn}
 use Rattle.command.specs.Computing.{splitting}
 use Rattle.normal.specs.Computing.{writing}
 use Rattle.records.specs.Computing.{coding}
@@ -22,7 +22,7 @@ use Rattle.eremothyn.specs.NormalForms.{normalNumber}
 use Rattle.eremothyn.specs.Queue.{tickNumber, popNumber}
 
 unfoldable pub answering : Unit {0}
-unfolding dating firing reading isBoot firesOn firesAt dueOf told nextOf dueAnswer dueIn nextAnswer nextIn splitting writing coding running jobAt jobsOf
+unfolding dating firing reading isBoot isFixed firesOn firesAt dueOf told nextOf dueAnswer dueIn nextAnswer nextIn splitting writing coding running jobAt jobsOf
     initTable tickTable popTable answerOf datePart dateMinute checkNumber dueNumber nextNumber settingNumber ownerNumber splitNumber inputNumber
     splitIn splitOf stdinIn stdinLength normalNumber tickNumber popNumber
 answering = tt

@@ -286,16 +286,46 @@ unfolding run answering
 whole-run = refl
 
 -- the calendar's last minute is announced as any other
-last-minute : run (text "* * * * * a") (replicate 4 0) (tick 4223371679 ∷ pop ∷ []) ≡ 1 ∷ 0 ∷ []
+last-minute : run (text "* * * * * a\n") (replicate 12 0) (init ∷ tick 4223371679 ∷ pop ∷ []) ≡ 0 ∷ 1 ∷ 0 ∷ []
 unfolding run answering
 last-minute = refl
 
--- a refused table comes before 28, and 28 before 14
+-- a refused table comes before 28, and 28 before 14; a room in which no line was made is 28
 refused-run :
     (run (text "60") (replicate 7 7) (init ∷ tick 4223371680 ∷ pop ∷ []) ≡ 4294967302 ∷ 4294967302 ∷ 4294967302 ∷ [])
     × (run (text "60") [] (init ∷ tick 4223371680 ∷ pop ∷ []) ≡ 4294967302 ∷ 4294967302 ∷ 4294967302 ∷ [])
     × (run (replicate (maxTable + 1) 10) (replicate 2 0) (init ∷ tick 4223371680 ∷ pop ∷ []) ≡ 4294967297 ∷ 4294967297 ∷ 4294967297 ∷ [])
-    × (run (text "@reboot x") (replicate 3 0) (init ∷ tick 4223371680 ∷ pop ∷ []) ≡ 4294967324 ∷ 4294967324 ∷ 4294967324 ∷ [])
-    × (run (text "@reboot x") (replicate 4 0) (tick 4223371680 ∷ pop ∷ []) ≡ 4294967310 ∷ 4294967296 ∷ [])
+    × (run (text "@reboot x\n") (replicate 11 0) (init ∷ tick 4223371680 ∷ pop ∷ []) ≡ 4294967324 ∷ 4294967324 ∷ 4294967324 ∷ [])
+    × (run (text "@reboot x\n") (replicate 12 0) (tick 4223371680 ∷ tick 5 ∷ pop ∷ []) ≡ 4294967324 ∷ 4294967324 ∷ 4294967324 ∷ [])
+    × (run (text "@reboot x\n") (replicate 12 0) (init ∷ tick 4223371680 ∷ pop ∷ pop ∷ []) ≡ 1 ∷ 4294967310 ∷ 0 ∷ 4294967296 ∷ [])
 unfolding run answering
-refused-run = (refl, refl, refl, refl, refl)
+refused-run = (refl, refl, refl, refl, refl, refl)
+
+-- ---- ticket 2026-10, when the clock jumps: a fixed entry, at 04:30, and two whose hour or minute begins with `*`
+
+abbrev jumping : List Ask → List ℕ
+jumping asks = run (text "30 4 * * * a\n30 * * * * b\n* 4 * * * c\n") (replicate 88 0) (init ∷ asks)
+
+jumps : Hold jumping
+    -- 180 above: caught up, once, and only the fixed one; 181 above: by the minute itself, 06:21
+    ((tick 200 ∷ tick 380 ∷ pop ∷ pop ∷ [], 0 ∷ 0 ∷ 1 ∷ 0 ∷ 4294967296 ∷ [])
+    ∷ (tick 200 ∷ tick 381 ∷ [], 0 ∷ 0 ∷ 0 ∷ [])
+    -- the marked minute again: the fixed one doesn't join; 179 below: nor there; 180 below, 01:30, begins anew, and 04:30 is caught up
+    ∷ (tick 270 ∷ pop ∷ pop ∷ pop ∷ tick 270 ∷ pop ∷ pop ∷ [], 0 ∷ 3 ∷ 0 ∷ 1 ∷ 2 ∷ 2 ∷ 1 ∷ 2 ∷ [])
+    ∷ (tick 270 ∷ pop ∷ pop ∷ pop ∷ tick 91 ∷ tick 90 ∷ tick 270 ∷ [], 0 ∷ 3 ∷ 0 ∷ 1 ∷ 2 ∷ 0 ∷ 1 ∷ 2 ∷ [])
+    -- the mark stays at 05:00 while 03:20 is announced, so 04:30 isn't caught up behind it
+    ∷ (tick 300 ∷ tick 200 ∷ tick 301 ∷ [], 0 ∷ 0 ∷ 0 ∷ 0 ∷ [])
+    -- a refused announcement leaves the mark
+    ∷ (tick 200 ∷ tick 4223371680 ∷ tick 290 ∷ [], 0 ∷ 0 ∷ 4294967310 ∷ 2 ∷ [])
+    ∷ [])
+unfolding run answering
+jumps = refl
+
+-- two minutes of the span match, and it joins once; under an offset of an hour 04:30 is 210
+jumps-once : run (text "0,30 4 * * * a\n") (replicate 12 0) (init ∷ tick 200 ∷ tick 300 ∷ pop ∷ pop ∷ []) ≡ 0 ∷ 0 ∷ 1 ∷ 0 ∷ 4294967296 ∷ []
+unfolding run answering
+jumps-once = refl
+
+jumps-local : run (text "CRON_TZ=+01:00\n30 4 * * * a\n") (replicate 12 0) (init ∷ tick 100 ∷ tick 209 ∷ tick 210 ∷ []) ≡ 0 ∷ 0 ∷ 0 ∷ 1 ∷ []
+unfolding run answering
+jumps-local = refl

@@ -11,19 +11,20 @@ use lib.ListN.{length, take, drop, length-take, take-append-drop}
 use lib.Seq.{take-append-add}
 use borrow.Author.Tests.{leb-true}
 use Rattle.bytes.specs.Laid as front
-use Rattle.fifo.specs.WaitingLine.{entriesOf}
-use Rattle.fifo.specs.Layout.{lineOf, image, laid, lineSize, roomy, limit}
+use Rattle.fifo.specs.WaitingLine.{Line, proper}
+use Rattle.fifo.specs.Queue.{limit}
+use Rattle.fifo.specs.Layout.{lineOf, image, laid, lineSize, roomy}
 use Rattle.fifo.specs.Steps.{Jobs, fresh, initStep}
 use Rattle.fifo.specs.Fairness.{Call, roomOf, roomAfter, isRefused, lineAfter, Holds, Follows}
 use Rattle.fifo.specs.Buffer.{Use, tickIn, popIn, lent, callOn, bufferAfter, callsOn, bufferAfterAll, started}
 use Rattle.fifo.proofs.WaitingLines.{entries-length}
-use Rattle.fifo.proofs.Laid.{length-image, lineOf-laid}
-use Rattle.fifo.proofs.Calls.{holds-front, holds-laid, Undone, Done, effect, effect-entries, outcome, after-entries}
+use Rattle.fifo.proofs.Lines.{length-line, lineOf-laid, is-proper}
+use Rattle.fifo.proofs.Calls.{holds-front, holds-laid, Undone, Done, effect, outcome, after-proper}
 
 -- ---- a line at the front of a buffer
 
 -- bytes behind it don't matter
-holds-more : (l room s : List ℕ) → Holds l room → Holds l (room ++ s)
+holds-more : (l : Line) (room s : List ℕ) → Holds l room → Holds l (room ++ s)
 unfolding laid front.laid
 holds-more l room s h =
     let rest = drop (length (image l)) room in
@@ -31,7 +32,7 @@ holds-more l room s h =
     rw apart at (holds-front l (rest ++ s))
 
 -- a part that is long enough has it too
-holds-part : (l buffer : List ℕ) (size : ℕ) → Holds l buffer → length (image l) ≤ size → Holds l (take size buffer)
+holds-part : (l : Line) (buffer : List ℕ) (size : ℕ) → Holds l buffer → length (image l) ≤ size → Holds l (take size buffer)
 unfolding laid front.laid
 holds-part l buffer size h k =
     let rest = drop (length (image l)) buffer in
@@ -47,17 +48,17 @@ room-on buffer (popIn size) = refl
 
 module _ (jobs : Jobs) (h : jobs .count < limit) where
   -- a room that is big enough for all entries has the line
-  pub on-holds : (buffer l : List ℕ) (u : Use) → entriesOf (jobs .count) l ≡ true → Holds l buffer
+  pub on-holds : (buffer : List ℕ) (l : Line) (u : Use) → proper (jobs .count) l ≡ true → Holds l buffer
       → roomy (jobs .count) (roomOf (callOn buffer u)) ≡ true → Holds l (roomOf (callOn buffer u))
   unfolding roomy
   on-holds buffer l u e held r =
       let k : lineSize (jobs .count) ≤ length (take (lent u) buffer) = leb-true _ _ (rw (room-on buffer u) at r) in
       let fits : length (image l) ≤ lent u =
-      omega (arith, length-image l, entries-length (jobs .count) l e, length-take (lent u) buffer) in
+      omega (arith, length-line l, entries-length (jobs .count) (l .waiting) (is-proper (jobs .count) l e .1), length-take (lent u) buffer) in
       rw (room-on buffer u) (holds-part l buffer (lent u) held fits)
 
   -- the buffer has the line that the call leaves
-  pub on-after : (buffer l : List ℕ) (u : Use) → entriesOf (jobs .count) l ≡ true → Holds l buffer
+  pub on-after : (buffer : List ℕ) (l : Line) (u : Use) → proper (jobs .count) l ≡ true → Holds l buffer
       → Holds (lineAfter jobs l (callOn buffer u)) (bufferAfter jobs buffer u)
   unfolding lineAfter bufferAfter
   on-after buffer l u e held = elim (outcome jobs h l e c (on-holds buffer l u e held)) [ inl u ↦ undone u | inr d ↦ done d ]
@@ -70,17 +71,17 @@ module _ (jobs : Jobs) (h : jobs .count < limit) where
 
       done : Done jobs l c → Holds (cond (isRefused jobs c) l (lineOf (roomAfter jobs c))) (roomAfter jobs c ++ drop (lent u) buffer)
       done w =
-          rw (w .was, w .room, lineOf-laid (jobs .count) (effect jobs l c) (roomOf c) h (effect-entries jobs l c e))
+          rw (w .was, w .room, lineOf-laid (jobs .count) (effect jobs l c) (roomOf c) h (w .leaves))
           (holds-more (effect jobs l c) (laid (effect jobs l c) (roomOf c)) (drop (lent u) buffer) (holds-laid (effect jobs l c) (roomOf c)))
 
   -- the calls follow from the line that the buffer has
-  pub on-follows : (us : List Use) (buffer l : List ℕ) → entriesOf (jobs .count) l ≡ true → Holds l buffer → Follows jobs l (callsOn jobs buffer us)
+  pub on-follows : (us : List Use) (buffer : List ℕ) (l : Line) → proper (jobs .count) l ≡ true → Holds l buffer → Follows jobs l (callsOn jobs buffer us)
   unfolding callsOn
   on-follows [] buffer l e held = tt
   on-follows (u ∷ us) buffer l e held =
       let seen = on-holds buffer l u e held in (
         seen,
-        on-follows us (bufferAfter jobs buffer u) (lineAfter jobs l (callOn buffer u)) (after-entries jobs h l (callOn buffer u) e seen)
+        on-follows us (bufferAfter jobs buffer u) (lineAfter jobs l (callOn buffer u)) (after-proper jobs h l (callOn buffer u) e seen)
             (on-after buffer l u e held),
       )
 

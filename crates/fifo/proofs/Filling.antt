@@ -5,54 +5,55 @@ use mathlib.Core.Bool.{Bool, true, false, not, cond, _&&_, and-true, and-eq-true
 use mathlib.Core.List.{List, [], _∷_, _++_, append-assoc, append-nil}
 use Prim.Native.Nat.{ℕ, suc, _+_, _≤_, _<_}
 use native.Mathlib.Numerals.{add-one}
+use native.Mathlib.Nat.{lt-of-not-le}
+use native.Mathlib.Decide.{decLe}
 use native.Mathlib.Omega.{arith}
 use lib.Dec.{leb, ltb}
 use lib.ListN.{length, length-append}
 use borrow.Author.Tests.{not-true, le-leb, lt-leb, lt-ltb, le-ltb}
 use Rattle.bytes.specs.Marks.{marked}
-use Rattle.fifo.specs.declared.Ticked.{Ticked}
-use Rattle.fifo.specs.declared.Ticked.the-variants.{Refused}
-use Rattle.fifo.specs.WaitingLine.{standsIn, entriesOf, pick}
-use Rattle.fifo.specs.Layout.{isLine, lineOf, laid, lineSize, roomy, limit}
-use Rattle.fifo.specs.Refusals.{notALine, offCalendar}
-use Rattle.fifo.specs.Steps.{Jobs, Step, fresh, initStep, joins, joiners, ticked, tickStep}
-use Rattle.fifo.specs.SmallSteps.{canPush, pushed, callees, initMarked, tickMarked}
+use Rattle.calendar.specs.Dates.{lastMinute}
+use Rattle.fifo.specs.WaitingLine.{Line, standsIn, entriesOf, pick}
+use Rattle.fifo.specs.Queue.{isQueue, queueOf, queueLaid, queueSize, queueRoomy, limit}
+use Rattle.fifo.specs.Layout.{lineOf}
+use Rattle.fifo.specs.Steps.{Jobs, fresh, initStep, calls, joins, joiners, ticked, tickStep}
+use Rattle.fifo.specs.SmallSteps.{canPush, pushed, callees, initCalled, joined, tickCalled}
 use Rattle.fifo.proofs.WaitingLines.{stands-append, stands-pick, pick-same, entries-length, entries-snoc, entries-pick}
-use Rattle.fifo.proofs.Rooms.{is-line}
-use Rattle.fifo.proofs.Laid.{isLine-laid, lineOf-laid, laid-laid}
+use Rattle.fifo.proofs.Rooms.{is-queue}
+use Rattle.fifo.proofs.Queues.{isQueue-laid, queueOf-laid, laid-laid}
 
 -- ---- one entry more
 
 -- in a room that holds a line of n entries there is room for one that doesn't wait
-pub push-room : (n : ℕ) (room : List ℕ) (e : ℕ) → n < limit → isLine n room ≡ true → e < n → standsIn e (lineOf room) ≡ false
-    → (canPush room ≡ true) × (pushed e room ≡ laid (lineOf room ++ e ∷ []) room)
-unfolding canPush pushed roomy
+pub push-room : (n : ℕ) (room : List ℕ) (e : ℕ) → n < limit → isQueue n room ≡ true → e < n → standsIn e (queueOf room) ≡ false
+    → (canPush room ≡ true) × (pushed e room ≡ queueLaid (queueOf room ++ e ∷ []) room)
+unfolding canPush pushed queueRoomy
 push-room n room e h q below out =
-    let l = lineOf room in
-    let i = is-line n room q in
+    let l = queueOf room in
+    let i = is-queue n room q in
     let more = entries-length n (l ++ e ∷ []) (entries-snoc n l e (i .entries-is) below out) in
     let one = length-append l (e ∷ []) in
-    let fits : leb (lineSize (suc (length l))) (length room) ≡ true = le-leb (lineSize (suc (length l))) (length room) (omega (arith, i .size-is)) in
+    let fits : leb (queueSize (suc (length l))) (length room) ≡ true = le-leb (queueSize (suc (length l))) (length room) (omega (arith, i .size-is)) in
     let small : ltb (suc (length l)) limit ≡ true = lt-ltb (suc (length l)) limit (omega arith) in
     (rw (fits, small), rw (fits, small))
 
 -- the line is longer by it, and the room holds a line of n entries again
-pub push-line : (n : ℕ) (room : List ℕ) (e : ℕ) → n < limit → isLine n room ≡ true → e < n → standsIn e (lineOf room) ≡ false
-    → (lineOf (pushed e room) ≡ lineOf room ++ e ∷ []) × (isLine n (pushed e room) ≡ true)
+pub push-line : (n : ℕ) (room : List ℕ) (e : ℕ) → n < limit → isQueue n room ≡ true → e < n → standsIn e (queueOf room) ≡ false
+    → (queueOf (pushed e room) ≡ queueOf room ++ e ∷ []) × (isQueue n (pushed e room) ≡ true)
 push-line n room e h q below out =
-    let l = lineOf room in
-    let i = is-line n room q in
+    let l = queueOf room in
+    let i = is-queue n room q in
     let g = entries-snoc n l e (i .entries-is) below out in
     let done = push-room n room e h q below out .1 in
-    (ap lineOf done ∙ lineOf-laid n (l ++ e ∷ []) room h g, ap (isLine n) done ∙ isLine-laid n (l ++ e ∷ []) room h g (i .roomy-is))
+    (ap queueOf done ∙ queueOf-laid n (l ++ e ∷ []) room h g, ap (isQueue n) done ∙ isQueue-laid n (l ++ e ∷ []) room h g (i .roomy-is))
 
 -- the same of a line that was laid
-pub push-laid : (n : ℕ) (l room : List ℕ) (e : ℕ) → n < limit → roomy n room ≡ true → entriesOf n l ≡ true → e < n → standsIn e l ≡ false
-    → (canPush (laid l room) ≡ true) × (pushed e (laid l room) ≡ laid (l ++ e ∷ []) room)
+pub push-laid : (n : ℕ) (l room : List ℕ) (e : ℕ) → n < limit → queueRoomy n room ≡ true → entriesOf n l ≡ true → e < n → standsIn e l ≡ false
+    → (canPush (queueLaid l room) ≡ true) × (pushed e (queueLaid l room) ≡ queueLaid (l ++ e ∷ []) room)
 push-laid n l room e h r g below out =
-    let line : lineOf (laid l room) ≡ l = lineOf-laid n l room h g in
+    let line : queueOf (queueLaid l room) ≡ l = queueOf-laid n l room h g in
     let one = length-append l (e ∷ []) in
-    let step = push-room n (laid l room) e h (isLine-laid n l room h g r) below (rw line out) in
+    let step = push-room n (queueLaid l room) e h (isQueue-laid n l room h g r) below (rw line out) in
     (step .0, step .1 ∙ rw line (laid-laid (l ++ e ∷ []) l room (omega arith)))
 
 -- ---- entry by entry
@@ -60,9 +61,9 @@ push-laid n l room e h r g below out =
 module _ (l room : List ℕ) (p : ℕ → Bool) where
   -- the room after the entries below i
   abbrev pub filled : ℕ → List ℕ
-  filled i = laid (l ++ pick p i) room
+  filled i = queueLaid (l ++ pick p i) room
 
-  pub filled-none : filled 0 ≡ laid l room
+  pub filled-none : filled 0 ≡ queueLaid l room
   unfolding pick
   filled-none = rw append-nil
 
@@ -71,19 +72,19 @@ module _ (l room : List ℕ) (p : ℕ → Bool) where
   unfolding pick
   filled-pass i q = rw (add-one i, q, append-nil (pick p i))
 
-  module _ (n : ℕ) (h : n < limit) (r : roomy n room ≡ true) (g : entriesOf n l ≡ true)
+  module _ (n : ℕ) (h : n < limit) (r : queueRoomy n room ≡ true) (g : entriesOf n l ≡ true)
       (new : (e : ℕ) → p e ≡ true → standsIn e l ≡ false) where
     filled-entries : (i : ℕ) → i ≤ n → entriesOf n (l ++ pick p i) ≡ true
     filled-entries i k = entries-pick n l p new g i k
 
-    pub filled-line : (i : ℕ) → i ≤ n → lineOf (filled i) ≡ l ++ pick p i
-    filled-line i k = lineOf-laid n (l ++ pick p i) room h (filled-entries i k)
+    pub filled-line : (i : ℕ) → i ≤ n → queueOf (filled i) ≡ l ++ pick p i
+    filled-line i k = queueOf-laid n (l ++ pick p i) room h (filled-entries i k)
 
     -- entry i waits there if it waited before
     waits-before : (i : ℕ) → standsIn i (l ++ pick p i) ≡ standsIn i l
     waits-before i = stands-append i l (pick p i) ∙ rw (stands-pick p i i, le-ltb i i (omega arith)) (or-false (standsIn i l))
 
-    pub filled-waits : (i : ℕ) → i ≤ n → standsIn i (lineOf (filled i)) ≡ standsIn i l
+    pub filled-waits : (i : ℕ) → i ≤ n → standsIn i (queueOf (filled i)) ≡ standsIn i l
     filled-waits i k = ap (standsIn i) (filled-line i k) ∙ waits-before i
 
     -- an entry that passes joins
@@ -125,7 +126,7 @@ pub record Fills (l room₀ : List ℕ) (p : ℕ → Bool) (n i : ℕ) (room : L
   pub count-most : count ≤ i
 
 module _ (l room₀ : List ℕ) (p : ℕ → Bool) (n : ℕ) where
-  pub fills-none : {room : List ℕ} → room ≡ laid l room₀ → length room ≡ length room₀ → Fills l room₀ p n 0 room 0
+  pub fills-none : {room : List ℕ} → room ≡ queueLaid l room₀ → length room ≡ length room₀ → Fills l room₀ p n 0 room 0
   unfolding pick
   fills-none e k =
       record {
@@ -151,62 +152,56 @@ module _ (l room₀ : List ℕ) (p : ℕ → Bool) (n : ℕ) where
 -- A turn of the loop: an entry that is called joins unless it waits.
 module _ (n : ℕ) (room called : List ℕ) where
   abbrev pub joinsNow : ℕ → Bool
-  joinsNow e = marked called e && not (standsIn e (lineOf room))
+  joinsNow e = marked called e && not (standsIn e (queueOf room))
 
-  now-new : (e : ℕ) → joinsNow e ≡ true → standsIn e (lineOf room) ≡ false
-  now-new e q = not-true (standsIn e (lineOf room)) (and-eq-true-iff (marked called e) (not (standsIn e (lineOf room))) .0 q .1)
+  now-new : (e : ℕ) → joinsNow e ≡ true → standsIn e (queueOf room) ≡ false
+  now-new e q = not-true (standsIn e (queueOf room)) (and-eq-true-iff (marked called e) (not (standsIn e (queueOf room))) .0 q .1)
 
-  pub join-next : (i : ℕ) → n < limit → isLine n room ≡ true → i < n
-      → let at = filled (lineOf room) room joinsNow in
+  pub join-next : (i : ℕ) → n < limit → isQueue n room ≡ true → i < n
+      → let at = filled (queueOf room) room joinsNow in
       ((joinsNow i && canPush (at i)) ≡ joinsNow i) × (cond (joinsNow i) (pushed i (at i)) (at i) ≡ at (i + 1))
   join-next i h q k =
-      let line = is-line n room q in
-      filled-next (lineOf room) room joinsNow n h (line .roomy-is) (line .entries-is) now-new i k
+      let line = is-queue n room q in
+      filled-next (queueOf room) room joinsNow n h (line .roomy-is) (line .entries-is) now-new i k
 
 -- a room that was cleared holds the empty line, and what is laid there is as in the room before
-module _ (n : ℕ) (room x : List ℕ) (few : n < limit) (r : roomy n room ≡ true) (e : x ≡ laid [] room) where
-  pub emptied-line : isLine n x ≡ true
+module _ (n : ℕ) (room x : List ℕ) (few : n < limit) (r : queueRoomy n room ≡ true) (e : x ≡ queueLaid [] room) where
+  pub emptied-queue : isQueue n x ≡ true
   unfolding entriesOf
-  emptied-line = rw e (isLine-laid n [] room few refl r)
+  emptied-queue = rw e (isQueue-laid n [] room few refl r)
 
-  pub emptied : lineOf x ≡ []
+  pub emptied : queueOf x ≡ []
   unfolding entriesOf
-  emptied = rw e (lineOf-laid n [] room few refl)
+  emptied = rw e (queueOf-laid n [] room few refl)
 
-  pub laid-emptied : (l : List ℕ) → laid l x ≡ laid l room
-  laid-emptied l = ap (laid l) e ∙ laid-laid l [] room (omega arith)
+  pub laid-emptied : (l : List ℕ) → queueLaid l x ≡ queueLaid l room
+  laid-emptied l = ap (queueLaid l) e ∙ laid-laid l [] room (omega arith)
 
 -- ---- a fresh line and an announced minute end in their steps
 
 -- who joins doesn't wait
-pub joins-new : (jobs : Jobs) (minute : ℕ) (l : List ℕ) (e : ℕ) → joins jobs minute l e ≡ true → standsIn e l ≡ false
+pub joins-new : (jobs : Jobs) (minute : ℕ) (l : Line) (e : ℕ) → joins jobs minute l e ≡ true → standsIn e (l .waiting) ≡ false
 unfolding joins
-joins-new jobs minute l e q = not-true (standsIn e l) (and-eq-true-iff (not (jobs .boot e) && jobs .matches e minute) (not (standsIn e l)) .0 q .1)
+joins-new jobs minute l e q =
+    not-true (standsIn e (l .waiting)) (and-eq-true-iff (not (jobs .boot e) && calls jobs (l .mark) minute e) (not (standsIn e (l .waiting))) .0 q .1)
 
 -- where the set has just those jobs of which the step speaks
 module _ (jobs : Jobs) (called room : List ℕ) where
-  pub init-marked : ((e : ℕ) → e < jobs .count → marked called e ≡ jobs .boot e) → initMarked (jobs .count) called room ≡ initStep jobs room
-  unfolding initMarked initStep callees fresh standsIn
-  init-marked h = rw (pick-same (λ e. marked called e && true) (jobs .boot) (jobs .count) (λ e k. and-true (marked called e) ∙ h e k))
+  pub init-called : ((e : ℕ) → e < jobs .count → marked called e ≡ jobs .boot e) → initCalled (jobs .count) called room ≡ initStep jobs room
+  unfolding initCalled initStep callees fresh standsIn
+  init-called h = rw (pick-same (λ e. marked called e && true) (jobs .boot) (jobs .count) (λ e k. and-true (marked called e) ∙ h e k))
 
-  module _ (minute : ℕ) where
-    pub tick-marked : ((e : ℕ) → e < jobs .count → marked called e ≡ (not (jobs .boot e) && jobs .matches e minute)) → minute ≤ jobs .last
-        → tickMarked (jobs .count) called room ≡ tickStep jobs minute room
-    unfolding tickMarked tickStep ticked joiners callees joins
-    tick-marked h on = let l = lineOf room in
-        rw (le-leb minute (jobs .last) on, pick-same (λ e. marked called e && not (standsIn e l)) (joins jobs minute l) (jobs .count) same)
-      where
-        same : (e : ℕ) → e < jobs .count → (marked called e && not (standsIn e (lineOf room))) ≡ joins jobs minute (lineOf room) e
-        same e k = rw (h e k)
-
-    -- off the calendar it is refused, as a room that holds no line is before
-    pub tick-late : jobs .last < minute
-        → tickStep jobs minute room ≡ record { answer = Refused (cond (isLine (jobs .count) room) offCalendar notALine); room = room }
-    unfolding tickStep
-    tick-late off = rw (lt-leb minute (jobs .last) off) (go (isLine (jobs .count) room))
-      where
-        go : (b : Bool)
-            → _≡_ {A = Step Ticked} (cond b (record { answer = Refused offCalendar; room = room }) (record { answer = Refused notALine; room = room }))
-            (record { answer = Refused (cond b offCalendar notALine); room = room })
-        go true = refl
-        go false = refl
+  pub tick-called : (minute : ℕ)
+      → (minute ≤ lastMinute → (e : ℕ) → e < jobs .count → marked called e ≡ (not (jobs .boot e) && calls jobs (lineOf room .mark) minute e))
+      → tickCalled (jobs .count) called minute room ≡ tickStep jobs minute room
+  unfolding tickCalled tickStep joined ticked joiners callees joins
+  tick-called minute h =
+      let l = lineOf room in
+      elim (decLe minute lastMinute) [
+        | yes on ↦
+            rw (
+              le-leb minute lastMinute on,
+              pick-same (λ e. marked called e && not (standsIn e (l .waiting))) (joins jobs minute l) (jobs .count) (λ e k. rw (h on e k)),
+            )
+        | no off ↦ rw (lt-leb minute lastMinute (lt-of-not-le off))
+      ]

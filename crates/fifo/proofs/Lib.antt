@@ -1,12 +1,15 @@
 pub mod WaitingLines
 pub mod Numbers
-pub mod Laid
+pub mod Queues
 pub mod Stores
-pub mod Marks
+pub mod Gathered
 pub mod Rooms
+pub mod Lines
 pub mod Filling
 pub mod Calls
 pub mod Fair
+pub mod Outrun
 pub mod Buffer
 pub mod Steady
+pub mod Quiet
 pub mod Theorems

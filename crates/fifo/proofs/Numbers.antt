@@ -7,7 +7,7 @@ use native.Mathlib.Omega.{arith}
 use native.Mathlib.Numerals.{add-one}
 use lib.ListN.{length, getD, take, length-take, List·getD-eq-default}
 use lib.Seq.{getD-take}
-use Rattle.fifo.specs.Layout.{numbers, bytes, counted, lineOf, limit}
+use Rattle.fifo.specs.Queue.{numbers, bytes, counted, queueOf, limit}
 -- what a u8 is, at every place
 pub use Rattle.bytes.proofs.LittleEndian.{Bytes}
 
@@ -63,43 +63,43 @@ bytes-numbers (a ∷ b ∷ s) f (suc k) h =
 
 -- ---- the line of a room
 
-pub line-none : (s : List ℕ) → length s < 2 → length (lineOf s) ≡ 0
-unfolding lineOf counted numbers
-line-none [] h = refl
-line-none (a ∷ []) h = refl
-line-none (a ∷ b ∷ s) h = absurd (omega arith)
+pub queue-none : (s : List ℕ) → length s < 2 → length (queueOf s) ≡ 0
+unfolding queueOf counted numbers
+queue-none [] h = refl
+queue-none (a ∷ []) h = refl
+queue-none (a ∷ b ∷ s) h = absurd (omega arith)
 
 -- as long as the count says, if there are so many numbers
-pub line-length : (s : List ℕ) → 2 ≤ length s → length (lineOf s) ≡ min (getD (numbers s) 0 0) (length s / 2 - 1)
-unfolding lineOf counted numbers
-line-length [] h = absurd (omega arith)
-line-length (a ∷ []) h = absurd (omega arith)
-line-length (a ∷ b ∷ s) h = omega (arith, length-take (a + 256 * b) (numbers s), length-numbers s)
+pub queue-length : (s : List ℕ) → 2 ≤ length s → length (queueOf s) ≡ min (getD (numbers s) 0 0) (length s / 2 - 1)
+unfolding queueOf counted numbers
+queue-length [] h = absurd (omega arith)
+queue-length (a ∷ []) h = absurd (omega arith)
+queue-length (a ∷ b ∷ s) h = omega (arith, length-take (a + 256 * b) (numbers s), length-numbers s)
 
-pub line-short : (s : List ℕ) → length (lineOf s) ≤ length s / 2 - 1
-unfolding lineOf counted numbers
-line-short [] = omega arith
-line-short (a ∷ []) = omega arith
-line-short (a ∷ b ∷ s) = omega (arith, length-take (a + 256 * b) (numbers s), length-numbers s)
+pub queue-short : (s : List ℕ) → length (queueOf s) ≤ length s / 2 - 1
+unfolding queueOf counted numbers
+queue-short [] = omega arith
+queue-short (a ∷ []) = omega arith
+queue-short (a ∷ b ∷ s) = omega (arith, length-take (a + 256 * b) (numbers s), length-numbers s)
 
-pub line-small : (s : List ℕ) → Bytes s → length (lineOf s) < limit
-unfolding lineOf counted numbers
-line-small [] f = omega arith
-line-small (a ∷ []) f = omega arith
-line-small (a ∷ b ∷ s) f = omega (arith, f 0, f 1, length-take (a + 256 * b) (numbers s))
+pub queue-small : (s : List ℕ) → Bytes s → length (queueOf s) < limit
+unfolding queueOf counted numbers
+queue-small [] f = omega arith
+queue-small (a ∷ []) f = omega arith
+queue-small (a ∷ b ∷ s) f = omega (arith, f 0, f 1, length-take (a + 256 * b) (numbers s))
 
-pub line-at : (s : List ℕ) (i : ℕ) → i < length (lineOf s) → getD (lineOf s) i 0 ≡ getD (numbers s) (i + 1) 0
-unfolding lineOf counted
-line-at s i h = go (numbers s) h
+pub queue-at : (s : List ℕ) (i : ℕ) → i < length (queueOf s) → getD (queueOf s) i 0 ≡ getD (numbers s) (i + 1) 0
+unfolding queueOf counted
+queue-at s i h = go (numbers s) h
   where
     go : (ns : List ℕ) → i < length (counted ns) → getD (counted ns) i 0 ≡ getD ns (i + 1) 0
     go [] h = absurd (omega arith)
     go (x ∷ ns) h = rw (add-one i) (getD-take x ns i 0 (omega (arith, length-take x ns)))
 
 -- the line's own bytes
-pub bytes-line : (a b : ℕ) (s : List ℕ) → Bytes s → bytes (lineOf (a ∷ b ∷ s)) ≡ take (2 * length (lineOf (a ∷ b ∷ s))) s
-unfolding lineOf counted numbers
-bytes-line a b s f =
+pub bytes-queue : (a b : ℕ) (s : List ℕ) → Bytes s → bytes (queueOf (a ∷ b ∷ s)) ≡ take (2 * length (queueOf (a ∷ b ∷ s))) s
+unfolding queueOf counted numbers
+bytes-queue a b s f =
     ap bytes (sym (take-again (a + 256 * b) (numbers s)))
     ∙ bytes-numbers s f (length (take (a + 256 * b) (numbers s))) (omega (arith, length-take (a + 256 * b) (numbers s), length-numbers s))
   where

@@ -9,34 +9,36 @@ use native.Mathlib.Omega.{arith}
 use lib.Dec.{leb}
 use lib.ListN.{length, take, drop, length-take, length-drop, length-append}
 use borrow.Author.Tests.{leb-true, le-leb}
-use Rattle.fifo.specs.WaitingLine.{entriesOf}
-use Rattle.fifo.specs.Layout.{laid, lineSize, roomy, limit}
+use Rattle.calendar.specs.Dates.{lastMinute}
+use Rattle.fifo.specs.WaitingLine.{Line, proper}
+use Rattle.fifo.specs.Queue.{limit}
+use Rattle.fifo.specs.Layout.{laid, lineSize, roomy}
 use Rattle.fifo.specs.Steps.{Jobs, fresh, initStep}
 use Rattle.fifo.specs.RefusedCalls.{expected}
 use Rattle.fifo.specs.Fairness.{Call, tick, pop, roomOf, roomAfter, refusal, isRefused, unrefused, lineAfter, Holds, Paced}
 use Rattle.fifo.specs.Buffer.{Use, tickIn, popIn, lent, callOn, bufferAfter, callsOn, bufferAfterAll, started}
 use Rattle.fifo.specs.Steady.{steady}
 use Rattle.fifo.proofs.WaitingLines.{entries-length}
-use Rattle.fifo.proofs.Laid.{length-laid}
-use Rattle.fifo.proofs.Calls.{Done, effect, effect-entries, outcome, fresh-entries, after-entries}
+use Rattle.fifo.proofs.Lines.{length-laid, is-proper}
+use Rattle.fifo.proofs.Calls.{Done, effect, outcome, fresh-proper, after-proper}
 use Rattle.fifo.proofs.Buffer.{room-on, on-holds, on-after, started-holds}
 
 -- ---- the buffer between calls
 
 -- a line of entries stands at the front of a buffer of n bytes
 record Stands (jobs : Jobs) (n : ℕ) (buffer : List ℕ) : Type 0 where
-  waiting : List ℕ
-  entries : entriesOf (jobs .count) waiting ≡ true
-  held : Holds waiting buffer
+  line : Line
+  entries : proper (jobs .count) line ≡ true
+  held : Holds line buffer
   long : length buffer ≡ n
 
 module _ (jobs : Jobs) (h : jobs .count < limit) (n : ℕ) where
   -- a call that isn't refused had room enough
-  done-roomy : (l : List ℕ) (c : Call) → Done jobs l c → roomy (jobs .count) (roomOf c) ≡ true
+  done-roomy : (l : Line) (c : Call) → Done jobs l c → roomy (jobs .count) (roomOf c) ≡ true
   unfolding isRefused expected roomOf
   done-roomy l (tick minute room) d = go (roomy (jobs .count) room) (d .why)
     where
-      go : (b : Bool) → refusal jobs (tick minute room) ≡ cond b (cond (leb minute (jobs .last)) 0 14) 28 → b ≡ true
+      go : (b : Bool) → refusal jobs (tick minute room) ≡ cond b (cond (leb minute (lastMinute)) 0 14) 28 → b ≡ true
       go true e = refl
       go false e = absurd (true≢false (rw e at (d .was)))
   done-roomy l (pop room) d = go (roomy (jobs .count) room) (d .why)
@@ -49,27 +51,27 @@ module _ (jobs : Jobs) (h : jobs .count < limit) (n : ℕ) where
     c : Call
     c = callOn buffer u
 
-    seen : roomy (jobs .count) (roomOf c) ≡ true → Holds (s .waiting) (roomOf c)
+    seen : roomy (jobs .count) (roomOf c) ≡ true → Holds (s .line) (roomOf c)
     unfolding c
-    seen = on-holds jobs h buffer (s .waiting) u (s .entries) (s .held)
+    seen = on-holds jobs h buffer (s .line) u (s .entries) (s .held)
 
     room-length : length (roomAfter jobs c) ≡ length (roomOf c)
     unfolding roomy
-    room-length = elim (outcome jobs h (s .waiting) (s .entries) c seen) [ inl w ↦ ap length (w .room) | inr d ↦ done d ]
+    room-length = elim (outcome jobs h (s .line) (s .entries) c seen) [ inl w ↦ ap length (w .room) | inr d ↦ done d ]
       where
-        done : Done jobs (s .waiting) c → length (roomAfter jobs c) ≡ length (roomOf c)
+        done : Done jobs (s .line) c → length (roomAfter jobs c) ≡ length (roomOf c)
         done d =
-            let k : lineSize (jobs .count) ≤ length (roomOf c) = leb-true _ _ (done-roomy (s .waiting) c d) in
-            let few = entries-length (jobs .count) (effect jobs (s .waiting) c) (effect-entries jobs (s .waiting) c (s .entries)) in
-            ap length (d .room) ∙ length-laid (effect jobs (s .waiting) c) (roomOf c) (omega arith)
+            let k : lineSize (jobs .count) ≤ length (roomOf c) = leb-true _ _ (done-roomy (s .line) c d) in
+            let few = entries-length (jobs .count) (effect jobs (s .line) c .waiting) (is-proper (jobs .count) (effect jobs (s .line) c) (d .leaves) .1) in
+            ap length (d .room) ∙ length-laid (effect jobs (s .line) c) (roomOf c) (omega arith)
 
     after-stands : Stands jobs n (bufferAfter jobs buffer u)
     unfolding bufferAfter c
     after-stands =
         record {
-          waiting = lineAfter jobs (s .waiting) (callOn buffer u);
-          entries = after-entries jobs h (s .waiting) (callOn buffer u) (s .entries) seen;
-          held = on-after jobs h buffer (s .waiting) u (s .entries) (s .held);
+          line = lineAfter jobs (s .line) (callOn buffer u);
+          entries = after-proper jobs h (s .line) (callOn buffer u) (s .entries) seen;
+          held = on-after jobs h buffer (s .line) u (s .entries) (s .held);
           long =
               length-append (roomAfter jobs (callOn buffer u)) (drop (lent u) buffer)
               ∙ omega (arith, room-length, ap length (room-on buffer u), length-take (lent u) buffer, length-drop (lent u) buffer, s .long);
@@ -79,7 +81,7 @@ module _ (jobs : Jobs) (h : jobs .count < limit) (n : ℕ) where
     taken : expected jobs c ≡ 0 → isRefused jobs c ≡ false
     unfolding isRefused
     taken e =
-        let why : refusal jobs c ≡ 0 = elim (outcome jobs h (s .waiting) (s .entries) c seen) [ inl w ↦ w .why ∙ e | inr d ↦ d .why ∙ e ] in
+        let why : refusal jobs c ≡ 0 = elim (outcome jobs h (s .line) (s .entries) c seen) [ inl w ↦ w .why ∙ e | inr d ↦ d .why ∙ e ] in
         rw why
 
   end-stands : (us : List Use) (buffer : List ℕ) → Stands jobs n buffer → Stands jobs n (bufferAfterAll jobs buffer us)
@@ -94,15 +96,15 @@ module _ (jobs : Jobs) (h : jobs .count < limit) (n : ℕ) where
     unfolding roomy
     part-roomy buffer s = le-leb (lineSize (jobs .count)) (length (take size buffer)) (omega (arith, length-take size buffer, s .long))
 
-    tick-taken : (m : ℕ) (buffer : List ℕ) → m ≤ jobs .last → Stands jobs n buffer → isRefused jobs (callOn buffer (tickIn m size)) ≡ false
+    tick-taken : (m : ℕ) (buffer : List ℕ) → m ≤ lastMinute → Stands jobs n buffer → isRefused jobs (callOn buffer (tickIn m size)) ≡ false
     unfolding expected callOn c
-    tick-taken m buffer b s = taken buffer (tickIn m size) s (rw (part-roomy buffer s, le-leb m (jobs .last) b))
+    tick-taken m buffer b s = taken buffer (tickIn m size) s (rw (part-roomy buffer s, le-leb m (lastMinute) b))
 
     pop-taken : (buffer : List ℕ) → Stands jobs n buffer → isRefused jobs (callOn buffer (popIn size)) ≡ false
     unfolding expected callOn c
     pop-taken buffer s = taken buffer (popIn size) s (rw (part-roomy buffer s))
 
-    all-taken : (k m : ℕ) (buffer : List ℕ) → m + k ≤ jobs .last + 1 → Stands jobs n buffer
+    all-taken : (k m : ℕ) (buffer : List ℕ) → m + k ≤ lastMinute + 1 → Stands jobs n buffer
         → unrefused jobs (callsOn jobs buffer (steady size m k)) ≡ callsOn jobs buffer (steady size m k)
     unfolding steady callsOn unrefused
     all-taken zero m buffer b s = refl
@@ -123,7 +125,7 @@ module _ (jobs : Jobs) (h : jobs .count < limit) (size : ℕ) (buffer : List ℕ
   begun = started jobs size buffer
 
   at-first : Stands jobs (length begun) begun
-  at-first = record { waiting = fresh jobs; entries = fresh-entries jobs; held = started-holds jobs h size buffer r; long = refl }
+  at-first = record { line = fresh jobs; entries = fresh-proper jobs; held = started-holds jobs h size buffer r; long = refl }
 
   enough : lineSize (jobs .count) ≤ length (take size buffer)
   unfolding roomy
@@ -132,11 +134,11 @@ module _ (jobs : Jobs) (h : jobs .count < limit) (size : ℕ) (buffer : List ℕ
   begun-long : lineSize (jobs .count) ≤ length begun
   unfolding started initStep
   begun-long =
-      let few = entries-length (jobs .count) (fresh jobs) (fresh-entries jobs) in
+      let few = entries-length (jobs .count) (fresh jobs .waiting) (is-proper (jobs .count) (fresh jobs) (fresh-proper jobs) .1) in
       let same = length-laid (fresh jobs) (take size buffer) (omega (arith, enough)) in
       rw r (omega (arith, enough, same, length-append (laid (fresh jobs) (take size buffer)) (drop size buffer)))
 
-  pub steady-from : (t n : ℕ) (first : List Use) → t + n ≤ jobs .last
+  pub steady-from : (t n : ℕ) (first : List Use) → t + n ≤ lastMinute
       → let calls = callsOn jobs (bufferAfterAll jobs begun first) (steady size (t + 1) n) in
       (unrefused jobs calls ≡ calls) × Paced (t + 1) n true calls
   steady-from t n first b = (

@@ -8,10 +8,10 @@ use native.Mathlib.Numerals.{add-one}
 use lib.ListN.{length, getD, take, drop, set, length-append, length-drop}
 use lib.Seq.{paste, paste-suc, length-paste-head, getD-append-add, getD-drop}
 use Rattle.bytes.specs.Laid as front
-use Rattle.fifo.specs.Layout.{bytes, lineOf, image, laid}
+use Rattle.fifo.specs.Queue.{bytes, queueOf, queueImage, queueLaid}
 use Rattle.fifo.specs.SmallSteps.{stored}
-use Rattle.fifo.proofs.Numbers.{Bytes, double, bytes-append, bytes-line}
-use Rattle.fifo.proofs.Laid.{laid-cons}
+use Rattle.fifo.proofs.Numbers.{Bytes, double, bytes-append, bytes-queue}
+use Rattle.fifo.proofs.Queues.{laid-cons}
 
 -- ---- stores
 
@@ -36,15 +36,15 @@ stored-split (suc k) x (a ∷ b ∷ s) h =
     rw (p, double k, ← add-one k, stored-next k x a b s, stored-split k x s (omega arith))
 
 -- an entry stored behind the line, and the count one more
-pub laid-push : (s : List ℕ) (e k : ℕ) → Bytes s → k ≡ length (lineOf s) → k + 2 ≤ length s / 2
-    → stored 0 (k + 1) (stored (k + 1) e s) ≡ laid (lineOf s ++ e ∷ []) s
+pub laid-push : (s : List ℕ) (e k : ℕ) → Bytes s → k ≡ length (queueOf s) → k + 2 ≤ length s / 2
+    → stored 0 (k + 1) (stored (k + 1) e s) ≡ queueLaid (queueOf s ++ e ∷ []) s
 unfolding bytes
 laid-push [] e k f q h = absurd (omega arith)
 laid-push (a ∷ []) e k f q h = absurd (omega arith)
 laid-push (a ∷ b ∷ s) e k f q h =
-    let l = lineOf (a ∷ b ∷ s) in
+    let l = queueOf (a ∷ b ∷ s) in
     let n : length (l ++ e ∷ []) ≡ k + 1 = length-append l (e ∷ []) ∙ omega arith in
-    let own : bytes l ≡ take (2 * k) s = bytes-line a b s (λ i. f (suc (suc i))) ∙ ap (λ (j : ℕ). take (2 * j) s) (sym q) in
+    let own : bytes l ≡ take (2 * k) s = bytes-queue a b s (λ i. f (suc (suc i))) ∙ ap (λ (j : ℕ). take (2 * j) s) (sym q) in
     rw (
       stored-next k e a b s,
       stored-first (k + 1) a b (stored k e s),
@@ -57,8 +57,8 @@ laid-push (a ∷ b ∷ s) e k f q h =
     )
 
 -- the others moved up, and the count one less
-pub laid-pop : (s l : List ℕ) (e : ℕ) → Bytes s → lineOf s ≡ e ∷ l → 4 + 2 * length l ≤ length s
-    → stored 0 (length l) (paste s 2 (drop 4 s) (2 * length l)) ≡ laid l s
+pub laid-pop : (s l : List ℕ) (e : ℕ) → Bytes s → queueOf s ≡ e ∷ l → 4 + 2 * length l ≤ length s
+    → stored 0 (length l) (paste s 2 (drop 4 s) (2 * length l)) ≡ queueLaid l s
 unfolding bytes
 laid-pop [] l e f q h = absurd (omega arith)
 laid-pop (a ∷ []) l e f q h = absurd (omega arith)
@@ -66,12 +66,12 @@ laid-pop (a ∷ b ∷ []) l e f q h = absurd (omega arith)
 laid-pop (a ∷ b ∷ x ∷ []) l e f q h = absurd (omega arith)
 laid-pop (a ∷ b ∷ x ∷ y ∷ s) l e f q h =
     let m : 2 + 2 * length l ≡ suc (suc (2 * length l)) = omega arith in
-    let own : bytes (e ∷ l) ≡ take (2 * suc (length l)) (x ∷ y ∷ s) = rw q at (bytes-line a b (x ∷ y ∷ s) (λ i. f (suc (suc i)))) in
+    let own : bytes (e ∷ l) ≡ take (2 * suc (length l)) (x ∷ y ∷ s) = rw q at (bytes-queue a b (x ∷ y ∷ s) (λ i. f (suc (suc i)))) in
     let rest : bytes l ≡ take (2 * length l) s = ap (drop 2) own ∙ rw (double (length l)) in
     rw (m, stored-first, laid-cons l a b (x ∷ y ∷ s), rest)
 
-pub laid-clear : (s : List ℕ) → 2 ≤ length s → stored 0 0 s ≡ laid [] s
-unfolding stored laid front.laid image bytes
+pub laid-clear : (s : List ℕ) → 2 ≤ length s → stored 0 0 s ≡ queueLaid [] s
+unfolding stored queueLaid front.laid queueImage bytes
 laid-clear [] h = absurd (omega arith)
 laid-clear (a ∷ []) h = absurd (omega arith)
 laid-clear (a ∷ b ∷ s) h = refl

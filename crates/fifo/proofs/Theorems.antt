@@ -4,7 +4,7 @@
 use mathlib.Core.Path.{_≡_, refl}
 use mathlib.Core.Bool.{Bool, true, false, cond}
 use mathlib.Core.List.{List, [], _∷_, _++_}
-use Prim.Native.Nat.{ℕ, zero, suc, _+_, _*_, _≤_, _<_}
+use Prim.Native.Nat.{ℕ, _+_, _*_, _≤_, _<_}
 use native.Mathlib.Omega.{arith}
 use lib.Dec.{leb}
 use lib.ListN.{length}
@@ -13,19 +13,25 @@ use Rattle.fifo.specs.declared.Ticked.{Ticked}
 use Rattle.fifo.specs.declared.Popped.{Popped}
 use Rattle.fifo.specs.declared.Ticked.the-variants.{Joined, Refused as NotTicked}
 use Rattle.fifo.specs.declared.Popped.the-variants.{Entry, Nothing, Refused as NotPopped}
-use Rattle.fifo.specs.WaitingLine.{pick, entriesOf}
+use Rattle.calendar.specs.Dates.{lastMinute}
+use Rattle.fifo.specs.WaitingLine.{entriesOf}
 use Rattle.fifo.specs.Layout.{lineOf, laid, lineSize, roomy, isLine}
 use Rattle.fifo.specs.Steps.{Jobs, Step, fresh, initStep, joins, joiners, ticked, tickStep, front, popped, popStep}
-use Rattle.fifo.specs.Fairness.{unrefused, bound, FairFrom, Fair}
+use Rattle.fifo.specs.Fairness.{unrefused, Soon, bound, FairFrom, Fair}
 use Rattle.fifo.specs.RefusedCalls.{RefusedOnly}
 use Rattle.fifo.specs.Buffer.{callsOn, bufferAfterAll, started, FairInBuffer}
 use Rattle.fifo.specs.Steady.{steady, SteadyPaced, FairSteady}
 use Rattle.fifo.proofs.WaitingLines.{entries-cons, pick-length}
-use Rattle.fifo.proofs.Rooms.{is-line}
-use Rattle.fifo.proofs.Calls.{fresh-entries, goes-on, expected-all}
-use Rattle.fifo.proofs.Fair.{runs, matched-named, soon-at}
+use Rattle.fifo.proofs.Lines.{is-line, is-proper}
+use Rattle.fifo.proofs.Calls.{fresh-proper, goes-on, expected-all}
+use Rattle.fifo.proofs.Fair.{runs, called-named}
 use Rattle.fifo.proofs.Buffer.{on-follows, started-holds, calls-append}
 use Rattle.fifo.proofs.Steady.{steady-from}
+-- minutes that are announced one by one outrun any hold
+pub use Rattle.fifo.proofs.Outrun.{held-stays, outrun, soon-past-hold}
+-- where no minute calls anybody, nobody is named
+pub use Rattle.fifo.proofs.Fair.{Runs}
+pub use Rattle.fifo.proofs.Quiet.{quiet, two-run}
 
 -- eight bytes for each entry and 64 more are always room enough
 pub room-enough : (n : ℕ) (s : List ℕ) → 8 * n + 64 ≤ length s → roomy n s ≡ true
@@ -49,13 +55,13 @@ init-within jobs room = go (roomy (jobs .count) room)
   where
     go : (b : Bool)
         → TickedWithin (jobs .count)
-        (cond {A = Step Ticked} b (record { answer = Joined (length (fresh jobs)); room = laid (fresh jobs) room }) (record { answer = NotTicked 28; room = room }) .answer)
+        (cond {A = Step Ticked} b (record { answer = Joined (length (fresh jobs .waiting)); room = laid (fresh jobs) room }) (record { answer = NotTicked 28; room = room }) .answer)
     go true = pick-length (jobs .boot) (jobs .count)
     go false = omega arith
 
 pub tick-within : (jobs : Jobs) (minute : ℕ) (room : List ℕ) → TickedWithin (jobs .count) (tickStep jobs minute room .answer)
 unfolding tickStep joiners
-tick-within jobs minute room = go (isLine (jobs .count) room) (leb minute (jobs .last))
+tick-within jobs minute room = go (isLine (jobs .count) room) (leb minute lastMinute)
   where
     go : (b c : Bool)
         → TickedWithin (jobs .count)
@@ -80,8 +86,8 @@ pop-within n room = go (isLine n room) refl
   where
     go : (b : Bool) → isLine n room ≡ b
         → PoppedWithin n
-        (cond {A = Step Popped} b (record { answer = front (lineOf room); room = laid (popped (lineOf room)) room }) (record { answer = NotPopped 28; room = room }) .answer)
-    go true e = front-within n (lineOf room) (is-line n room e .entries-is)
+        (cond {A = Step Popped} b (record { answer = front (lineOf room .waiting); room = laid (popped (lineOf room)) room }) (record { answer = NotPopped 28; room = room }) .answer)
+    go true e = front-within n (lineOf room .waiting) (is-line n room e .1)
     go false e = omega arith
 
 -- ---- a refused call leaves the room as it was
@@ -92,7 +98,7 @@ init-stays jobs room n = go (roomy (jobs .count) room)
   where
     go : (b : Bool)
         → let s : Step Ticked =
-        cond b (record { answer = Joined (length (fresh jobs)); room = laid (fresh jobs) room }) (record { answer = NotTicked 28; room = room })
+        cond b (record { answer = Joined (length (fresh jobs .waiting)); room = laid (fresh jobs) room }) (record { answer = NotTicked 28; room = room })
         in
         s .answer ≡ NotTicked n → s .room ≡ room
     go true e = absurd (let z : _≡_ {A = ℕ} 0 1 = cc in omega arith)
@@ -101,7 +107,7 @@ init-stays jobs room n = go (roomy (jobs .count) room)
 pub tick-stays : (jobs : Jobs) (minute : ℕ) (room : List ℕ) (n : ℕ)
     → tickStep jobs minute room .answer ≡ NotTicked n → tickStep jobs minute room .room ≡ room
 unfolding tickStep
-tick-stays jobs minute room n = go (isLine (jobs .count) room) (leb minute (jobs .last))
+tick-stays jobs minute room n = go (isLine (jobs .count) room) (leb minute lastMinute)
   where
     go : (b c : Bool)
         → let s : Step Ticked =
@@ -127,36 +133,37 @@ pop-stays count room n = go (isLine count room)
   where
     go : (b : Bool)
         → let s : Step Popped =
-        cond b (record { answer = front (lineOf room); room = laid (popped (lineOf room)) room }) (record { answer = NotPopped 28; room = room })
+        cond b (record { answer = front (lineOf room .waiting); room = laid (popped (lineOf room)) room }) (record { answer = NotPopped 28; room = room })
         in
         s .answer ≡ NotPopped n → s .room ≡ room
-    go true e = absurd (front-named (lineOf room) n e)
+    go true e = absurd (front-named (lineOf room .waiting) n e)
     go false e = refl
 
 -- ---- fairness
 
--- an entry that a minute matches soon is named in time, from any line
+-- an entry that a minute calls soon is named in time, from any line
 pub fair-from : FairFrom
-fair-from jobs gap e t l second h below timed soon entries follows paced =
-    let (j, within, matched) = soon-at jobs gap e t soon in
-    matched-named jobs e below timed (unrefused jobs second) l (t + 1) (bound jobs gap) j true entries matched (omega arith)
-    (runs jobs h second l entries follows) paced
+unfolding Soon
+fair-from jobs gap e t l second h below timed soon good follows paced =
+    let (j, within, called) = soon (l .mark) in
+    called-named jobs e below timed (unrefused jobs second) l (t + 1) (bound jobs gap) j true (is-proper (jobs .count) l good .1) called (omega arith)
+    (runs jobs h second l good follows) paced
 
 -- from the fresh line
 pub fair : Fair
 fair jobs gap e t first second h below timed soon follows paced =
-    let (l, entries, goes) = goes-on jobs h first second (fresh jobs) (fresh-entries jobs) follows in
-    fair-from jobs gap e t l second h below timed soon entries goes paced
+    let (l, good, goes) = goes-on jobs h first second (fresh jobs) (fresh-proper jobs) follows in
+    fair-from jobs gap e t l second h below timed soon good goes paced
 
 -- a call is refused only for too little room or for a minute off the calendar
 pub refused-only : RefusedOnly
-refused-only jobs cs h f = expected-all jobs h cs (fresh jobs) (fresh-entries jobs) f
+refused-only jobs cs h f = expected-all jobs h cs (fresh jobs) (fresh-proper jobs) f
 
 -- in one buffer
 pub fair-in-buffer : FairInBuffer
 fair-in-buffer jobs gap e t size buffer first second h below timed soon r paced =
     let b = started jobs size buffer in
-    let follows = on-follows jobs h (first ++ second) b (fresh jobs) (fresh-entries jobs) (started-holds jobs h size buffer r) in
+    let follows = on-follows jobs h (first ++ second) b (fresh jobs) (fresh-proper jobs) (started-holds jobs h size buffer r) in
     fair jobs gap e t (callsOn jobs b first) (callsOn jobs (bufferAfterAll jobs b first) second) h below timed soon
     (rw (calls-append jobs first second b) at follows) paced
 

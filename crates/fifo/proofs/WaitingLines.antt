@@ -14,7 +14,7 @@ use lib.ListN.{drop-of-length-le, length, length-append, getD, take, drop}
 use lib.Seq.{drop-cons, split-at, take-suc}
 use borrow.Author.Tests.{ltb-true, eqb-true, eqb-false, lt-ltb, le-ltb, eq-eqb, ne-eqb, not-true}
 use Rattle.fifo.specs.WaitingLine.{standsIn, entriesOf, pick}
-use Rattle.fifo.specs.Steps.{popped}
+use Rattle.fifo.specs.Steps.{behind}
 
 -- ---- who waits
 
@@ -83,10 +83,10 @@ entries-twice n (y ∷ l) x k q = go (eqb y x) refl q (λ r. entries-twice n l x
     go false r t later = rw (later t) (and-false (ltb y n && not (standsIn y (l ++ x ∷ k))))
 
 -- the first of a line is out of it, and the others stay
-pub entries-popped : (n : ℕ) (l : List ℕ) → entriesOf n l ≡ true → entriesOf n (popped l) ≡ true
-unfolding popped
-entries-popped n [] e = e
-entries-popped n (x ∷ l) e = entries-cons n x l e .2
+pub entries-behind : (n : ℕ) (l : List ℕ) → entriesOf n l ≡ true → entriesOf n (behind l) ≡ true
+unfolding behind
+entries-behind n [] e = e
+entries-behind n (x ∷ l) e = entries-cons n x l e .2
 
 -- ---- a line of n entries has at most n of them
 

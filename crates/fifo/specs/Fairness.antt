@@ -3,15 +3,18 @@
 -- Assumes nothing.
 use mathlib.Core.Path.{_≡_}
 use mathlib.Core.Logic.{_⊎_}
-use Prim.Native.Nat.{ℕ, zero, suc, _+_, _-_, _≤_, _<_}
+use Prim.Native.Nat.{ℕ, zero, suc, _+_, _-_, _<_}
 use mathlib.Core.Bool.{Bool, true, false, not, cond}
 use mathlib.Core.List.{List, [], _∷_, _++_}
 use lib.Dec.{eqb}
 use Rattle.fifo.specs.declared.Popped.the-variants.{Entry}
-use Rattle.fifo.specs.WaitingLine.{entriesOf}
-use Rattle.fifo.specs.Layout.{lineOf, laid, roomy, limit}
+use Rattle.schedule.specs.declared.jump.Mark.{Mark}
+use Rattle.schedule.specs.Jumps.{markAfter}
+use Rattle.fifo.specs.WaitingLine.{Line, proper}
+use Rattle.fifo.specs.Queue.{limit}
+use Rattle.fifo.specs.Layout.{lineOf, laid, roomy}
 use Rattle.fifo.specs.Refusals.{tickRefusal, popRefusal}
-use Rattle.fifo.specs.Steps.{Jobs, fresh, tickStep, popStep}
+use Rattle.fifo.specs.Steps.{Jobs, fresh, calls, tickStep, popStep}
 
 -- ---- calls
 
@@ -45,16 +48,16 @@ unrefused jobs (c ∷ cs) = let rest = unrefused jobs cs in cond (isRefused jobs
 -- ---- each call gets the line that the last one left
 
 -- the line that stands after a call, where l stood before: a refused call leaves it
-unfoldable pub lineAfter : Jobs → List ℕ → Call → List ℕ
+unfoldable pub lineAfter : Jobs → Line → Call → Line
 lineAfter jobs l c = cond (isRefused jobs c) l (lineOf (roomAfter jobs c))
 
 -- the room holds the line l, and it may hold other bytes behind it: to lay l there would change nothing
-abbrev pub Holds : List ℕ → List ℕ → Type 0
+abbrev pub Holds : Line → List ℕ → Type 0
 Holds l room = laid l room ≡ room
 
 -- A list of calls that goes on from the line l: each room that is big enough holds the line that the last unrefused call left. A room
 -- that is too small for a line may hold anything.
-abbrev pub Follows : Jobs → List ℕ → List Call → Type 0
+abbrev pub Follows : Jobs → Line → List Call → Type 0
 Follows jobs l [] = Unit {0}
 Follows jobs l (c ∷ cs) = (roomy (jobs .count) (roomOf c) ≡ true → Holds l (roomOf c)) × Follows jobs (lineAfter jobs l c) cs
 
@@ -85,21 +88,27 @@ Names jobs e (pop room ∷ cs) = (popStep (jobs .count) room .answer ≡ Entry e
 
 -- ---- the claim
 
--- one of the `gap` minutes after t matches the entry. That it is so is left to whoever knows the schedule.
+-- the mark after n minutes from m on, announced one by one
+abbrev pub marks : Mark → ℕ → ℕ → Mark
+marks mark m zero = mark
+marks mark m (suc n) = marks (markAfter mark m) (m + 1) n
+
+-- Whatever the mark, one of the `gap` minutes after t calls the entry, when they are announced one by one. That it is so is left to
+-- whoever knows the schedule.
 unfoldable pub Soon : Jobs → ℕ → ℕ → ℕ → Type 0
-Soon jobs gap e t = (m : ℕ) × (t < m) × (m ≤ t + gap) × (jobs .matches e m ≡ true)
+Soon jobs gap e t = (mark : Mark) → (j : ℕ) × (j < gap) × (calls jobs (marks mark (t + 1) j) (t + 1 + j) e ≡ true)
 
 -- how many minutes the second list announces
 abbrev pub bound : Jobs → ℕ → ℕ
 bound jobs gap = gap + jobs .count - 1
 
--- From any line that names only entries, none twice. That the minutes are on the calendar needn't be said: an announcement of one
+-- From any line of the jobs. That the minutes are on the calendar needn't be said: an announcement of one
 -- that isn't is refused.
 abbrev pub FairFrom : Type 0
-FairFrom = (jobs : Jobs) (gap e t : ℕ) (l : List ℕ) (second : List Call)
+FairFrom = (jobs : Jobs) (gap e t : ℕ) (l : Line) (second : List Call)
     → jobs .count < limit
     → e < jobs .count → jobs .boot e ≡ false → Soon jobs gap e t
-    → entriesOf (jobs .count) l ≡ true
+    → proper (jobs .count) l ≡ true
     → Follows jobs l second
     → Paced (t + 1) (bound jobs gap) true (unrefused jobs second)
     → Names jobs e (upTo (bound jobs gap) (unrefused jobs second))

@@ -1,53 +1,70 @@
--- How a line is kept in lent bytes, the room, which paper 01 leaves free: a count and then the entry numbers, 16 bits each, the
--- low byte first, at the front of the room. The bytes behind stay.
+-- How a line is kept in lent bytes, the room, which paper 01 leaves free: a format number and the mark, 32 bits each, the low byte first,
+-- and the entries that wait, at the front of the room. The bytes behind stay. A room that no line was made in, of zeros or other
+-- bytes, lacks the format number.
 -- Assumes nothing.
-use Prim.Native.Nat.{ℕ, _+_, _*_, _/_, _%_}
-use mathlib.Core.Bool.{Bool, _&&_}
-use mathlib.Core.List.{List, [], _∷_, _++_}
-use lib.Dec.{leb}
-use lib.ListN.{length, getD, take, drop}
+use Prim.Native.Nat.{ℕ, zero, suc, _+_, _*_}
+use mathlib.Core.Bool.{Bool, cond, _&&_}
+use mathlib.Core.List.{List, _++_}
+use lib.Dec.{leb, eqb}
+use lib.ListN.{length, drop}
 use Rattle.bytes.specs.Laid as front
-use Rattle.fifo.specs.WaitingLine.{entriesOf}
+use Rattle.bytes.specs.Runs.{between}
+use Rattle.bytes.specs.LittleEndian.{littleEndian, numberOf}
+use Rattle.schedule.specs.declared.jump.Mark.{Mark}
+use Rattle.schedule.specs.declared.jump.Mark.the-variants.{None, At}
+use Rattle.schedule.specs.Jumps.{isMark}
+use Rattle.fifo.specs.WaitingLine.{Line}
+use Rattle.fifo.specs.Queue.{queueOf, queueImage, isQueue}
 
--- the numbers that bytes hold, two bytes each; an odd byte at the end is part of none
-unfoldable pub numbers : List ℕ → List ℕ
-numbers [] = []
-numbers (a ∷ []) = []
-numbers (a ∷ b ∷ s) = (a + 256 * b) ∷ numbers s
+-- ---- the head
 
--- the bytes of numbers
-unfoldable pub bytes : List ℕ → List ℕ
-bytes [] = []
-bytes (x ∷ l) = x % 256 ∷ x / 256 % 256 ∷ bytes l
+-- the bytes of `ERQ1`
+abbrev pub formatNumber : ℕ
+formatNumber = 827413061
 
--- the line that a room holds: as many numbers as the count says, if there are so many
-unfoldable pub counted : List ℕ → List ℕ
-counted [] = []
-counted (count ∷ l) = take count l
+-- no mark is 0, and a minute one more than itself
+abbrev pub markNumber : Mark → ℕ
+markNumber None = 0
+markNumber (At h) = h + 1
 
-unfoldable pub lineOf : List ℕ → List ℕ
-lineOf room = counted (numbers room)
+abbrev pub markFrom : ℕ → Mark
+markFrom zero = None
+markFrom (suc h) = At h
+
+abbrev pub headSize : ℕ
+headSize = 8
+
+unfoldable pub head : Mark → List ℕ
+head mark = littleEndian 4 formatNumber ++ littleEndian 4 (markNumber mark)
+
+unfoldable pub formatOf : List ℕ → ℕ
+formatOf room = numberOf (between room 0 4)
+
+-- none where the room is too short for one
+unfoldable pub markOf : List ℕ → Mark
+markOf room = cond (leb headSize (length room)) (markFrom (numberOf (between room 4 headSize))) None
+
+-- ---- the line
+
+unfoldable pub lineOf : List ℕ → Line
+lineOf room = record { mark = markOf room; waiting = queueOf (drop headSize room) }
 
 -- a line's bytes
-unfoldable pub image : List ℕ → List ℕ
-image l = bytes (length l ∷ l)
+unfoldable pub image : Line → List ℕ
+image l = head (l .mark) ++ queueImage (l .waiting)
 
 -- the room with a line laid at its front
-unfoldable pub laid : List ℕ → List ℕ → List ℕ
+unfoldable pub laid : Line → List ℕ → List ℕ
 laid l room = front.laid (image l) room
 
 -- the bytes that a line of n entries takes
 abbrev pub lineSize : ℕ → ℕ
-lineSize n = 2 + 2 * n
+lineSize n = 10 + 2 * n
 
 -- whether a room can hold all n entries
 unfoldable pub roomy : ℕ → List ℕ → Bool
 roomy n room = leb (lineSize n) (length room)
 
--- The room holds a line of a table of n entries. A count above n is none, though the room may have as many numbers.
+-- the room holds a line of a table of n entries: "a mark off it is 28"
 unfoldable pub isLine : ℕ → List ℕ → Bool
-isLine n room = roomy n room && leb (getD (numbers room) 0 0) n && entriesOf n (lineOf room)
-
--- the numbers and the count that 16 bits hold are below this
-abbrev pub limit : ℕ
-limit = 65536
+isLine n room = eqb (formatOf room) formatNumber && isMark (markOf room) && isQueue n (drop headSize room)

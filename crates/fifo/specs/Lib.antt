@@ -1,4 +1,5 @@
 pub mod WaitingLine
+pub mod Queue
 pub mod Layout
 pub mod Refusals
 pub mod Steps

@@ -10,10 +10,6 @@ use Rattle.fifo.specs.declared.Popped.the-variants.{Entry, Nothing, Refu
 abbrev pub notALine : ℕ
 notALine = 28
 
--- the minute isn't on the calendar
-abbrev pub offCalendar : ℕ
-offCalendar = 14
-
 -- the number of a refusal, and 0 where there is none; "nothing waits" is no refusal
 unfoldable pub tickRefusal : Ticked → ℕ
 tickRefusal (Joined n) = 0

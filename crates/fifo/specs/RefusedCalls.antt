@@ -6,14 +6,17 @@ use Prim.Native.Nat.{ℕ, _<_}
 use mathlib.Core.Bool.{cond}
 use mathlib.Core.List.{List, [], _∷_}
 use lib.Dec.{leb}
-use Rattle.fifo.specs.Layout.{roomy, limit}
-use Rattle.fifo.specs.Refusals.{notALine, offCalendar}
+use Rattle.calendar.specs.Dates.{lastMinute}
+use Rattle.calendar.specs.Refusals.{notOnCalendar}
+use Rattle.fifo.specs.Queue.{limit}
+use Rattle.fifo.specs.Layout.{roomy}
+use Rattle.fifo.specs.Refusals.{notALine}
 use Rattle.fifo.specs.Steps.{Jobs, fresh}
 use Rattle.fifo.specs.Fairness.{Call, tick, pop, refusal, Follows}
 
 -- the refusal that the room's length and the minute call for, 0 for none
 unfoldable pub expected : Jobs → Call → ℕ
-expected jobs (tick minute room) = cond (roomy (jobs .count) room) (cond (leb minute (jobs .last)) 0 offCalendar) notALine
+expected jobs (tick minute room) = cond (roomy (jobs .count) room) (cond (leb minute lastMinute) 0 notOnCalendar) notALine
 expected jobs (pop room) = cond (roomy (jobs .count) room) 0 notALine
 
 -- each call of a list is refused just so

@@ -7,7 +7,9 @@ use Prim.Native.Nat.{ℕ, zero, suc, _+_, _≤_, _<_}
 use mathlib.Core.Bool.{true, false}
 use mathlib.Core.List.{List, [], _∷_}
 use lib.ListN.{take}
-use Rattle.fifo.specs.Layout.{roomy, limit}
+use Rattle.calendar.specs.Dates.{lastMinute}
+use Rattle.fifo.specs.Queue.{limit}
+use Rattle.fifo.specs.Layout.{roomy}
 use Rattle.fifo.specs.Steps.{Jobs}
 use Rattle.fifo.specs.Fairness.{unrefused, Paced, upTo, Names, Soon, bound}
 use Rattle.fifo.specs.Buffer.{Use, tickIn, popIn, callsOn, bufferAfterAll, started}
@@ -19,7 +21,7 @@ steady size m (suc n) = tickIn m size ∷ popIn size ∷ steady size (m + 1) n
 
 abbrev pub SteadyPaced : Type 0
 SteadyPaced = (jobs : Jobs) (t n size : ℕ) (buffer : List ℕ) (first : List Use)
-    → jobs .count < limit → roomy (jobs .count) (take size buffer) ≡ true → t + n ≤ jobs .last
+    → jobs .count < limit → roomy (jobs .count) (take size buffer) ≡ true → t + n ≤ lastMinute
     → let calls = callsOn jobs (bufferAfterAll jobs (started jobs size buffer) first) (steady size (t + 1) n) in
     (unrefused jobs calls ≡ calls) × Paced (t + 1) n true calls
 
@@ -28,5 +30,5 @@ FairSteady = (jobs : Jobs) (gap e t size : ℕ) (buffer : List ℕ) (first : Lis
     → jobs .count < limit
     → e < jobs .count → jobs .boot e ≡ false → Soon jobs gap e t
     → roomy (jobs .count) (take size buffer) ≡ true
-    → t + bound jobs gap ≤ jobs .last
+    → t + bound jobs gap ≤ lastMinute
     → Names jobs e (upTo (bound jobs gap) (callsOn jobs (bufferAfterAll jobs (started jobs size buffer) first) (steady size (t + 1) (bound jobs gap))))

@@ -7,13 +7,18 @@ use mathlib.Core.Bool.{Bool, not, cond, _&&_}
 use mathlib.Core.List.{List, [], _∷_, _++_}
 use lib.Dec.{leb}
 use lib.ListN.{length}
+use Rattle.calendar.specs.Dates.{lastMinute}
+use Rattle.calendar.specs.Refusals.{notOnCalendar}
+use Rattle.schedule.specs.declared.jump.Mark.{Mark}
+use Rattle.schedule.specs.declared.jump.Mark.the-variants.{None}
+use Rattle.schedule.specs.Jumps.{caseOf, judged, markAfter}
 use Rattle.fifo.specs.declared.Ticked.{Ticked}
 use Rattle.fifo.specs.declared.Popped.{Popped}
 use Rattle.fifo.specs.declared.Ticked.the-variants.{Joined, Refused as NotTicked}
 use Rattle.fifo.specs.declared.Popped.the-variants.{Entry, Nothing, Refused as NotPopped}
-use Rattle.fifo.specs.WaitingLine.{standsIn, pick}
+use Rattle.fifo.specs.WaitingLine.{Line, standsIn, pick}
 use Rattle.fifo.specs.Layout.{lineOf, laid, roomy, isLine}
-use Rattle.fifo.specs.Refusals.{notALine, offCalendar}
+use Rattle.fifo.specs.Refusals.{notALine}
 
 -- what is known of a table's entries, numbered from 0 in file order
 pub record Jobs : Type 0 where
@@ -21,10 +26,10 @@ pub record Jobs : Type 0 where
   pub count : ℕ
   -- whether an entry is a boot job (`@reboot`); the others are time-based
   pub boot : ℕ → Bool
+  -- whether an entry is fixed, as ticket 2026-10 has it
+  pub fixed : ℕ → Bool
   -- whether an entry matches a minute
   pub matches : ℕ → ℕ → Bool
-  -- the calendar's last minute
-  pub last : ℕ
 
 -- what a call comes back with, and the room as it leaves it
 pub record Step (A : Type 0) : Type 0 where
@@ -33,37 +38,41 @@ pub record Step (A : Type 0) : Type 0 where
 
 -- ---- a fresh line
 
--- the boot jobs, in file order
-unfoldable pub fresh : Jobs → List ℕ
-fresh jobs = pick (jobs .boot) (jobs .count)
+-- the boot jobs, in file order, and no mark
+unfoldable pub fresh : Jobs → Line
+fresh jobs = record { mark = None; waiting = pick (jobs .boot) (jobs .count) }
 
 -- whatever the room held; the answer is how many wait
 unfoldable pub initStep : Jobs → List ℕ → Step Ticked
 initStep jobs room =
     cond (roomy (jobs .count) room)
-    (record { answer = Joined (length (fresh jobs)); room = laid (fresh jobs) room })
+    (record { answer = Joined (length (fresh jobs .waiting)); room = laid (fresh jobs) room })
     (record { answer = NotTicked notALine; room = room })
 
 -- ---- an announced minute
 
--- the time-based entries that match the minute and don't wait, in file order
-unfoldable pub joins : Jobs → ℕ → List ℕ → ℕ → Bool
-joins jobs minute l e = not (jobs .boot e) && jobs .matches e minute && not (standsIn e l)
+-- whether a minute calls an entry, beside the line's mark
+unfoldable pub calls : Jobs → Mark → ℕ → ℕ → Bool
+calls jobs mark minute e = judged (caseOf mark minute) (jobs .fixed e) (jobs .matches e) minute
 
-unfoldable pub joiners : Jobs → ℕ → List ℕ → List ℕ
+-- the time-based entries that it calls and that don't wait, in file order
+unfoldable pub joins : Jobs → ℕ → Line → ℕ → Bool
+joins jobs minute l e = not (jobs .boot e) && calls jobs (l .mark) minute e && not (standsIn e (l .waiting))
+
+unfoldable pub joiners : Jobs → ℕ → Line → List ℕ
 joiners jobs minute l = pick (joins jobs minute l) (jobs .count)
 
 -- they join at the back
-unfoldable pub ticked : Jobs → ℕ → List ℕ → List ℕ
-ticked jobs minute l = l ++ joiners jobs minute l
+unfoldable pub ticked : Jobs → ℕ → Line → Line
+ticked jobs minute l = record { mark = markAfter (l .mark) minute; waiting = l .waiting ++ joiners jobs minute l }
 
 -- the answer is how many joined
 unfoldable pub tickStep : Jobs → ℕ → List ℕ → Step Ticked
 tickStep jobs minute room =
     cond (isLine (jobs .count) room)
-    (cond (leb minute (jobs .last))
+    (cond (leb minute lastMinute)
     (record { answer = Joined (length (joiners jobs minute (lineOf room))); room = laid (ticked jobs minute (lineOf room)) room })
-    (record { answer = NotTicked offCalendar; room = room }))
+    (record { answer = NotTicked notOnCalendar; room = room }))
     (record { answer = NotTicked notALine; room = room })
 
 -- ---- a request
@@ -74,12 +83,15 @@ front [] = Nothing
 front (e ∷ l) = Entry e
 
 -- the line behind the front
-unfoldable pub popped : List ℕ → List ℕ
-popped [] = []
-popped (e ∷ l) = l
+unfoldable pub behind : List ℕ → List ℕ
+behind [] = []
+behind (e ∷ l) = l
+
+unfoldable pub popped : Line → Line
+popped l = record { mark = l .mark; waiting = behind (l .waiting) }
 
 unfoldable pub popStep : ℕ → List ℕ → Step Popped
 popStep n room =
     cond (isLine n room)
-    (record { answer = front (lineOf room); room = laid (popped (lineOf room)) room })
+    (record { answer = front (lineOf room .waiting); room = laid (popped (lineOf room)) room })
     (record { answer = NotPopped notALine; room = room })

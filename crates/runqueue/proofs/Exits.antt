@@ -3,20 +3,18 @@
 use Rattle.fifo.specs.declared.Ticked.the-variants.{Refused as NotTicked}
 use Rattle.fifo.specs.declared.Popped.the-variants.{Refused as NotPopped}
 use mathlib.Core.Path.{_≡_, sym, _∙_}
-use mathlib.Core.Bool.{cond}
-use mathlib.Core.List.{List, []}
-use Prim.Native.Nat.{ℕ, _≤_, _<_}
+use mathlib.Core.List.{List}
+use Prim.Native.Nat.{ℕ, _≤_}
 use borrow.Author.Tests.{eq-eqb, ne-eqb}
 use Rattle.crontab.specs.declared.table.Table.{Table}
-use Rattle.calendar.specs.Dates.{lastMinute}
+use Rattle.schedule.specs.Jumps.{caseOf}
 use Rattle.crontab.specs.declared.chosen.Which.the-variants.{AtBoot, At}
 use Rattle.crontab.specs.Limits.{maxEntries}
 use Rattle.crontab.specs.Choices.{chosenIn}
-use Rattle.fifo.specs.Refusals.{notALine, offCalendar}
-use Rattle.fifo.specs.Layout.{isLine}
+use Rattle.fifo.specs.Layout.{markOf, lineOf}
 use Rattle.fifo.specs.Steps.{initStep, tickStep, popStep}
-use Rattle.fifo.specs.SmallSteps.{initMarked, tickMarked}
-use Rattle.fifo.proofs.Filling.{init-marked, tick-marked, tick-late}
+use Rattle.fifo.specs.SmallSteps.{initCalled, tickCalled}
+use Rattle.fifo.proofs.Filling as fifo
 use Rattle.runqueue.specs.Jobs.{jobsOf}
 use Rattle.runqueue.specs.Calls.{initTable, tickTable, popTable}
 use Rattle.runqueue.proofs.Joiners.{marked-boot, marked-due}
@@ -52,17 +50,14 @@ module _ (t : Table) (room : List ℕ) where
 
 -- where the set that a call is handed has the table's chosen entries
 module _ (t : Table) (few : t .count ≤ maxEntries) (room : List ℕ) (good : t .refusal ≡ 0) where
-  pub init-called : initTable t room ≡ initMarked (chosenIn AtBoot t .count) (chosenIn AtBoot t .marks) room
+  pub init-called : initTable t room ≡ initCalled (chosenIn AtBoot t .count) (chosenIn AtBoot t .marks) room
   unfolding chosenIn jobsOf
-  init-called = init-good t room good ∙ sym (init-marked (jobsOf t) (chosenIn AtBoot t .marks) room (marked-boot t few))
+  init-called = init-good t room good ∙ sym (fifo.init-called (jobsOf t) (chosenIn AtBoot t .marks) room (marked-boot t few))
 
-  pub tick-called : (minute : ℕ) → minute ≤ lastMinute
-      → tickTable t minute room ≡ tickMarked (chosenIn (At minute) t .count) (chosenIn (At minute) t .marks) room
-  unfolding chosenIn jobsOf
-  tick-called minute h =
-      tick-good t room good minute ∙ sym (tick-marked (jobsOf t) (chosenIn (At minute) t .marks) room minute (marked-due t few minute h) h)
-
-  pub tick-off : (minute : ℕ) → lastMinute < minute
-      → tickTable t minute room ≡ record { answer = NotTicked (cond (isLine (t .count) room) offCalendar notALine); room = room }
-  unfolding jobsOf
-  tick-off minute h = tick-good t room good minute ∙ tick-late (jobsOf t) [] room minute h
+  pub tick-called : (minute : ℕ)
+      → let which = At minute (caseOf (markOf room) minute) in
+      tickTable t minute room ≡ tickCalled (chosenIn which t .count) (chosenIn which t .marks) minute room
+  unfolding chosenIn jobsOf lineOf
+  tick-called minute =
+      tick-good t room good minute
+      ∙ sym (fifo.tick-called (jobsOf t) (chosenIn (At minute (caseOf (markOf room) minute)) t .marks) room minute (marked-due t few (markOf room) minute))

@@ -1,14 +1,18 @@
 -- Who joins: the entries that are chosen for a fresh line and for an announced minute are those of which the steps speak.
 -- Assumes nothing.
 use mathlib.Core.Path.{_≡_, refl, _∙_}
-use mathlib.Core.Bool.{true, false, not, _&&_}
+use mathlib.Core.Bool.{true, false, not, _&&_, _||_}
 use Prim.Native.Nat.{ℕ, _≤_, _<_}
 use native.Mathlib.Omega.{arith}
 use borrow.Author.Tests.{lt-ltb, le-leb}
 use Rattle.bytes.specs.Marks.{marked}
 use Rattle.bytes.proofs.Marks.{marks-marked}
 use Rattle.calendar.specs.Dates.{lastMinute}
+use Rattle.schedule.specs.declared.jump.Mark.{Mark}
+use Rattle.schedule.specs.declared.jump.Case.{Case}
 use Rattle.schedule.specs.Local.{ahead, matchesIn}
+use Rattle.schedule.specs.Jumps.{caseOf, judged}
+use Rattle.schedule.proofs.Theorems.{judged-unfixed}
 use Rattle.crontab.specs.declared.time.When.{When}
 use Rattle.crontab.specs.declared.time.When.the-variants.{Reboot, Timed}
 use Rattle.crontab.specs.declared.entry.Entry.{Entry}
@@ -16,19 +20,21 @@ use Rattle.crontab.specs.declared.table.Table.{Table}
 use Rattle.crontab.specs.declared.chosen.Which.{Which}
 use Rattle.crontab.specs.declared.chosen.Which.the-variants.{AtBoot, At}
 use Rattle.crontab.specs.Limits.{maxEntries}
-use Rattle.crontab.specs.Firings.{byWhen, isBoot, firesAt}
+use Rattle.crontab.specs.Firings.{byWhen, isBoot, isFixed, firesAt}
 use Rattle.crontab.specs.Choices.{isChosen, markWords, choice, chosenIn}
+use Rattle.fifo.specs.Steps.{calls}
 use Rattle.runqueue.specs.Jobs.{jobAt, jobsOf}
 
--- an entry that fires at a minute is time-based
-fires-timed : (e : Entry) (minute : ℕ) → firesAt e minute ≡ (not (isBoot e) && firesAt e minute)
-unfolding isBoot firesAt
-fires-timed e minute = go (e .when)
+-- an entry that a minute calls is time-based
+called-timed : (e : Entry) (case : Case) (minute : ℕ)
+    → judged case (isFixed e) (firesAt e) minute ≡ (not (isBoot e) && judged case (isFixed e) (firesAt e) minute)
+unfolding isBoot isFixed firesAt
+called-timed e case minute = go (e .when)
   where
     go : (w : When)
-        → byWhen w false (λ s. matchesIn s (ahead (e .offset)) minute)
-        ≡ (not (byWhen w true (λ s. false)) && byWhen w false (λ s. matchesIn s (ahead (e .offset)) minute))
-    go Reboot = refl
+        → let called = judged case (byWhen w false (λ s. not (s .stars .minutes || s .stars .hours))) (λ m. byWhen w false (λ s. matchesIn s (ahead (e .offset)) m)) minute in
+        called ≡ (not (byWhen w true (λ s. false)) && called)
+    go Reboot = judged-unfixed case (λ m. false) minute
     go (Timed s) = refl
 
 module _ (t : Table) (few : t .count ≤ maxEntries) where
@@ -41,7 +47,8 @@ module _ (t : Table) (few : t .count ≤ maxEntries) where
   unfolding isChosen jobsOf
   marked-boot e h = marked-at AtBoot e h
 
-  pub marked-due : (minute : ℕ) → minute ≤ lastMinute → (e : ℕ) → e < t .count
-      → marked (chosenIn (At minute) t .marks) e ≡ (not (jobsOf t .boot e) && jobsOf t .matches e minute)
-  unfolding isChosen jobsOf
-  marked-due minute on e h = marked-at (At minute) e h ∙ rw (le-leb minute lastMinute on) (fires-timed (jobAt t e) minute)
+  pub marked-due : (mark : Mark) (minute : ℕ) → minute ≤ lastMinute → (e : ℕ) → e < t .count
+      → marked (chosenIn (At minute (caseOf mark minute)) t .marks) e ≡ (not (jobsOf t .boot e) && calls (jobsOf t) mark minute e)
+  unfolding isChosen jobsOf calls
+  marked-due mark minute on e h =
+      marked-at (At minute (caseOf mark minute)) e h ∙ rw (le-leb minute lastMinute on) (called-timed (jobAt t e) (caseOf mark minute) minute)

@@ -1,16 +1,20 @@
--- What the theorems of `fifo` ask of jobs holds of a table's: an entry that can fire has a match soon, by the schedule's gap, and the entries
+-- What the theorems of `fifo` ask of jobs holds of a table's: a minute calls an entry that can fire soon, by the schedule's gap, and the entries
 -- are few.
 -- Assumes nothing.
 use mathlib.Core.Path.{_≡_, refl}
-use mathlib.Core.Bool.{true, false, true≢false}
+use mathlib.Core.Bool.{Bool, true, false, cond, true≢false}
 use mathlib.Core.List.{List}
 use Prim.Native.Nat.{ℕ, _+_, _≤_, _<_}
+use native.Mathlib.Nat.{lt-of-not-le}
+use native.Mathlib.Decide.{decLe}
 use native.Mathlib.Omega.{arith}
-use borrow.Author.Tests.{lt-ltb}
+use lib.Dec.{ltb}
+use borrow.Author.Tests.{lt-ltb, le-ltb}
 use Rattle.calendar.specs.Dates.{cycleMinutes}
 use Rattle.schedule.specs.declared.Schedule.{Schedule}
 use Rattle.schedule.specs.Match.{matches}
 use Rattle.schedule.specs.Next.{canFire}
+use Rattle.schedule.specs.Gap.{gap}
 use Rattle.schedule.specs.Local.{gapIn, matchesIn}
 use Rattle.schedule.proofs.Search.{from-some}
 use Rattle.schedule.proofs.Theorems.{fires-within-in}
@@ -20,27 +24,48 @@ use Rattle.crontab.specs.declared.time.When.the-variants.{Reboot, Timed}
 use Rattle.crontab.specs.Tables.{tableOf}
 use Rattle.crontab.specs.Firings.{byWhen, isBoot, firesAt}
 use Rattle.crontab.proofs.Theorems.{table-sound}
-use Rattle.fifo.specs.Layout.{limit}
+use Rattle.fifo.specs.Queue.{limit}
 use Rattle.fifo.specs.Fairness.{Soon}
+use Rattle.fifo.proofs.Theorems.{soon-past-hold}
 use Rattle.runqueue.specs.Jobs.{jobAt, jobsOf}
-use Rattle.runqueue.specs.Demand.{jobsIn, CanFire, aheadOf, OnCalendar}
+use Rattle.runqueue.specs.Demand.{jobsIn, CanFire, aheadOf, hold, OnCalendar}
 
 fires : (s : Schedule) (m : ℕ) → m < cycleMinutes → matches s m ≡ true → canFire s ≡ true
 unfolding canFire
 fires s m h t = lt-ltb _ _ (from-some (matches s) cycleMinutes 0 m (omega arith) h t)
 
--- an entry that can fire has a match soon
-pub soon : (rules : Rules) (table : List ℕ) (e t : ℕ) → CanFire rules table e → OnCalendar rules table e t
-    → Soon (jobsIn rules table) (gapIn (aheadOf rules table e) t) e t
-unfolding Soon jobsOf isBoot firesAt
-soon rules table e t f on = go (jobAt (tableOf rules table) e .when) refl (f .timed) (f .matched)
+-- the gap of a later minute isn't longer
+gap-later : (o t k : ℕ) → t ≤ k → gapIn o k ≤ gapIn o t
+gap-later o t k h = elim (decLe 720 (k + o)) [ yes p ↦ rw (le-ltb (k + o) 720 p) (some (ltb (t + o) 720)) | no p ↦ before (lt-of-not-le p) ]
+  where
+    some : (b : Bool) → gap + 0 ≤ gap + cond b 720 0
+    some true = omega arith
+    some false = omega arith
+
+    before : k + o < 720 → gapIn o k ≤ gapIn o t
+    before p = rw (lt-ltb (k + o) 720 p, lt-ltb (t + o) 720 (omega arith)) (omega arith)
+
+-- an entry that can fire matches a minute soon after every hold has ended
+pub matches-soon : (rules : Rules) (table : List ℕ) (e t : ℕ) → CanFire rules table e → OnCalendar rules table e t
+    → (m : ℕ) × (t + hold < m) × (m ≤ t + (gapIn (aheadOf rules table e) t + hold)) × (jobsIn rules table .matches e m ≡ true)
+unfolding jobsOf isBoot firesAt
+matches-soon rules table e t f on = go (jobAt (tableOf rules table) e .when) refl (f .timed) (f .matched)
   where
     go : (w : When) → jobAt (tableOf rules table) e .when ≡ w → byWhen w true (λ s. false) ≡ false → byWhen w false (λ s. matches s (f .minute)) ≡ true
-        → (m : ℕ) × (t < m) × (m ≤ t + gapIn (aheadOf rules table e) t) × (byWhen (jobAt (tableOf rules table) e .when) false (λ s. matchesIn s (aheadOf rules table e) m) ≡ true)
+        → (m : ℕ) × (t + hold < m) × (m ≤ t + (gapIn (aheadOf rules table e) t + hold)) × (byWhen (jobAt (tableOf rules table) e .when) false (λ s. matchesIn s (aheadOf rules table e) m) ≡ true)
     go Reboot p b m = absurd (true≢false b)
     go (Timed s) p b m =
-        let (n, u, v, x) = fires-within-in s (aheadOf rules table e) (fires s (f .minute) (f .cycle) m) t (omega (arith, f .entry, on .local)) in
-        (n, u, v, rw p x)
+        let o = aheadOf rules table e in
+        let later = gap-later o t (t + hold) (omega arith) in
+        let (n, u, v, x) = fires-within-in s o (fires s (f .minute) (f .cycle) m) (t + hold) (omega (arith, f .entry, on .local, later)) in
+        (n, u, omega arith, rw p x)
+
+-- so a minute calls it soon, whatever the mark
+pub soon : (rules : Rules) (table : List ℕ) (e t : ℕ) → CanFire rules table e → OnCalendar rules table e t
+    → Soon (jobsIn rules table) (gapIn (aheadOf rules table e) t + hold) e t
+soon rules table e t f on =
+    let (m, after, within, matched) = matches-soon rules table e t f on in
+    soon-past-hold (jobsIn rules table) (gapIn (aheadOf rules table e) t + hold) e t m after within matched
 
 -- and they are few
 pub few : (rules : Rules) (table : List ℕ) → jobsIn rules table .count < limit

@@ -1,5 +1,10 @@
--- The third demand holds: fifo's theorems, by table bytes. The claims are in specs/Demand. And what the three calls can
--- answer, and that a refused one leaves the room as it was.
+-- What is proved of the three calls, by table bytes.
+--   table-fair, table-fair-from, table-fair-in-buffer, table-fair-steady: the third demand and its companions, as specs/Demand has them
+--   table-refused-only: a call is refused only for too little room or for a minute off the calendar
+--   hold-reached: a case in which the demand's bound is met exactly
+--   table-steps, table-steps-good, table-due: the claims speak of what the functions promise
+--   init-told, tick-told, pop-told: what the calls can answer
+--   init-stays, tick-stays, pop-stays: a refused call leaves the room as it was
 -- Assumes nothing.
 use Rattle.fifo.specs.declared.Ticked.the-variants.{Refused as NotTicked}
 use Rattle.fifo.specs.declared.Popped.the-variants.{Refused as NotPopped}
@@ -12,7 +17,6 @@ use native.Mathlib.Omega.{arith}
 use lib.Dec.{eqb}
 use borrow.Author.Tests.{eq-eqb, eqb-false, lt-ltb, le-leb}
 use Rattle.calendar.specs.Dates.{lastMinute}
-use Rattle.schedule.specs.Local.{gapIn}
 use Rattle.crontab.specs.declared.Rules.{Rules}
 use Rattle.crontab.specs.declared.table.Table.{Table}
 use Rattle.crontab.specs.Tables.{tableOf, entryIn}
@@ -22,12 +26,13 @@ use Rattle.fifo.specs.declared.Ticked.{Ticked}
 use Rattle.fifo.specs.declared.Popped.{Popped}
 use Rattle.fifo.specs.Steps.{Step, initStep, tickStep, popStep}
 use Rattle.fifo.proofs.Theorems as fifo
-use Rattle.fifo.proofs.Theorems.{TickedWithin, PoppedWithin, init-within, tick-within, pop-within, fair-from, fair, refused-only, fair-in-buffer, fair-steady}
+use Rattle.fifo.proofs.Theorems.{TickedWithin, PoppedWithin, init-within, tick-within, pop-within}
 use Rattle.runqueue.specs.Jobs.{jobAt, jobsOf}
 use Rattle.runqueue.specs.Calls.{initTable, tickTable, popTable}
-use Rattle.runqueue.specs.Demand.{jobsIn, TableDue, TableFair, TableFairFrom, TableSteps, TableStepsGood, TableRefusedOnly, TableFairInBuffer, TableFairSteady, aheadOf}
+use Rattle.runqueue.specs.Demand.{jobsIn, TableDue, TableSteps, TableStepsGood}
 use Rattle.runqueue.proofs.Exits.{init-good, tick-good, pop-good}
-use Rattle.runqueue.proofs.TableJobs.{soon, few}
+pub use Rattle.runqueue.proofs.TableFair.{table-fair, table-fair-from, table-refused-only, table-fair-in-buffer, table-fair-steady}
+pub use Rattle.runqueue.proofs.Reached.{hold-reached}
 
 -- a table that has an entry isn't refused
 pub entry-good : (rules : Rules) (table : List ℕ) (e : ℕ) → e < jobsIn rules table .count → tableOf rules table .refusal ≡ 0
@@ -110,28 +115,3 @@ module _ (t : Table) (room : List ℕ) (n : ℕ) where
           s .answer ≡ NotPopped n → s .room ≡ room
       go true e = fifo.pop-stays (t .count) room n e
       go false e = refl
-
--- the third demand, from any line of the table
-pub table-fair-from : TableFairFrom
-table-fair-from rules table e t l second f entries follows end =
-    fair-from (jobsIn rules table) (gapIn (aheadOf rules table e) t) e t l second (few rules table) (f .entry) (f .timed) (soon rules table e t f end) entries follows
-
--- from its fresh line: the third demand as it is said
-pub table-fair : TableFair
-table-fair rules table e t first second f follows end =
-    fair (jobsIn rules table) (gapIn (aheadOf rules table e) t) e t first second (few rules table) (f .entry) (f .timed) (soon rules table e t f end) follows
-
--- a call is refused only for too little room or for a minute off the calendar
-pub table-refused-only : TableRefusedOnly
-table-refused-only rules table cs g = refused-only (jobsIn rules table) cs (few rules table)
-
--- in one buffer
-pub table-fair-in-buffer : TableFairInBuffer
-table-fair-in-buffer rules table e t size buffer first second f r end =
-    fair-in-buffer (jobsIn rules table) (gapIn (aheadOf rules table e) t) e t size buffer first second (few rules table) (f .entry) (f .timed) (soon rules table e t f end) r
-
--- in the steady list
-pub table-fair-steady : TableFairSteady
-unfolding jobsOf
-table-fair-steady rules table e t size buffer first f r end =
-    fair-steady (jobsIn rules table) (gapIn (aheadOf rules table e) t) e t size buffer first (few rules table) (f .entry) (f .timed) (soon rules table e t f end) r (end .utc)

@@ -3,18 +3,20 @@
 -- docs/PROMISES.md lays `TableFair` beside the demand, sentence by sentence. That the claims hold is proved in proofs/Theorems.
 -- Assumes nothing.
 use mathlib.Core.Path.{_≡_}
-use Prim.Native.Nat.{ℕ, _+_, _≤_, _<_}
+use Prim.Native.Nat.{ℕ, _+_, _-_, _≤_, _<_}
 use mathlib.Core.Bool.{true, false, cond}
 use mathlib.Core.List.{List, _++_}
 use lib.ListN.{take}
+use Rattle.bytes.specs.Texts.{text}
 use Rattle.calendar.specs.Dates.{lastMinute, cycleMinutes}
 use Rattle.schedule.specs.Match.{matches}
 use Rattle.schedule.specs.Local.{ahead, gapIn}
 use Rattle.crontab.specs.declared.Rules.{Rules}
+use Rattle.crontab.specs.declared.Kind.the-variants.{User}
 use Rattle.crontab.specs.declared.firing.DueAnswer.the-variants.{Yes, No}
 use Rattle.crontab.specs.Tables.{tableOf}
 use Rattle.crontab.specs.Firings.{byWhen, dueIn}
-use Rattle.fifo.specs.WaitingLine.{entriesOf}
+use Rattle.fifo.specs.WaitingLine.{Line, proper}
 use Rattle.fifo.specs.Layout.{roomy}
 use Rattle.fifo.specs.Steps.{Jobs, fresh, initStep, tickStep, popStep}
 use Rattle.fifo.specs.Fairness.{Call, Follows, unrefused, Paced, upTo, Names, bound}
@@ -36,15 +38,19 @@ pub record CanFire (rules : Rules) (table : List ℕ) (e : ℕ) : Type 0 where
   pub cycle : minute < cycleMinutes
   pub matched : byWhen (jobAt (tableOf rules table) e .when) false (λ s. matches s minute) ≡ true
 
--- ---- ticket 2026-09
+-- ---- tickets 2026-09 and 2026-10
 
 -- the offset that an entry is under, as a number from 0 to 1,560
 abbrev pub aheadOf : Rules → List ℕ → ℕ → ℕ
 aheadOf rules table e = ahead (jobAt (tableOf rules table) e .offset)
 
+-- ticket 2026-10: "Add 180 to the bound of the third demand, for every entry."
+abbrev pub hold : ℕ
+hold = 180
+
 -- "where t falls before 1970 locally, 720 minutes are added to its bound"
 abbrev pub boundFrom : Rules → List ℕ → ℕ → ℕ → ℕ
-boundFrom rules table e t = bound (jobsIn rules table) (gapIn (aheadOf rules table e) t)
+boundFrom rules table e t = bound (jobsIn rules table) (gapIn (aheadOf rules table e) t + hold)
 
 -- "the last minute in the third demand must be on the calendar locally too"
 pub record OnCalendar (rules : Rules) (table : List ℕ) (e t : ℕ) : Type 0 where
@@ -65,10 +71,10 @@ TableFair = (rules : Rules) (table : List ℕ) (e t : ℕ) (first second : List 
 
 -- the same from any line of the table, such as one that was left when the table was changed
 abbrev pub TableFairFrom : Type 0
-TableFairFrom = (rules : Rules) (table : List ℕ) (e t : ℕ) (l : List ℕ) (second : List Call)
+TableFairFrom = (rules : Rules) (table : List ℕ) (e t : ℕ) (l : Line) (second : List Call)
     → let jobs = jobsIn rules table in
     CanFire rules table e
-    → entriesOf (jobs .count) l ≡ true
+    → proper (jobs .count) l ≡ true
     → Follows jobs l second
     → OnCalendar rules table e t
     → Paced (t + 1) (boundFrom rules table e t) true (unrefused jobs second)
@@ -119,3 +125,26 @@ TableFairSteady = (rules : Rules) (table : List ℕ) (e t size : ℕ) (buffer : 
     → roomy (jobs .count) (take size buffer) ≡ true
     → OnCalendar rules table e t
     → Names jobs e (upTo (boundFrom rules table e t) (callsOn jobs (bufferAfterAll jobs (started jobs size buffer) first) (steady size (t + 1) (boundFrom rules table e t))))
+
+-- ---- the bound is met exactly
+
+-- 00:00 on each 29 February that is a Sunday: in 2088, and then in 2128
+abbrev pub leapSundays : List ℕ
+leapSundays = text "0 0 29 2 */7 a\n"
+
+-- 2088-02-29 00:00 is announced, and the entry named. The clock falls, and t is 180 below that minute: it is held back there, and the
+-- request of 2128-02-29 00:00, after as many minutes as the bound has, names it. None before does.
+abbrev pub HoldReached : Type 0
+HoldReached = (size : ℕ) (buffer : List ℕ)
+    → let table = leapSundays in
+    let rules : Rules = record { kind = User } in
+    let jobs = jobsIn rules table in
+    let t = 62147520 - 180 in
+    let n = boundFrom rules table 0 t in
+    let calls = callsOn jobs (bufferAfterAll jobs (started jobs size buffer) (steady size 62147520 1)) (steady size (t + 1) n) in
+    roomy 1 (take size buffer) ≡ true
+    → CanFire rules table 0
+    × OnCalendar rules table 0 t
+    × (t + n ≡ 83184480)
+    × Names jobs 0 (upTo n calls)
+    × (Names jobs 0 (upTo (n - 1) calls) → ⊥)

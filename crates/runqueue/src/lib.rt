@@ -8,6 +8,8 @@ use crontab::chosen;
 use crontab::chosen::Which;
 use fifo::Popped;
 use fifo::Ticked;
+use fifo::head::mark_of;
+use schedule::jump::case_of;
 
 // A fresh line of a table, whatever the room held: the boot jobs in file order. Answers how many wait.
 pub fn init(table: &[u8], rules: Rules, room: &mut [u8]) -> Ticked
@@ -23,24 +25,20 @@ pub fn init(table: &[u8], rules: Rules, room: &mut [u8]) -> Ticked
     fifo::init(room, jobs.count as u16, &called)
 }
 
-// Announces a minute: each time-based entry that matches it and doesn't wait joins in file order. Answers how many joined.
+// Announces a minute: each time-based entry that it calls, beside the line's mark, and that doesn't wait joins in file order. Answers how
+// many joined.
 pub fn tick(table: &[u8], rules: Rules, room: &mut [u8], minute: u64) -> Ticked
     ensures answer { λ r. ⌜ r ≡ tickTable (tableOf rules (now (table .entry))) minute (now (room .entry)) .answer ⌝ }
     ensures room { λ _. ⌜ now (room .exit) ≡ tickTable (tableOf rules (now (table .entry))) minute (now (room .entry)) .room ⌝ }
 {
-    let jobs = chosen::read(table, rules, Which::At(minute));
+    let case = case_of(mark_of(room), minute);
+    let jobs = chosen::read(table, rules, Which::At { minute, case });
     let refusal = jobs.refusal;
     if refusal != 0 {
         return Ticked::Refused(refusal);
     }
-    if calendar::LAST_MINUTE < minute {
-        if fifo::is_line(room, jobs.count) {
-            return Ticked::Refused(calendar::NOT_ON_CALENDAR);
-        }
-        return Ticked::Refused(fifo::NOT_A_LINE);
-    }
     let called = jobs.marks;
-    fifo::tick(room, jobs.count as u16, &called)
+    fifo::tick(room, jobs.count as u16, &called, minute)
 }
 
 // Requests the next job: removes and names the front entry, or says that nothing waits.

@@ -11,6 +11,7 @@ pub mod Offsets
 pub mod LocalMinutes
 pub mod LocalFirings
 pub mod LocalTheorems
+pub mod Jumps
 pub mod MonthSets
 pub mod NextMonths
 pub mod Quick

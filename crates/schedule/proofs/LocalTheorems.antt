@@ -7,18 +7,18 @@ use native.Mathlib.Nat.{lt-of-not-le}
 use native.Mathlib.Decide.{decLe}
 use native.Mathlib.Omega.{arith}
 use lib.Dec.{leb}
-use borrow.Author.Tests.{le-leb, lt-leb, lt-ltb, le-ltb, leb-true}
+use borrow.Author.Tests.{le-leb, lt-leb, lt-ltb, le-ltb, leb-true, leb-false}
 use Rattle.calendar.specs.Dates.{lastMinute, cycleMinutes}
 use Rattle.schedule.specs.declared.Schedule.{Schedule}
 use Rattle.schedule.specs.declared.Next.the-variants.{At, Never, PastEnd}
 use Rattle.schedule.specs.declared.local.LocalMinute.{LocalMinute}
 use Rattle.schedule.specs.declared.local.LocalMinute.the-variants as local
 use Rattle.schedule.specs.Match.{matches}
-use Rattle.schedule.specs.Search.{from}
-use Rattle.schedule.specs.Next.{canFire, firingAfter, nextAfter}
+use Rattle.schedule.specs.Search.{from, passes}
+use Rattle.schedule.specs.Next.{canFire, firingAfter, nextAfter, byThen}
 use Rattle.schedule.specs.Gap.{gap}
 use Rattle.schedule.specs.Local.{localOf, matchesMinute, matchesIn, firingFromIn, firingAfterIn, nextAfterIn, gapIn, dateIn, localDate, matchesLocal}
-use Rattle.schedule.proofs.Search.{Least, least-from, from-least, from-none, from-past, from-same}
+use Rattle.schedule.proofs.Search.{Least, least-from, from-least, from-none, from-past, from-same, passes-search, none-passes}
 use Rattle.schedule.proofs.Gap.{matching-fires, fires-within}
 use Rattle.schedule.proofs.LocalMinutes.{by-place, matches-before, matches-at, matches-after}
 
@@ -130,6 +130,25 @@ module _ (s : Schedule) (o : ℕ) where
 
   pub next-on-calendar-in : (m n : ℕ) → nextAfterIn s o m ≡ At n → n ≤ lastMinute
   next-on-calendar-in m n e = next-is-in m n e .1
+
+  -- ticket 2026-10: an entry matches a minute after h, up to m, just where its next firing after h comes by m
+  pub next-by : (h m : ℕ) → m ≤ lastMinute → byThen (nextAfterIn s o h) m ≡ passes (matchesIn s o) h m
+  unfolding nextAfterIn firingAfterIn firingFromIn
+  next-by h m on = go (canFire s) refl (leb k lastMinute) refl
+    where
+      k : ℕ
+      k = from (matchesIn s o) (lastMinute + 1) (h + 1)
+
+      go : (b : Bool) → canFire s ≡ b → (c : Bool) → leb k lastMinute ≡ c
+          → byThen (cond b (cond c (At k) PastEnd) Never) m ≡ passes (matchesIn s o) h m
+      go true f true e = sym (passes-search (matchesIn s o) h m (lastMinute + 1) (omega arith))
+      go true f false e =
+          sym (passes-search (matchesIn s o) h m (lastMinute + 1) (omega arith) ∙ lt-leb k m (omega (arith, leb-false k lastMinute e)))
+      go false f c e = sym (none-passes (matchesIn s o) h m (λ i u v. none i (matchesIn s o i) refl))
+        where
+          none : (i : ℕ) (b : Bool) → matchesIn s o i ≡ b → matchesIn s o i ≡ false
+          none i true t = absurd (true≢false (sym (matching-fires-in i t) ∙ f))
+          none i false t = t
 
   -- ---- the gap
 

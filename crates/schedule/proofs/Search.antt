@@ -12,7 +12,7 @@ use lib.Dec.{ltb}
 use borrow.Author.Tests.{ltb-true, ltb-false}
 use Rattle.calendar.proofs.Tests.{and-true, and-false, false-and}
 use Rattle.schedule.specs.Search.{from}
-pub use Rattle.bytes.proofs.Search.{Least, least-one, leastOf-least, from-least, least-from, from-some, some-from, from-stop, from-past, from-none, from-skip, from-next, from-part, from-behind, from-same}
+pub use Rattle.bytes.proofs.Search.{Least, least-one, leastOf-least, from-least, least-from, from-some, some-from, from-stop, from-past, from-none, from-skip, from-next, from-part, from-behind, from-same, some-passes, passes-some, none-passes, passes-search}
 
 -- ---- a search by two digits: of numbers x * k + y with y < k, where x passes a and y passes b
 

@@ -12,9 +12,14 @@
 --   utc-same, utc-next: an offset of 0 changes nothing
 --   next-at-in, next-never-in, next-past-in: the next firing, all of it in UTC; next-is-in: and what one that is told is
 --   matching-fires-in, next-on-calendar-in: as without an offset
+--   next-by: an entry matches a minute after h, up to m, just where its next firing after h comes by m
 --   known-days-in: next firings around the ends of the local calendar
 --   gap-on, gap-before, fires-within-in, next-within-in: silent for at most `gap` minutes, and 720 more from before 1970 locally
 --   matches-before, matches-at, matches-after: under an offset a minute matches by its local minute, and by none off the calendar
+-- And beside a mark:
+--   case-above, case-below, case-after, case-held: which case a minute is
+--   judged-unfixed: an entry that isn't fixed is judged by the minute
+--   mark-stays: a mark of the calendar stays one
 -- Assumes nothing.
 use mathlib.Core.Path.{_≡_, refl}
 use mathlib.Core.Bool.{Bool, true, false, cond}
@@ -36,7 +41,8 @@ pub use Rattle.schedule.proofs.KnownDays.{known-days, gap-is, gap-reach
 pub use Rattle.schedule.proofs.Clocks.{slow-agrees}
 pub use Rattle.schedule.proofs.KnownLocalDays.{known-days-in}
 pub use Rattle.schedule.proofs.LocalMinutes.{matches-before, matches-at, matches-after}
-pub use Rattle.schedule.proofs.LocalTheorems.{local-date, utc-same, utc-next, next-at-in, next-never-in, next-past-in, next-is-in, matching-fires-in, next-on-calendar-in, gap-on, gap-before, fires-within-in, next-within-in}
+pub use Rattle.schedule.proofs.Jumps.{case-above, case-below, case-after, case-held, judged-unfixed, mark-stays}
+pub use Rattle.schedule.proofs.LocalTheorems.{local-date, utc-same, utc-next, next-at-in, next-never-in, next-past-in, next-is-in, matching-fires-in, next-on-calendar-in, next-by, gap-on, gap-before, fires-within-in, next-within-in}
 
 -- the least matching minute after m, up to the calendar's last
 pub next-at : (s : Schedule) (m n : ℕ) → m < n → n ≤ lastMinute → matches s n ≡ true

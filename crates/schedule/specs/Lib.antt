@@ -6,6 +6,8 @@ pub mod Clocks
 pub mod Days
 pub mod Gap
 pub mod Local
+pub mod Jumps
 pub mod Computing
 pub mod Examples
 pub mod LocalExamples
+pub mod JumpExamples

@@ -1,7 +1,7 @@
 -- Paper 01, after the table of "What comes back": the next firing of a time-based entry, strictly after a minute.
 -- Assumes nothing.
 use Prim.Native.Nat.{ℕ, _+_}
-use mathlib.Core.Bool.{Bool, cond}
+use mathlib.Core.Bool.{Bool, false, cond}
 use lib.Dec.{leb, ltb}
 use Rattle.calendar.specs.Dates.{lastMinute, cycleMinutes}
 use Rattle.schedule.specs.declared.Schedule.{Schedule}
@@ -33,3 +33,9 @@ abbrev pub minuteIn : Next → ℕ
 minuteIn (At n) = n
 minuteIn Never = 0
 minuteIn PastEnd = 0
+
+-- whether the firing comes by a minute
+abbrev pub byThen : Next → ℕ → Bool
+byThen (At n) m = leb n m
+byThen Never m = false
+byThen PastEnd m = false

@@ -1,3 +1,3 @@
 -- The least number that passes a test, as crate `bytes` has it.
 -- Assumes nothing.
-unfoldable pub use Rattle.bytes.specs.Search.{leastOf, from}
+unfoldable pub use Rattle.bytes.specs.Search.{leastOf, from, passes}

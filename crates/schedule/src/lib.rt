@@ -1,6 +1,7 @@
 // What an entry's five sets mean (paper 01, "Match"): whether a minute matches, and when the entry fires next.
 pub mod clock;
 mod day;
+pub mod jump;
 pub mod local;
 mod never;
 mod set;

@@ -34,7 +34,12 @@ static void compile(void) { eremothyn_compile(table, length, compiled, sizeof co
 static void decompile(void) { eremothyn_decompile(records, records_length, text, sizeof text); }
 static void record_fault(void) { eremothyn_record_fault(records, records_length); }
 static void queue_init(void) { eremothyn_queue_init(table, length, kind, room, sizeof room); }
-static void queue_tick(void) { eremothyn_queue_tick(table, length, kind, room, sizeof room, 0); }
+/* The first minute is judged by itself, the second catches up. */
+static void queue_tick(void)
+{
+    eremothyn_queue_tick(table, length, kind, room, sizeof room, 0);
+    eremothyn_queue_tick(table, length, kind, room, sizeof room, 180);
+}
 static void queue_pop(void) { eremothyn_queue_pop(table, length, kind, room, sizeof room); }
 static void minute_of_date(void) { eremothyn_minute_of_date(2000, 2, 29, 0, 0); }
 static void year(void) { eremothyn_year(15863040); }

@@ -163,8 +163,13 @@ fn the_log_is_the_second_programs() {
             Kind::User,
         ),
     ];
-    let spans: [&[(u64, u64)]; 4] = [
+    let at = |minute: u64| (evening + minute, evening + minute + 5);
+    let spans: [&[(u64, u64)]; 6] = [
         &[(0, 20), (evening, evening + 60)],
+        // Two hours forward and back; then three hours forward, back by a minute less and by three hours, and forward by a minute
+        // more.
+        &[at(20), at(145), at(30), at(31)],
+        &[at(28), at(213), at(39), at(38), at(224)],
         &[(59, 61)],
         &[(4_223_371_600, 4_223_371_679)],
         &[(evening, evening), (0, 0), (5, 5)],

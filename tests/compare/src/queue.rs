@@ -1,9 +1,10 @@
 //! A table, and a line of it in one buffer, beside the second program's list. Each call is lent a copy of the buffer's
-//! first bytes, as many as the caller likes. The lent bytes end at guard pages, and the table's are read-only.
+//! first bytes, as many as the caller likes, and every byte of the buffer is compared after it. The lent bytes end at guard
+//! pages, and the table's are read-only.
 
 use eremothyn::{Answer, Table, USER_TABLE};
 use guard::{filled, Guarded};
-use second::queue::Queue;
+use second::queue::{room, Queue};
 use second::table::{self, read, Kind};
 use std::fmt::Debug;
 
@@ -31,6 +32,7 @@ impl<'a> Case<'a> {
         let table = read(bytes, Kind::of(kind)).expect("a good table");
         let lent = Guarded::read_only(bytes);
         let least = least_room(Table::of(&lent).of_kind(kind), table.entries.len());
+        assert_eq!(least, room::size(table.entries.len()));
         Case {
             bytes,
             lent,
@@ -114,7 +116,7 @@ impl Compared {
         self.call(case, lent, "pop", pop, second)
     }
 
-    /// A call of both, with what it may change.
+    /// A call of both. Then the buffer has the second program's line at its front, or is as it was where that refuses.
     fn call<T: PartialEq + Debug>(
         &mut self,
         case: &Case,
@@ -123,26 +125,23 @@ impl Compared {
         library: impl FnOnce(Table, &mut [u8]) -> Result<T, u64>,
         second: impl FnOnce(&mut Queue) -> Result<T, u64>,
     ) -> Result<T, u64> {
-        let before = self.room.clone();
-        let waiting = self.queue.waiting.clone();
+        let before = self.queue.clone();
         let expected = if lent < case.least {
             Err(NO_LINE)
         } else {
             second(&mut self.queue)
         };
+        let mut room = self.room.clone();
+        if expected.is_ok() {
+            self.queue.lay(&mut room[..lent]);
+        }
         let answer = case.ask(&mut self.room[..lent], library);
         assert_eq!(
-            answer,
-            expected,
-            "{what:?} in {lent} bytes of room, {waiting:?} waiting, of \"{}\" (kind {}): library, second program",
+            (&answer, &self.room),
+            (&expected, &room),
+            "{what:?} in {lent} bytes of room, {before:?}, of \"{}\" (kind {}): library, second program",
             case.bytes.escape_ascii(),
             case.kind
-        );
-        let stays = if answer.is_ok() { case.least } else { 0 };
-        assert_eq!(
-            self.room[stays..],
-            before[stays..],
-            "{what:?}: bytes that stay"
         );
         answer
     }
@@ -188,34 +187,33 @@ pub fn refused(table: &[u8], kind: u64, number: u64, room: &[u8], minute: u64) {
     refused(&|room| lent.queue_pop(room).err());
 }
 
-/// A room with any bytes: no line, or else some line, and then every call says the same of it.
+/// A room with any bytes: no line, or else some line, and then every call does the same with it. Whether it was a line.
 pub fn judge(case: &Case, room: &[u8], minute: u64) -> bool {
     const OFF_CALENDAR: u64 = u64::MAX;
-    let tick = |minute: u64| {
-        let mut room = room.to_vec();
-        let call = |table: Table, room: &mut [u8]| table.queue_tick(room, minute);
-        (case.ask(&mut room, call), room)
+    let lent = room.len();
+    let line = |queue: Queue| Compared {
+        room: room.to_vec(),
+        queue,
     };
-    match drain(case, room) {
-        Err(refusal) => {
-            assert_eq!(refusal, NO_LINE);
-            let mut popped = room.to_vec();
-            assert_eq!(case.ask(&mut popped, pop), Err(NO_LINE));
-            assert_eq!(popped, room);
-            for minute in [minute, OFF_CALENDAR] {
-                assert_eq!(tick(minute), (Err(NO_LINE), room.to_vec()));
-            }
-            false
-        }
-        Ok(waiting) => {
-            let mut queue = Queue { waiting };
-            assert!(queue.is_line_of(&case.table), "{queue:?}");
-            assert_eq!(tick(OFF_CALENDAR), (Err(14), room.to_vec()));
-            let (answer, after) = tick(minute);
-            assert_eq!(answer, queue.tick(&case.table, minute));
-            assert_eq!(drain(case, &after), Ok(queue.waiting));
-            assert_eq!(after[case.least..], room[case.least..]);
-            true
-        }
+    let Some(queue) = Queue::in_room(room, case.count()) else {
+        refuses(case, room, &[minute, OFF_CALENDAR]);
+        return false;
+    };
+    assert_eq!(line(queue.clone()).tick(case, lent, OFF_CALENDAR), Err(14));
+    let _ = line(queue.clone()).pop(case, lent);
+    let mut ticked = line(queue);
+    let _ = ticked.tick(case, lent, minute);
+    ticked.assert_waiting(case);
+    true
+}
+
+/// A room that is no line: a request and announcements of these minutes are refused, and no byte of it changes.
+pub fn refuses(case: &Case, room: &[u8], minutes: &[u64]) {
+    let mut after = room.to_vec();
+    assert_eq!(case.ask(&mut after, pop), Err(NO_LINE));
+    for &minute in minutes {
+        let tick = |table: Table, room: &mut [u8]| table.queue_tick(room, minute);
+        assert_eq!(case.ask(&mut after, tick), Err(NO_LINE), "{minute}");
     }
+    assert_eq!(after, room);
 }

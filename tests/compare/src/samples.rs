@@ -1,5 +1,7 @@
 //! Dates, tables and rooms for the comparisons.
 
+use second::calendar::LAST_MINUTE;
+use second::queue::room;
 use second::random::Random;
 use second::table::offset::samples as offsets;
 use second::table::{samples, Kind};
@@ -50,6 +52,11 @@ pub fn busy_table(random: &mut Random, kind: Kind, entries: u64) -> Vec<u8> {
         "*/5 * * * *",
         "0 * * * *",
         "* 0 * * *",
+        "30 0-23 * * *",
+        "0-59 0-23 * * *",
+        "0,10,20 1-22/3 * * *",
+        "*/5 4 * * *",
+        "7 */4 * * *",
         "@hourly",
         "@daily",
         "@reboot",
@@ -80,10 +87,15 @@ pub fn busy_table(random: &mut Random, kind: Kind, entries: u64) -> Vec<u8> {
     table
 }
 
-/// Changes one to three bytes of a line, perhaps to numbers of entries or just past them.
+/// Changes one to three bytes of a line, perhaps to numbers of entries or just past them, or else its mark.
 pub fn damage(random: &mut Random, room: &mut [u8], entries: u64) {
     let length = room.len() as u64;
     if length == 0 {
+        return;
+    }
+    if random.below(3) == 0 && room.len() >= room::COUNT {
+        let mark = mark_bytes(random);
+        room[room::MARK..room::COUNT].copy_from_slice(&mark);
         return;
     }
     for _ in 0..1 + random.below(3) {
@@ -96,4 +108,15 @@ pub fn damage(random: &mut Random, room: &mut [u8], entries: u64) {
             _ => room[at].wrapping_add(1),
         };
     }
+}
+
+/// A mark as a room has it: none, on the calendar, or off it.
+fn mark_bytes(random: &mut Random) -> [u8; 4] {
+    const LAST: u32 = LAST_MINUTE as u32;
+    let ends = [0, 1, 2, LAST, LAST + 1, LAST + 2, LAST + 3, u32::MAX];
+    let mark = match random.below(2) {
+        0 => random.pick(&ends),
+        _ => random.number() as u32,
+    };
+    mark.to_le_bytes()
 }

@@ -316,8 +316,9 @@ fn a_rare_entry_is_named_within_the_bound() {
 
             let room = case.enough();
             let mut line = after_any_calls(&mut random, &case, room);
-            // Then each minute once, a request after each, and refused calls anywhere.
-            let begin = firing - 1 - random.below(100);
+            // Then each minute once, a request after each, and refused calls anywhere. No mark holds the entry back for more
+            // than 180 minutes.
+            let begin = firing - 180 - random.below(100);
             let last = firing + ENTRIES - 1;
             let mut named = None;
             for minute in begin..=last {
@@ -335,22 +336,28 @@ fn a_rare_entry_is_named_within_the_bound() {
     }
 }
 
-/// The longest wait there is, minute by minute: from Sunday, 29 February 2088 to the next one, and one minute more.
+/// The longest wait there is, minute by minute: from a mark at Sunday, 29 February 2088, with the clock 180 minutes back, to the
+/// next one, and one minute more.
 #[test]
 fn the_longest_gap_and_the_bound_are_reached() {
     const GAP: u64 = 21_036_960;
     let table = Table::of(b"* * * * * often\n0 0 29 2 */7 rare\n");
-    let after = 62_147_520;
+    let mark = 62_147_520;
     let mut room = [0; 8 * 2 + 64];
     assert_eq!(table.queue_init(&mut room[..]), Ok(0));
+    assert_eq!(table.queue_tick(&mut room[..], mark), Ok(2));
+    assert_eq!(table.queue_pop(&mut room[..]), Ok(Some(0)));
+    assert_eq!(table.queue_pop(&mut room[..]), Ok(Some(1)));
+    let t = mark - 180;
+    let last = t + GAP + 180 + 1;
     let mut named = Vec::new();
-    for minute in after + 1..=after + GAP + 1 {
+    for minute in t + 1..=last {
         assert!(table.queue_tick(&mut room[..], minute).is_ok());
         if table.queue_pop(&mut room[..]) == Ok(Some(1)) {
             named.push(minute);
         }
     }
-    assert_eq!(named, [after + GAP + 1]);
+    assert_eq!(named, [last]);
 }
 
 #[test]

@@ -1,4 +1,4 @@
-//! The run queue. How a line is kept in its room is the library's own affair.
+//! The run queue.
 
 use crate::{Run, Table};
 use second::answer::{from_c, some_from_c, Answer};

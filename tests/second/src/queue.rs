@@ -1,33 +1,70 @@
-//! The paper's "The line of waiting jobs", as a list in memory.
+//! The paper's "The line of waiting jobs", as a list in memory, with the mark of ticket 2026-10. Fixed entries are asked
+//! about minute by minute.
+
+pub mod known;
+pub mod room;
 
 use crate::answer::Answer;
 use crate::calendar::LAST_MINUTE;
-use crate::table::{Table, When};
+use crate::table::{Entry, Table, When};
+use std::ops::RangeInclusive;
 
 const NOT_ON_CALENDAR: u64 = 14;
 const NO_LINE: u64 = 28;
 
-/// The entries that wait, the front first.
+/// How far above the mark a minute may be that catches up; so far below it, one counts as a new clock.
+const HOURS_3: u64 = 180;
+
+/// The places of the minute and the hour among the five fields.
+const MINUTE_FIELD: usize = 0;
+const HOUR_FIELD: usize = 1;
+
+/// The entries that wait, the front first, and the mark.
 #[derive(Clone, Debug, Default, PartialEq, Eq)]
 pub struct Queue {
     pub waiting: Vec<u64>,
+    pub mark: Option<u64>,
+}
+
+/// The ticket's three cases of a minute that is announced.
+enum Case {
+    /// All entries are judged by the minute, and it becomes the mark.
+    Anew,
+    /// Fixed entries are judged by all of these, others by the last, which becomes the mark.
+    CatchUp(RangeInclusive<u64>),
+    /// Fixed entries don't join, others are judged by the minute, and the mark stays.
+    Hold,
+}
+
+impl Case {
+    fn of(mark: Option<u64>, minute: u64) -> Case {
+        match mark {
+            None => Case::Anew,
+            Some(mark) if minute > mark + HOURS_3 || minute + HOURS_3 <= mark => Case::Anew,
+            Some(mark) if minute > mark => Case::CatchUp(mark + 1..=minute),
+            Some(_) => Case::Hold,
+        }
+    }
 }
 
 impl Queue {
-    /// The fresh line of a table: its `@reboot` entries.
+    /// The fresh line of a table: its `@reboot` entries, and no mark.
     pub fn fresh(table: &Table) -> Queue {
         let is_reboot = |entry: &u64| table.entries[*entry as usize].when == When::Reboot;
         Queue {
             waiting: numbers(table).filter(is_reboot).collect(),
+            mark: None,
         }
     }
 
-    /// Whether this is a line of a table: it names only entries that the table has, and none twice.
+    /// Whether this is a line of a table: it names only entries that the table has, and none twice, and its mark is on the
+    /// calendar.
     pub fn is_line_of(&self, table: &Table) -> bool {
         let mut rising = self.waiting.clone();
         rising.sort();
         let twice = rising.windows(2).any(|pair| pair[0] == pair[1]);
-        !twice && rising.last().is_none_or(|&last| last < numbers(table).end)
+        let known = rising.last().is_none_or(|&last| last < numbers(table).end);
+        !twice && known && self.mark.is_none_or(|mark| mark <= LAST_MINUTE)
     }
 
     /// Announces a minute, and answers how many joined.
@@ -38,11 +75,22 @@ impl Queue {
         if minute > LAST_MINUTE {
             return Err(NOT_ON_CALENDAR);
         }
+        let case = Case::of(self.mark, minute);
+        let is_called = |entry: &Entry| match &case {
+            Case::CatchUp(span) if is_fixed(entry) => {
+                span.clone().any(|minute| entry.matches(minute))
+            }
+            Case::Hold if is_fixed(entry) => false,
+            _ => entry.matches(minute),
+        };
         let joins = |entry: &u64| {
-            table.entries[*entry as usize].matches(minute) && !self.waiting.contains(entry)
+            !self.waiting.contains(entry) && is_called(&table.entries[*entry as usize])
         };
         let joiners: Vec<u64> = numbers(table).filter(joins).collect();
         self.waiting.extend(&joiners);
+        if !matches!(case, Case::Hold) {
+            self.mark = Some(minute);
+        }
         Ok(joiners.len() as u64)
     }
 
@@ -58,54 +106,17 @@ impl Queue {
     }
 }
 
+/// Whether neither the minute nor the hour field begins with `*`.
+fn is_fixed(entry: &Entry) -> bool {
+    match entry.when {
+        When::Reboot => false,
+        When::Times(schedule) => !schedule.stars[MINUTE_FIELD] && !schedule.stars[HOUR_FIELD],
+    }
+}
+
 fn numbers(table: &Table) -> std::ops::Range<u64> {
     0..table.entries.len() as u64
 }
 
 #[cfg(test)]
-mod tests {
-    use super::*;
-    use crate::table::{read, Kind};
-
-    #[test]
-    fn the_whole_run() {
-        let user = "* * * * * a\n@reboot b\n0 * * * * c\n";
-        let system = "* * * * * r a\n@reboot r:s b\n0 * * * * r/t c\n";
-        for (bytes, kind) in [(user, Kind::User), (system, Kind::System)] {
-            let table = read(bytes.as_bytes(), kind).expect("a good table");
-            let mut queue = Queue::fresh(&table);
-            assert_eq!(queue.pop(&table), Ok(Some(1)));
-            assert_eq!(queue.tick(&table, 59), Ok(1));
-            assert_eq!(queue.tick(&table, 60), Ok(1));
-            assert_eq!(queue.pop(&table), Ok(Some(0)));
-            assert_eq!(queue.pop(&table), Ok(Some(2)));
-            assert_eq!(queue.pop(&table), Ok(None));
-        }
-    }
-
-    #[test]
-    fn lines_that_are_none_of_the_table() {
-        let table = read(b"* * * * * a\n@reboot b\n", Kind::User).expect("a good table");
-        let rows: [(&[u64], bool); 6] = [
-            (&[], true),
-            (&[1, 0], true),
-            (&[1, 1], false),
-            (&[2], false),
-            (&[0, 1, 0], false),
-            (&[1 << 32], false),
-        ];
-        for (waiting, good) in rows {
-            let line = Queue {
-                waiting: waiting.to_vec(),
-            };
-            for minute in [0, LAST_MINUTE + 1] {
-                let mut queue = line.clone();
-                let refused = queue.tick(&table, minute) == Err(NO_LINE);
-                assert_eq!(refused, !good, "{waiting:?} at {minute}");
-            }
-            assert_eq!(line.clone().pop(&table).is_ok(), good, "{waiting:?}");
-        }
-        let mut queue = Queue::fresh(&table);
-        assert_eq!(queue.tick(&table, LAST_MINUTE + 1), Err(NOT_ON_CALENDAR));
-    }
-}
+mod tests;

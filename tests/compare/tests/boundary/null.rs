@@ -124,14 +124,12 @@ fn no_room() {
     for_each_empty(|empty| {
         for kind in KINDS {
             assert_eq!(queue_answers(entry.of_kind(kind), empty), [NO_LINE; 3]);
-            // A table without entries has a line, and whether that needs room is the library's own affair.
+            // A table without entries has a line, too, and its mark needs room.
             let table = empty.table().of_kind(kind);
             let mut room = vec![7; least];
             let answers = queue_answers(table, Place::of_mut(&mut room));
             assert_eq!(answers, [Ok(0), Ok(0), Ok(REFUSED)]);
-            if least > 0 {
-                assert_eq!(queue_answers(table, empty), [NO_LINE; 3]);
-            }
+            assert_eq!(queue_answers(table, empty), [NO_LINE; 3]);
         }
     });
 }

@@ -67,7 +67,9 @@ returns-2 c =
 
 is-chosen-requires : tie.Need-is-chosen-requires Inv-loop μ-loop
 is-chosen-requires c κs =
-    c .before .before .before .before .before .before .before .before .before .before .before .loop .inv .5 ∙ ap (dateUnder _) (sym (entry-under (c .before .before .before .before .before .before .before .advance .ensures) (c .before .before .item2 .given .1)))
+    let inv = c .before .before .before .before .before .before .before .before .before .before .before .loop .inv in
+    let under = entry-under (c .before .before .before .before .before .before .before .advance .ensures) (c .before .before .item2 .given .1) in
+    (rw under (inv .4 .zone), inv .5 ∙ ap (dateUnder _) (sym under))
 
 loop-less : tie.Need-loop-less Inv-loop μ-loop
 loop-less c =

@@ -1,0 +1,49 @@
+-- `fifo::queue::move_up` meets its contract. The loop's invariant: the bytes passed are in place, and the others are as they were.
+-- Assumes nothing.
+use mathlib.Core.Path.{_≡_}
+use Prim.Native.Nat.{_-_, _≤_}
+use native.Mathlib.Omega.{arith}
+use borrow.Author.Needs.{needs}
+use lib.ListN.{length, drop, length-set}
+use lib.Seq.{paste, paste-zero}
+use Rattle.fifo.proofs.Stores.{paste-next}
+use Rattle.fifo.proofs.queue.move_up.Statement.{statement}
+use Rattle.fifo.proofs.queue.move_up.Tie as tie
+
+abbrev Inv-loop : tie.InvT-loop
+Inv-loop room₀ n i₀ room i = (room ≡ paste room₀ 2 (drop 4 room₀) i) × (length room ≡ length room₀) × (i ≤ n)
+
+abbrev μ-loop : tie.MeasureT-loop
+μ-loop room₀ n i₀ room i = n - i
+
+loop-holds : tie.Need-loop-holds Inv-loop μ-loop
+loop-holds c = (paste-zero (c .args .s .now) 2 (drop 4 (c .args .s .now)), search needs, search needs)
+
+loop-again : tie.Need-loop-again Inv-loop μ-loop
+loop-again c =
+    let s = c .before .before .before .args .s .now in
+    let i = c .before .before .loop .i in
+    let inv = c .before .before .loop .inv in
+    (rw (inv .0) (paste-next s i (omega arith)), simp length-set (inv .1), omega arith)
+
+returns : tie.Need-returns Inv-loop μ-loop
+returns c =
+    let e : c .before .loop .i ≡ c .before .before .args .n = omega arith in
+    rw e at (c .before .loop .inv .0)
+
+pub move-up-spec : {M : Type 1} → statement M
+move-up-spec =
+    tie.close
+    (tie.spec
+    Inv-loop
+    μ-loop
+    loop-holds
+    (λ c. omega arith)
+    (λ c. omega arith)
+    (λ c. omega arith)
+    (λ c. omega arith)
+    (λ c. omega arith)
+    (λ c. omega arith)
+    loop-again
+    (λ c. search needs)
+    returns)

@@ -1,0 +1,54 @@
+// When the clock jumps (ticket 2026-10): a mark is the minute that was announced last, and an announced minute is judged beside it.
+ghost use mathlib.Core.Path.{_≡_};
+ghost use Rattle.schedule.specs.Jumps.{caseOf, markAfter};
+
+// The mark of a line.
+pub enum Mark {
+    // No minute was announced yet.
+    None,
+    // This one.
+    At(u64),
+}
+
+// What an announced minute is, beside the mark.
+pub enum Case {
+    // There is no mark, or the clock jumped too far: all entries are judged by the minute.
+    Anew,
+    // It is at most 180 after this mark: fixed entries catch up.
+    After(u64),
+    // It is the mark, or less than 180 before it: fixed entries don't join.
+    Held,
+}
+
+// A clock that jumps further than so many minutes starts anew.
+const REACH: u64 = 180;
+
+// The case of a minute.
+pub fn case_of(mark: Mark, minute: u64) -> Case
+    ensures { λ r. ⌜ r ≡ caseOf mark minute ⌝ }
+{
+    let Mark::At(marked) = mark else {
+        return Case::Anew;
+    };
+    if marked < minute {
+        if REACH < minute - marked {
+            return Case::Anew;
+        }
+        return Case::After(marked);
+    }
+    if REACH <= marked - minute {
+        return Case::Anew;
+    }
+    Case::Held
+}
+
+// The mark that an announced minute leaves.
+pub fn mark_after(mark: Mark, minute: u64) -> Mark
+    ensures { λ r. ⌜ r ≡ markAfter mark minute ⌝ }
+{
+    match case_of(mark, minute) {
+        Case::Anew => Mark::At(minute),
+        Case::After(_) => Mark::At(minute),
+        Case::Held => mark,
+    }
+}
