@@ -29,7 +29,7 @@ extern "C" {
 #endif
 
 /* The middle number counts the change requests that have landed. */
-#define EREMOTHYN_VERSION "1.10.0"
+#define EREMOTHYN_VERSION "1.11.0"
 
 /* The last minute of the calendar, 9999-12-31 23:59. */
 #define EREMOTHYN_LAST_MINUTE UINT64_C(4223371679)
@@ -62,8 +62,9 @@ extern "C" {
 #define EREMOTHYN_NO_INPUT EREMOTHYN_REFUSED
 
 /*
- * Refusals of a table. 1 comes first, then the first bad line decides: on it 2, then 3, in comments too, then the line is
- * read from left to right, a setting's form before its value, and 12 comes last. Lines and columns count from 1.
+ * Refusals of a table. 1 comes first, then the first bad line decides: on it 2, 3 and 27, in comments too, then the line is
+ * read from left to right, a setting's form before its value, and 12 comes last. 26 comes only where no line is bad, and an
+ * empty table is good. Lines and columns count from 1.
  */
 #define EREMOTHYN_TABLE_TOO_LONG UINT64_C(1)    /* over 49,152 bytes; line 0, column 0 */
 #define EREMOTHYN_LINE_TOO_LONG UINT64_C(2)     /* over 1,000 bytes without its newline; column 1,001 */
@@ -79,6 +80,8 @@ extern "C" {
 #define EREMOTHYN_TOO_MANY_ENTRIES UINT64_C(12) /* the 513th entry; column 1 */
 #define EREMOTHYN_USER_MALFORMED UINT64_C(20)   /* user column not of the form, in a system table; its first byte */
 #define EREMOTHYN_OFFSET_MALFORMED UINT64_C(25) /* value of CRON_TZ no offset; after = and blanks */
+#define EREMOTHYN_TABLE_CUT UINT64_C(26)        /* last byte no newline; the last line, the column after its last byte */
+#define EREMOTHYN_CONTROL_BYTE UINT64_C(27)     /* byte 1 to 8, 11 to 31 or 127 in a line; its column */
 
 /* Refusals of one entry, one minute, one setting, one normal text, records and one queue of waiting jobs. */
 #define EREMOTHYN_NO_SUCH_ENTRY UINT64_C(13)   /* no entry of that number */
@@ -125,6 +128,8 @@ static inline const char *eremothyn_words(uint64_t refusal)
                "_, - and ., and - not first";
     case EREMOTHYN_OFFSET_MALFORMED:
         return "not an offset from UTC: CRON_TZ is -12:00 to +14:00, as +05:30, with a sign and two digits each";
+    case EREMOTHYN_TABLE_CUT: return "no newline at the end: the table may have been cut";
+    case EREMOTHYN_CONTROL_BYTE: return "the line has a control byte: of those below 32, and 127, it may have tabs only";
     case EREMOTHYN_TEXT_TOO_LONG: return "in normal form a line has more than 1000 bytes, or the table more than 49152";
     case EREMOTHYN_RECORD_CUT: return "the record is cut short, or its length is below 2";
     case EREMOTHYN_RECORD_UNKNOWN: return "an unknown kind of record, and not one that may be skipped";
@@ -219,8 +224,8 @@ uint64_t eremothyn_class_length(const uint8_t *table, uint64_t table_length, uin
 
 /*
  * The name and the value of the setting on a line, counted from 1, as parts of the table: where each starts, counted from 0,
- * and its length, without quotes. Refused with EREMOTHYN_NO_SETTING if the line is none, or isn't there: a table has no more
- * lines than newlines and one.
+ * and its length, without quotes. Refused with EREMOTHYN_NO_SETTING if the line is none, or isn't there: a good table has
+ * as many lines as newlines.
  */
 uint64_t eremothyn_setting_name_offset(const uint8_t *table, uint64_t table_length, uint64_t kind, uint64_t line);
 uint64_t eremothyn_setting_name_length(const uint8_t *table, uint64_t table_length, uint64_t kind, uint64_t line);

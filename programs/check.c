@@ -24,7 +24,7 @@ static int check(const char *name, unsigned given)
         printf("%s: %" PRIu64 " entries\n", name, entries);
         return written(DONE);
     }
-    tell_refusal(stdout, name, fault_of(&table, kind), EREMOTHYN_REFUSAL(entries));
+    tell_refusal(stdout, name, &table, fault_of(&table, kind), EREMOTHYN_REFUSAL(entries));
     return written(REFUSED);
 }
 

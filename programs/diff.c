@@ -68,14 +68,13 @@ static uint64_t written_of(uint64_t from, uint64_t to)
     return lines;
 }
 
+/* A table that has a text ends in a newline, and so does every line of it. */
 static void print_line(char mark, struct part line)
 {
     if (line.length == 0)
         return;
     putchar(mark);
     fwrite(line.start, 1, line.length, stdout);
-    if (line.start[line.length - 1] != '\n')
-        puts("\n\\ No newline at end of file");
 }
 
 /* Some lines of the table, and what they become; so many lines of the text stand before. */

@@ -25,6 +25,6 @@ int refuse_text(const char *name, const struct file *table, uint64_t refusal)
 {
     bool is_good = refusal == EREMOTHYN_TEXT_TOO_LONG;
     struct place place = is_good ? too_long_at(table) : fault_of(table, EREMOTHYN_USER_TABLE);
-    tell_refusal(stderr, name, place, refusal);
+    tell_refusal(stderr, name, table, place, refusal);
     return REFUSED;
 }

@@ -171,8 +171,24 @@ struct place fault_of(const struct file *table, uint64_t kind)
     };
 }
 
-void tell_refusal(FILE *to, const char *name, struct place place, uint64_t refusal)
+/* Shows the byte at a place of a table, and whether it is the CR of a line that ends in CR LF. */
+static void show_byte(FILE *to, const struct file *table, struct place place)
 {
-    fprintf(to, "%s:%" PRIu64 ":%" PRIu64 ": refused %" PRIu64 ": %s\n", name, place.line, place.column, refusal,
+    uint64_t start = 0;
+    for (uint64_t line = 1; line < place.line; line++)
+        start += line_at(table, start).length;
+    struct part line = line_at(table, start);
+    uint8_t byte = line.start[place.column - 1];
+    fprintf(to, " (byte %u, 0x%02x)", (unsigned)byte, (unsigned)byte);
+    if (byte == '\r' && place.column + 1 == line.length && line.start[place.column] == '\n')
+        fputs("; the line ends in CR LF, and the CR isn't allowed", to);
+}
+
+void tell_refusal(FILE *to, const char *name, const struct file *table, struct place place, uint64_t refusal)
+{
+    fprintf(to, "%s:%" PRIu64 ":%" PRIu64 ": refused %" PRIu64 ": %s", name, place.line, place.column, refusal,
             eremothyn_words(refusal));
+    if (refusal == EREMOTHYN_CONTROL_BYTE)
+        show_byte(to, table, place);
+    fputc('\n', to);
 }

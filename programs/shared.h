@@ -104,7 +104,7 @@ struct place {
 /* Where the library finds a table's fault. */
 struct place fault_of(const struct file *table, uint64_t kind);
 
-/* Says where and why a table is refused, in the form that compilers use. */
-void tell_refusal(FILE *to, const char *name, struct place place, uint64_t refusal);
+/* Says where and why a table is refused, in the form that compilers use; a control byte is shown. */
+void tell_refusal(FILE *to, const char *name, const struct file *table, struct place place, uint64_t refusal);
 
 #endif

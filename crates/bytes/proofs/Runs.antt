@@ -1,7 +1,7 @@
 -- Laws of runs of bytes, byte by byte.
 -- Assumes nothing.
-use mathlib.Core.Path.{_≡_, refl, _∙_}
-use mathlib.Core.Bool.{Bool, true, false, cond, _&&_, false≢true}
+use mathlib.Core.Path.{_≡_, refl, sym, _∙_}
+use mathlib.Core.Bool.{Bool, true, false, cond, not, _&&_, _||_, false≢true}
 use mathlib.Core.List.{List, [], _∷_, _++_}
 use Prim.Native.Nat.{ℕ, zero, suc, _+_, _-_, _≤_, _<_}
 use native.Mathlib.Nat.{add-zero, lt-of-not-le}
@@ -9,11 +9,12 @@ use native.Mathlib.Decide.{decLe}
 use native.Mathlib.Numerals.{add-one}
 use native.Mathlib.Omega.{arith}
 use lib.ListN.{length, take, drop, getD, length-drop, drop-of-length-le}
-use lib.Seq.{drop-cons, take-suc, take-all, getD-drop, length-take-le}
+use lib.Seq.{drop-cons, drop-drop, take-suc, take-all, getD-drop, length-take-le}
 use lib.Dec.{eqb}
 use borrow.Author.Tests.{ne-eqb}
 use Rattle.bytes.specs.declared.class.Class.{Class}
-use Rattle.bytes.specs.Classes.{isBlank, isQuote, ofClass}
+use Rattle.bytes.specs.declared.class.Class.the-variants.{Not, InLine}
+use Rattle.bytes.specs.Classes.{isBlank, isQuote, isControl, ofClass}
 use Rattle.bytes.specs.Runs.{run, skipped, trimmed, between}
 use Rattle.bytes.proofs.Each.{Each}
 
@@ -53,6 +54,55 @@ module _ (k : Class) where
     pub skipped-end : (at : ℕ) → length s ≤ at → skipped k s at ≡ at
     unfolding skipped
     skipped-end at h = omega (arith, run-le (drop at s), length-drop at s)
+
+-- ---- a run of one kind within that of a wider kind
+
+module _ (k m : Class) (wider : (b : ℕ) → ofClass k b ≡ true → ofClass m b ≡ true) where
+  run-past : (s : List ℕ) → run m s ≡ run k s + run m (drop (run k s) s)
+  unfolding run
+  run-past [] = refl
+  run-past (b ∷ s) = go (ofClass k b) refl (run-past s)
+    where
+      go : (t : Bool) → ofClass k b ≡ t → run m s ≡ run k s + run m (drop (run k s) s)
+          → run m (b ∷ s) ≡ cond t (suc (run k s)) 0 + run m (drop (cond t (suc (run k s)) 0) (b ∷ s))
+      go true e h = rw (wider b e) (omega arith)
+      go false e h = omega arith
+
+  -- the wider one goes on where the other ends
+  pub skipped-past : (s : List ℕ) (at : ℕ) → skipped m s (skipped k s at) ≡ skipped m s at
+  unfolding skipped
+  skipped-past s at = rw (← drop-drop (run k (drop at s)) at s) (omega (arith, run-past (drop at s)))
+
+  -- the other ends within the wider one
+  pub run-taken : (s : List ℕ) → run k s ≡ run k (take (run m s) s)
+  unfolding run
+  run-taken [] = refl
+  run-taken (b ∷ s) = go (ofClass k b) (ofClass m b) refl refl (run-taken s)
+    where
+      go : (t u : Bool) → ofClass k b ≡ t → ofClass m b ≡ u → run k s ≡ run k (take (run m s) s)
+          → cond t (suc (run k s)) 0 ≡ run k (take (cond u (suc (run m s)) 0) (b ∷ s))
+      go true true e f h = rw (e, h)
+      go true false e f h = absurd (false≢true (sym f ∙ wider b e))
+      go false true e f h = rw e
+      go false false e f h = refl
+
+-- what a line may have is no newline and no byte 0
+pub no-newline : (b : ℕ) → ofClass InLine b ≡ true → ofClass (Not 10) b ≡ true
+unfolding ofClass
+no-newline b e = go (eqb b 10) (eqb b 0 || isControl b) e
+  where
+    go : (x y : Bool) → not (x || y) ≡ true → not x ≡ true
+    go false y e = refl
+    go true y e = absurd (false≢true e)
+
+pub no-nul : (b : ℕ) → ofClass InLine b ≡ true → ofClass (Not 0) b ≡ true
+unfolding ofClass
+no-nul b e = go (eqb b 10) (eqb b 0) (isControl b) e
+  where
+    go : (x y z : Bool) → not (x || (y || z)) ≡ true → not y ≡ true
+    go true y z e = absurd (false≢true e)
+    go false true z e = absurd (false≢true e)
+    go false false z e = refl
 
 -- a place that a search from within found, and that isn't the end
 pub before-end : {from n r : ℕ} → from ≤ n → r ≤ from + (n - from) → (r ≡ n → ⊥) → r < n

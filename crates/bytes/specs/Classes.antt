@@ -20,6 +20,10 @@ isAccount b =
     ((leb 97 b && leb b 122) || (leb 65 b && leb b 90))
     || ((leb 48 b && leb b 57) || (eqb b 95 || (eqb b 45 || eqb b 46)))
 
+-- ticket 2026-11: "bytes 1 to 8, 11 to 31 and 127"
+unfoldable pub isControl : ℕ → Bool
+isControl b = (leb 1 b && leb b 8) || ((leb 11 b && leb b 31) || eqb b 127)
+
 abbrev pub newline : ℕ
 newline = 10
 
@@ -32,4 +36,4 @@ ofClass Solid b = not (isBlank b)
 ofClass Name b = not (isBlank b || (eqb b equalsSign || isQuote b))
 ofClass Account b = isAccount b
 ofClass (Not other) b = not (eqb b other)
-ofClass InLine b = not (eqb b newline || eqb b 0)
+ofClass InLine b = not (eqb b newline || (eqb b 0 || isControl b))

@@ -2,9 +2,10 @@
 -- Assumes nothing.
 use mathlib.Core.Path.{_≡_, refl}
 use mathlib.Core.Bool.{Bool, cond}
-use mathlib.Core.List.{List, [], _∷_}
+use mathlib.Core.List.{List, [], _∷_, _++_}
 use Prim.Native.Nat.{ℕ}
-use Rattle.bytes.specs.Classes.{isBlank, isQuote, isAccount}
+use Rattle.bytes.specs.Classes.{isBlank, isQuote, isAccount, isControl, ofClass}
+use Rattle.bytes.specs.declared.class.Class.the-variants.{InLine}
 use Rattle.bytes.specs.LittleEndian.{littleEndian, numberOf, width}
 use Rattle.bytes.specs.Rows.{Hold}
 use Rattle.bytes.specs.Sets.{fromOn, upTo}
@@ -29,6 +30,15 @@ quotes = refl
 accounts : bytesOf isAccount ≡ text "-.0123456789ABCDEFGHIJKLMNOPQRSTUVWXYZ_abcdefghijklmnopqrstuvwxyz"
 unfolding those isAccount upTo fromOn
 accounts = refl
+
+-- ticket 2026-11: what is left for a line without newline, byte 0 and control bytes
+controls : bytesOf isControl ≡ upTo 1 8 ++ (upTo 11 31 ++ 127 ∷ [])
+unfolding those isControl upTo fromOn
+controls = refl
+
+in-a-line : bytesOf (ofClass InLine) ≡ 9 ∷ (upTo 32 126 ++ upTo 128 255)
+unfolding those isControl ofClass upTo fromOn
+in-a-line = refl
 
 -- numbers and their bytes, the low byte first
 inBytes : Hold (λ (n : ℕ). littleEndian 4 n) ((0, 0 ∷ 0 ∷ 0 ∷ 0 ∷ []) ∷ (258, 2 ∷ 1 ∷ 0 ∷ 0 ∷ []) ∷ (4278190337, 1 ∷ 1 ∷ 0 ∷ 255 ∷ []) ∷ [])

@@ -1,6 +1,6 @@
 // Kinds of bytes.
 ghost use mathlib.Core.Path.{_≡_};
-ghost use Rattle.bytes.specs.Classes.{isBlank, isQuote, isAccount, ofClass};
+ghost use Rattle.bytes.specs.Classes.{isBlank, isQuote, isAccount, isControl, ofClass};
 
 pub enum Class {
     // Space and tab.
@@ -13,7 +13,7 @@ pub enum Class {
     Account,
     // Any byte but this one.
     Not(u8),
-    // What a line is made of: no newline and no byte 0.
+    // What a line may have: no newline, no byte 0 and no control byte.
     InLine,
 }
 
@@ -37,6 +37,13 @@ fn is_account(b: u8) -> bool
     letter | (digit | ((b == b'_') | ((b == b'-') | (b == b'.'))))
 }
 
+// Control bytes: none but newline and tab are text.
+fn is_control(b: u8) -> bool
+    ensures { λ r. ⌜ r ≡ isControl b ⌝ }
+{
+    ((1 <= b) & (b <= 8)) | (((11 <= b) & (b <= 31)) | (b == 127))
+}
+
 pub fn is_in(class: Class, b: u8) -> bool
     ensures { λ r. ⌜ r ≡ ofClass class b ⌝ }
 {
@@ -46,6 +53,6 @@ pub fn is_in(class: Class, b: u8) -> bool
         Class::Name => !(is_blank(b) | ((b == b'=') | is_quote(b))),
         Class::Account => is_account(b),
         Class::Not(other) => b != other,
-        Class::InLine => !((b == b'\n') | (b == 0)),
+        Class::InLine => !((b == b'\n') | ((b == 0) | is_control(b))),
     }
 }

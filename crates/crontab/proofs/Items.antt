@@ -8,7 +8,8 @@ use lib.ListN.{length, take, drop, length-drop, drop-of-length-le}
 use lib.Seq.{length-take-le}
 use lib.IntN.{ℤ}
 use borrow.Author.Tests.{lt-ltb, le-ltb}
-use Rattle.bytes.specs.declared.class.Class.the-variants.{Not}
+use Rattle.bytes.specs.declared.class.Class.the-variants.{Not, InLine}
+use Rattle.bytes.specs.Runs.{skipped}
 use Rattle.bytes.proofs.Runs.{skipped-from, skipped-within}
 use Rattle.crontab.specs.declared.Rules.{Rules}
 use Rattle.crontab.specs.declared.Part.{Part}
@@ -23,9 +24,9 @@ use Rattle.crontab.specs.declared.offset.Zone.{Zone}
 use Rattle.crontab.specs.Offsets.{utc, inForce}
 use Rattle.crontab.specs.Limits.{maxTable, maxLine, maxEntries}
 use Rattle.crontab.specs.Lines.{linesOf, readLine}
-use Rattle.crontab.specs.Items.{done, moved, placed, afterLine, itemsFrom, itemsOf}
-use Rattle.crontab.specs.Steps.{itemsAt, behind, Reached, given, counted, Under, StepIs}
-use Rattle.crontab.proofs.Lines.{lineEnd, lines-first, next-start}
+use Rattle.crontab.specs.Items.{done, moved, placed, afterLine, lastFault, itemsFrom, itemsOf}
+use Rattle.crontab.specs.Steps.{itemsAt, behind, Reached, LineAt, given, counted, Under, StepIs}
+use Rattle.crontab.proofs.Lines.{lineEnd, end-found, stop-found, lines-first, next-start, last-line, ended-line}
 use Rattle.crontab.proofs.Offsets.{force-in}
 use Rattle.crontab.proofs.Proper.{setting-proper, entry-proper}
 
@@ -44,15 +45,24 @@ unfolding itemsAt itemsFrom linesOf
 items-end rules s c h = rw (drop-of-length-le s h)
 
 -- the line at a cursor, by where it ends
-module _ (rules : Rules) (s : List ℕ) (c : Cursor) (end : ℕ) (reached : Reached s c) (inside : c .at < length s) (found : end ≡ lineEnd s (c .at)) where
+module _ (rules : Rules) (s : List ℕ) (c : Cursor) (stop end : ℕ) (there : LineAt s c stop end) where
+  reached : Reached s c
+  reached = there .reached
+
+  inside : c .at < length s
+  inside = there .inside
+
+  found : end ≡ lineEnd s (c .at)
+  found = end-found s (c .at) stop end (there .stops) (there .ends)
+
   abbrev bytes : List ℕ
   bytes = take (end - c .at) (drop (c .at) s)
 
   abbrev next : ℕ → ℤ → Cursor
   next k o = behind c end k o
 
-  from : c .at ≤ end
-  from = rw found (skipped-from (Not 10) s (c .at))
+  pub line-order : c .at ≤ end
+  line-order = rw found (skipped-from (Not 10) s (c .at))
 
   within : end ≤ length s
   within = rw found (skipped-within (Not 10) s (c .at) (omega arith))
@@ -63,62 +73,30 @@ module _ (rules : Rules) (s : List ℕ) (c : Cursor) (end : ℕ) (reached : Reac
   size : length bytes ≡ end - c .at
   size = length-take-le (end - c .at) (drop (c .at) s) (omega (arith, within, length-drop (c .at) s))
 
-  here : itemsAt rules s c
-      ≡ afterLine (c .at) (c .line) (end - c .at) (c .count) (c .offset) (readLine rules bytes) (λ k o. itemsAt rules s (next k o))
-  unfolding itemsAt itemsFrom
-  here = rw (lines-first s (c .at) end inside found, next-start s (c .at) end inside found, size)
+  -- its first byte that it may not have
+  pub line-from : c .at ≤ stop
+  line-from = rw (there .stops) (skipped-from InLine s (c .at))
+
+  pub line-stops : stop - c .at ≡ skipped InLine bytes 0
+  line-stops = stop-found s (c .at) stop end (there .stops) found
 
   step-is : (i : Item) (k : ℕ) (o : ℤ) → itemsAt rules s c ≡ given (c .line) i (itemsAt rules s (next k o)) → k ≡ counted i (c .count) → k ≤ maxEntries
       → InZones o → Under (c .offset) i → StepIs rules s c (record { item = i; next = next k o })
   step-is i k o g e few zone under =
       record {
         gives = g;
-        onward = omega (arith, from);
+        onward = omega (arith, line-order);
         reached =
             record {
               short = reached .short;
               place = omega (arith, within);
-              lines = omega (arith, from, reached .lines);
+              lines = omega (arith, line-order, reached .lines);
               few = few;
               zone = zone;
             };
         counts = e;
         under = under;
       }
-
-  -- the offset that is read back from a cursor
-  module _ {o : ℤ} (same : o ≡ c .offset) where
-    in-zones : InZones o
-    in-zones = subst InZones (sym same) (reached .zone)
-
-    pub step-nothing : readLine rules bytes ≡ line.Ignored → StepIs rules s c (record { item = item.Nothing; next = next (c .count) o })
-    unfolding afterLine given counted
-    step-nothing is = step-is item.Nothing (c .count) o (here ∙ rw (is, same)) refl (reached .few) in-zones tt
-
-    pub step-refused : {f : Fault} → readLine rules bytes ≡ line.Refused f → StepIs rules s c (record { item = item.Refused f; next = next (c .count) o })
-    unfolding afterLine given counted
-    step-refused {f} is = step-is (item.Refused f) (c .count) o (here ∙ rw is) refl (reached .few) in-zones tt
-
-    pub step-entry : {when : When} {first : ℕ} → readLine rules bytes ≡ line.Entry when first → c .count < maxEntries
-        → StepIs rules s c (record { item = item.Entry (placed (c .at) (c .line) (end - c .at) (c .offset) when first); next = next (c .count + 1) o })
-    unfolding afterLine given counted
-    step-entry {when} {first} is h =
-        step-is (item.Entry (placed (c .at) (c .line) (end - c .at) (c .offset) when first)) (c .count + 1) o
-        (here ∙ rw (is, lt-ltb (c .count) maxEntries h, same)) refl (omega arith) in-zones refl
-
-    pub step-full : {when : When} {first : ℕ} → readLine rules bytes ≡ line.Entry when first → maxEntries ≤ c .count
-        → StepIs rules s c (record { item = item.Refused (record { number = 12; column = 1 }); next = next (c .count) o })
-    unfolding afterLine given counted
-    step-full is h =
-        step-is (item.Refused (record { number = 12; column = 1 })) (c .count) o (here ∙ rw (is, le-ltb (c .count) maxEntries h)) refl
-        (reached .few) in-zones tt
-
-  pub step-setting : {name value : Part} {zone : Zone} {o : ℤ} → readLine rules bytes ≡ line.Setting name value zone → o ≡ inForce zone (c .offset)
-      → StepIs rules s c (record { item = item.Setting (moved (c .at) name) (moved (c .at) value); next = next (c .count) o })
-  unfolding afterLine given counted
-  step-setting {name} {value} {zone} {o} is same =
-      step-is (item.Setting (moved (c .at) name) (moved (c .at) value)) (c .count) o (here ∙ rw (is, same)) refl (reached .few)
-      (subst InZones (sym same) (force-in zone (c .offset) (setting-proper rules bytes is .3) (reached .zone))) tt
 
   module _ {when : When} {first : ℕ} (is : readLine rules bytes ≡ line.Entry when first) where
     -- its places have 16 bits
@@ -128,3 +106,59 @@ module _ (rules : Rules) (s : List ℕ) (c : Cursor) (end : ℕ) (reached : Reac
         let n = reached .short in
         let l = reached .lines in
         (omega arith, omega arith, omega (arith, p .0, p .1), omega (arith, p .0, size))
+
+  -- the table ends there: its own fault, or 26
+  pub step-last : length s ≤ end → {o : ℤ} → o ≡ c .offset
+      → StepIs rules s c (record { item = item.Refused (lastFault (end - c .at) (c .count) (readLine rules bytes)); next = next (c .count) o })
+  unfolding itemsAt itemsFrom given counted
+  step-last h {o} same =
+      step-is (item.Refused (lastFault (end - c .at) (c .count) (readLine rules bytes))) (c .count) o
+      (rw (lines-first s (c .at) end inside found, last-line s (c .at) end inside found h, size)) refl (reached .few)
+      (subst InZones (sym same) (reached .zone)) tt
+
+  -- a newline ends it
+  module _ (ended : end < length s) where
+    here : itemsAt rules s c
+        ≡ afterLine (c .at) (c .line) (end - c .at) (c .count) (c .offset) (readLine rules bytes) (λ k o. itemsAt rules s (next k o))
+    unfolding itemsAt itemsFrom
+    here =
+        rw (
+          lines-first s (c .at) end inside found,
+          ended-line s (c .at) end inside found ended,
+          next-start s (c .at) end inside found,
+          size,
+        )
+
+    -- the offset that is read back from a cursor
+    module _ {o : ℤ} (same : o ≡ c .offset) where
+      in-zones : InZones o
+      in-zones = subst InZones (sym same) (reached .zone)
+
+      pub step-nothing : readLine rules bytes ≡ line.Ignored → StepIs rules s c (record { item = item.Nothing; next = next (c .count) o })
+      unfolding afterLine given counted
+      step-nothing is = step-is item.Nothing (c .count) o (here ∙ rw (is, same)) refl (reached .few) in-zones tt
+
+      pub step-refused : {f : Fault} → readLine rules bytes ≡ line.Refused f → StepIs rules s c (record { item = item.Refused f; next = next (c .count) o })
+      unfolding afterLine given counted
+      step-refused {f} is = step-is (item.Refused f) (c .count) o (here ∙ rw is) refl (reached .few) in-zones tt
+
+      pub step-entry : {when : When} {first : ℕ} → readLine rules bytes ≡ line.Entry when first → c .count < maxEntries
+          → StepIs rules s c (record { item = item.Entry (placed (c .at) (c .line) (end - c .at) (c .offset) when first); next = next (c .count + 1) o })
+      unfolding afterLine given counted
+      step-entry {when} {first} is h =
+          step-is (item.Entry (placed (c .at) (c .line) (end - c .at) (c .offset) when first)) (c .count + 1) o
+          (here ∙ rw (is, lt-ltb (c .count) maxEntries h, same)) refl (omega arith) in-zones refl
+
+      pub step-full : {when : When} {first : ℕ} → readLine rules bytes ≡ line.Entry when first → maxEntries ≤ c .count
+          → StepIs rules s c (record { item = item.Refused (record { number = 12; column = 1 }); next = next (c .count) o })
+      unfolding afterLine given counted
+      step-full is h =
+          step-is (item.Refused (record { number = 12; column = 1 })) (c .count) o (here ∙ rw (is, le-ltb (c .count) maxEntries h)) refl
+          (reached .few) in-zones tt
+
+    pub step-setting : {name value : Part} {zone : Zone} {o : ℤ} → readLine rules bytes ≡ line.Setting name value zone → o ≡ inForce zone (c .offset)
+        → StepIs rules s c (record { item = item.Setting (moved (c .at) name) (moved (c .at) value); next = next (c .count) o })
+    unfolding afterLine given counted
+    step-setting {name} {value} {zone} {o} is same =
+        step-is (item.Setting (moved (c .at) name) (moved (c .at) value)) (c .count) o (here ∙ rw (is, same)) refl (reached .few)
+        (subst InZones (sym same) (force-in zone (c .offset) (setting-proper rules bytes is .3) (reached .zone))) tt

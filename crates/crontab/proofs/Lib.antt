@@ -9,6 +9,7 @@ pub mod Zones
 pub mod Lines
 pub mod Items
 pub mod Sound
+pub mod Cuts
 pub mod Tables
 pub mod Walks
 pub mod Firings

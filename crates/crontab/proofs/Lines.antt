@@ -1,18 +1,21 @@
 -- Laws of the lines of a table: the first line of what is left, and where the next one starts.
 -- Assumes nothing.
-use mathlib.Core.Path.{_≡_, refl, _∙_}
-use mathlib.Core.Bool.{Bool, true, false, cond, not, _||_}
+use mathlib.Core.Path.{_≡_, refl, sym, ap, _∙_}
+use mathlib.Core.Bool.{Bool, true, false, cond, not, _&&_, false≢true}
 use mathlib.Core.List.{List, [], _∷_}
-use Prim.Native.Nat.{ℕ, suc, _+_, _-_, _≤_, _<_}
+use Prim.Native.Nat.{ℕ, zero, suc, _+_, _-_, _≤_, _<_}
+use native.Mathlib.Numerals.{add-one}
 use native.Mathlib.Omega.{arith}
-use lib.ListN.{length, take, drop, length-drop}
-use lib.Seq.{length-take-le, drop-drop}
+use lib.ListN.{length, take, drop, getD, length-drop, drop-of-length-le}
+use lib.Seq.{length-take-le, drop-cons, drop-drop}
 use lib.Dec.{eqb}
+use borrow.Author.Tests.{eqb-true, lt-ltb, le-ltb}
 use Rattle.bytes.specs.declared.class.Class.the-variants.{Not, InLine}
 use Rattle.bytes.specs.Classes.{ofClass}
 use Rattle.bytes.specs.Runs.{run, skipped}
-use Rattle.crontab.specs.Lines.{onto, linesOf}
-use Rattle.bytes.proofs.Runs.{skipped-from, skipped-within}
+use Rattle.crontab.specs.Lines.{onto, linesOf, isCut, isLast, byteFault}
+use Rattle.bytes.proofs.Runs.{skipped-from, skipped-within, skipped-past, run-taken, no-newline, no-nul}
+use Rattle.bytes.proofs.Places.{skipped-stop}
 
 -- ---- the first line of what is left
 
@@ -35,33 +38,37 @@ line-first b (x ∷ s) = go (eqb b 10) (line-first x s)
     go true e = refl
     go false e = rw e
 
--- ---- one search for the newline and for the first byte 0
+-- ---- whether it is the last one, and cut
 
-in-line : (s : List ℕ) → run (Not 10) s ≡ run InLine s + run (Not 10) (drop (run InLine s) s)
-unfolding run ofClass
-in-line [] = refl
-in-line (b ∷ s) = go (eqb b 10) (eqb b 0) refl (in-line s)
+pub lines-some : (b : ℕ) (s : List ℕ) → isLast (linesOf (b ∷ s)) ≡ false
+unfolding linesOf isLast onto
+lines-some b s = go (eqb b 10) (linesOf s)
   where
-    k : ℕ
-    k = run InLine s
+    go : (t : Bool) (later : List (List ℕ)) → isLast (cond t ([] ∷ later) (onto b later)) ≡ false
+    go true later = refl
+    go false [] = refl
+    go false (l ∷ later) = refl
 
-    go : (t u : Bool) → eqb b 10 ≡ t → run (Not 10) s ≡ k + run (Not 10) (drop k s)
-        → cond (not t) (suc (run (Not 10) s)) 0
-        ≡ cond (not (t || u)) (suc k) 0 + run (Not 10) (drop (cond (not (t || u)) (suc k) 0) (b ∷ s))
-    go true u p e = rw p
-    go false true p e = rw p (omega arith)
-    go false false p e = omega arith
+cut-from : (s : List ℕ) (at : ℕ) → at < length s → isCut (drop at s) ≡ isCut s
+unfolding isCut
+cut-from [] at h = absurd (omega arith)
+cut-from (b ∷ s) zero h = refl
+cut-from (b ∷ []) (suc at) h = absurd (omega arith)
+cut-from (b ∷ x ∷ s) (suc at) h = cut-from (x ∷ s) at (omega arith)
 
-nul-in-line : (s : List ℕ) → run InLine s ≡ run (Not 0) (take (run (Not 10) s) s)
-unfolding run ofClass
-nul-in-line [] = refl
-nul-in-line (b ∷ s) = go (eqb b 10) (eqb b 0) refl (nul-in-line s)
+cut-whole : (s : List ℕ) → 0 < length s → length s ≤ run (Not 10) s → isCut s ≡ true
+unfolding isCut run ofClass
+cut-whole [] k h = absurd (omega arith)
+cut-whole (b ∷ []) k h = go (not (eqb b 10)) h
   where
-    go : (t u : Bool) → eqb b 0 ≡ u → run InLine s ≡ run (Not 0) (take (run (Not 10) s) s)
-        → cond (not (t || u)) (suc (run InLine s)) 0 ≡ run (Not 0) (take (cond (not t) (suc (run (Not 10) s)) 0) (b ∷ s))
-    go true u p e = refl
-    go false true p e = rw p
-    go false false p e = rw (p, e)
+    go : (t : Bool) → 1 ≤ cond t 1 0 → t ≡ true
+    go true h = refl
+    go false h = absurd (omega arith)
+cut-whole (b ∷ x ∷ s) k h = cut-whole (x ∷ s) (omega arith) (go (not (eqb b 10)) h)
+  where
+    go : (t : Bool) → suc (length (x ∷ s)) ≤ cond t (suc (run (Not 10) (x ∷ s))) 0 → length (x ∷ s) ≤ run (Not 10) (x ∷ s)
+    go true h = omega arith
+    go false h = absurd (omega arith)
 
 -- where the line that starts at a place ends
 abbrev pub lineEnd : List ℕ → ℕ → ℕ
@@ -79,23 +86,29 @@ lines-from s at h =
     first [] k = absurd (omega arith)
     first (b ∷ l) k = line-first b l
 
-end-of-line : (s : List ℕ) (at : ℕ) → skipped (Not 10) s (skipped InLine s at) ≡ lineEnd s at
-unfolding skipped
-end-of-line s at = rw (← drop-drop (run InLine (drop at s)) at s) (omega (arith, in-line (drop at s)))
-
-nul-of-line : (s : List ℕ) (at : ℕ) → skipped InLine s at - at ≡ skipped (Not 0) (take (lineEnd s at - at) (drop at s)) 0
-unfolding skipped
-nul-of-line s at =
-    let e : at + run (Not 10) (drop at s) - at ≡ run (Not 10) (drop at s) = omega arith in
-    rw e (omega (arith, nul-in-line (drop at s)))
-
 -- the two searches one after the other
 pub end-found : (s : List ℕ) (at stop end : ℕ) → stop ≡ skipped InLine s at → end ≡ skipped (Not 10) s stop → end ≡ lineEnd s at
-end-found s at stop end p q = q ∙ rw p (end-of-line s at)
+end-found s at stop end p q = q ∙ rw p (skipped-past InLine (Not 10) no-newline s at)
 
-pub nul-found : (s : List ℕ) (at stop end : ℕ) → stop ≡ skipped InLine s at → end ≡ lineEnd s at
-    → stop - at ≡ skipped (Not 0) (take (end - at) (drop at s)) 0
-nul-found s at stop end p q = rw (p, q) (nul-of-line s at)
+pub stop-found : (s : List ℕ) (at stop end : ℕ) → stop ≡ skipped InLine s at → end ≡ lineEnd s at
+    → stop - at ≡ skipped InLine (take (end - at) (drop at s)) 0
+unfolding skipped
+stop-found s at stop end p q =
+    let e : at + run (Not 10) (drop at s) - at ≡ run (Not 10) (drop at s) = omega arith in
+    rw (p, q, e) (omega (arith, run-taken InLine (Not 10) no-newline (drop at s)))
+
+-- a search for byte 0 goes on where one for any byte that no line may have ends
+module _ (s : List ℕ) (stop nul : ℕ) (p : stop ≡ skipped InLine s 0) (q : nul ≡ skipped (Not 0) s stop) where
+  nul-found : skipped (Not 0) s 0 ≡ nul
+  nul-found = sym (q ∙ rw p (skipped-past InLine (Not 0) no-nul s 0))
+
+  pub nul-there : nul < length s → record { number = 3; column = nul + 1 } ≡ byteFault s
+  unfolding byteFault
+  nul-there h = rw (nul-found, lt-ltb nul (length s) h)
+
+  pub nul-not-there : length s ≤ nul → record { number = 27; column = stop + 1 } ≡ byteFault s
+  unfolding byteFault
+  nul-not-there h = rw (nul-found, le-ltb nul (length s) h, ← p)
 
 -- the line that starts at a place, by where it ends
 module _ (s : List ℕ) (at end : ℕ) (inside : at < length s) (found : end ≡ lineEnd s at) where
@@ -108,3 +121,39 @@ module _ (s : List ℕ) (at end : ℕ) (inside : at < length s) (found : end ≡
       let j : at ≤ end = rw found (skipped-from (Not 10) s at) in
       let l = length-take-le (end - at) (drop at s) (omega (arith, length-drop at s)) in
       omega (arith, l)
+
+  cut-at-end : length s ≤ end → isCut s ≡ true
+  unfolding skipped
+  cut-at-end h =
+      sym (cut-from s at inside)
+      ∙ cut-whole (drop at s) (omega (arith, length-drop at s)) (omega (arith, length-drop at s, found))
+
+  pub last-line : length s ≤ end → (isCut s && isLast (linesOf (drop (end + 1) s))) ≡ true
+  unfolding isLast linesOf
+  last-line h = rw (cut-at-end h, drop-of-length-le s (let k : length s ≤ end + 1 = omega arith in k))
+
+  newline-there : end < length s → getD s end 0 ≡ 10
+  unfolding ofClass
+  newline-there h = eqb-true (getD s end 0) 10 (go (eqb (getD s end 0) 10) (rw found (skipped-stop (Not 10) s at (rw found at h))))
+    where
+      go : (t : Bool) → not t ≡ false → t ≡ true
+      go true e = refl
+      go false e = absurd (false≢true (sym e))
+
+  pub ended-line : end < length s → (isCut s && isLast (linesOf (drop (end + 1) s))) ≡ false
+  unfolding isCut
+  ended-line h = go (drop (end + 1) s) refl
+    where
+      rest : drop end s ≡ 10 ∷ drop (end + 1) s
+      rest = drop-cons s end 0 h ∙ rw (newline-there h, add-one end)
+
+      none : (t : Bool) → (t && false) ≡ false
+      none true = refl
+      none false = refl
+
+      go : (r : List ℕ) → drop (end + 1) s ≡ r → (isCut s && isLast (linesOf r)) ≡ false
+      go [] e =
+          let one : drop end s ≡ 10 ∷ [] = rest ∙ rw e in
+          let c : isCut (drop end s) ≡ false = rw one in
+          rw (← cut-from s end h, c)
+      go (x ∷ r) e = rw (lines-some x r) (none (isCut s))

@@ -10,7 +10,7 @@ use lib.ListN.{length, drop, getD, length-drop}
 use lib.Dec.{eqb, leb, ltb}
 use lib.Seq.{length-take-le}
 use borrow.Author.Tests.{ltb-true, ltb-false, leb-false, eqb-true}
-use Rattle.bytes.specs.declared.class.Class.the-variants.{Blank, Solid, Not}
+use Rattle.bytes.specs.declared.class.Class.the-variants.{Blank, Solid, Not, InLine}
 use Rattle.bytes.specs.Runs.{skipped, between}
 use Rattle.bytes.proofs.Runs.{skipped-from, skipped-within, byte-within}
 use Rattle.field.specs.declared.Limits.{Limits}
@@ -30,6 +30,7 @@ use Rattle.crontab.specs.declared.time.Time.{Time}
 use Rattle.crontab.specs.declared.time.Time.the-variants as time
 use Rattle.crontab.specs.declared.assignment.Text.{Text}
 use Rattle.crontab.specs.declared.assignment.Text.the-variants.{Found, Malformed}
+use Rattle.crontab.specs.declared.line.Fault.{Fault}
 use Rattle.crontab.specs.declared.line.Line.{Line}
 use Rattle.crontab.specs.declared.line.Line.the-variants as line
 use Rattle.crontab.specs.Limits.{maxLine}
@@ -48,7 +49,7 @@ use Rattle.crontab.specs.declared.offset.OffsetAnswer.the-variants.{Minu
 use Rattle.crontab.specs.declared.offset.OffsetAnswer.the-variants as offset
 use Rattle.crontab.specs.Offsets.{zoneName, isOffset, offsetOf, readOffset, Zoned}
 use Rattle.crontab.specs.Assignments.{valueAt, afterOffset, withOffset, zoned, afterEquals, afterName, settingAt}
-use Rattle.crontab.specs.Lines.{startsEntry, contentFrom, contentOf, readLine}
+use Rattle.crontab.specs.Lines.{startsEntry, contentFrom, contentOf, byteFault, readLine}
 use Rattle.crontab.proofs.Times.{fieldBytes}
 use Rattle.crontab.proofs.Offsets.{zone-in}
 pub use Rattle.crontab.proofs.Texts.{Inside}
@@ -57,12 +58,12 @@ use Rattle.crontab.proofs.Texts.{TextInside, name-inside, value-inside}
 -- the refusals of lines, with no column behind the last
 pub record Numbered (last number column : ℕ) : Type 0 where
   pub from : 1 ≤ number
-  pub to : number ≤ 25
+  pub to : number ≤ 27
   pub inside : column ≤ last
 
 -- a line of n bytes
 abbrev pub Proper : ℕ → Line → Type 0
-Proper n line.Ignored = Unit {0}
+Proper n line.Ignored = n ≤ maxLine
 Proper n (line.Setting name value zone) = (n ≤ maxLine) × (Inside n name) × (Inside n value) × Zoned zone
 Proper n (line.Entry when start) = (n ≤ maxLine) × (start < n)
 Proper n (line.Refused fault) = Numbered (maxLine + 1) (fault .number) (fault .column)
@@ -222,7 +223,7 @@ module _ (s : List ℕ) (short : length s ≤ maxLine) where
   first-proper rules at first h = go (eqb first 35) (startsEntry first)
     where
       go : (a b : Bool) → Proper (length s) (cond a line.Ignored (cond b (entryAt rules s at) (settingAt s at)))
-      go true b = tt
+      go true b = short
       go false true = time-proper rules _ (time-fault s at h)
       go false false = name-proper at _ h (name-inside s at h)
 
@@ -231,19 +232,30 @@ module _ (s : List ℕ) (short : length s ≤ maxLine) where
   content-proper rules = go (leb (length s) (skipped Blank s 0))
     where
       go : (a : Bool) → Proper (length s) (cond a line.Ignored (contentFrom rules s (skipped Blank s 0) (getD s (skipped Blank s 0) 0)))
-      go true = tt
+      go true = short
       go false = first-proper rules _ _ (skipped-within Blank s 0 (omega arith))
 
 -- ---- any line
 
+byte-proper : (s : List ℕ) → length s ≤ maxLine → Numbered (maxLine + 1) (byteFault s .number) (byteFault s .column)
+unfolding byteFault
+byte-proper s short = go (ltb (skipped (Not 0) s 0) (length s))
+  where
+    fault : Bool → Fault
+    fault t = cond t (record { number = 3; column = skipped (Not 0) s 0 + 1 }) (record { number = 27; column = skipped InLine s 0 + 1 })
+
+    go : (t : Bool) → Numbered (maxLine + 1) (fault t .number) (fault t .column)
+    go true = record { from = omega arith; to = omega arith; inside = omega (arith, skipped-within (Not 0) s 0 (omega arith)) }
+    go false = record { from = omega arith; to = omega arith; inside = omega (arith, skipped-within InLine s 0 (omega arith)) }
+
 pub line-proper : (rules : Rules) (s : List ℕ) → Proper (length s) (readLine rules s)
 unfolding readLine
-line-proper rules s = go (ltb maxLine (length s)) (ltb (skipped (Not 0) s 0) (length s)) refl
+line-proper rules s = go (ltb maxLine (length s)) (ltb (skipped InLine s 0) (length s)) refl
   where
     go : (a b : Bool) → ltb maxLine (length s) ≡ a
-        → Proper (length s) (cond a (line.Refused (record { number = 2; column = 1001 })) (cond b (line.Refused (record { number = 3; column = skipped (Not 0) s 0 + 1 })) (contentOf rules s)))
+        → Proper (length s) (cond a (line.Refused (record { number = 2; column = 1001 })) (cond b (line.Refused (byteFault s)) (contentOf rules s)))
     go true b p = record { from = omega arith; to = omega arith; inside = omega arith }
-    go false true p = record { from = omega arith; to = omega arith; inside = omega (arith, ltb-false maxLine (length s) p, skipped-within (Not 0) s 0 (omega arith)) }
+    go false true p = byte-proper s (ltb-false maxLine (length s) p)
     go false false p = content-proper s (ltb-false _ _ p) rules
 
 pub setting-proper : (rules : Rules) (s : List ℕ) {name value : Part} {zone : Zone} → readLine rules s ≡ line.Setting name value zone

@@ -2,7 +2,7 @@
 -- has its number in paper 01 and its place.
 -- Assumes nothing.
 use mathlib.Core.Path.{_≡_, refl}
-use mathlib.Core.Bool.{Bool, true, false, cond}
+use mathlib.Core.Bool.{Bool, true, false, cond, _&&_}
 use mathlib.Core.List.{List, [], _∷_}
 use Prim.Native.Nat.{ℕ, suc, _+_, _≤_, _<_}
 use native.Mathlib.Omega.{arith}
@@ -18,8 +18,8 @@ use Rattle.crontab.specs.declared.line.Line.the-variants as line
 use Rattle.schedule.specs.Local.{InZones}
 use Rattle.crontab.specs.Offsets.{utc, inForce}
 use Rattle.crontab.specs.Limits.{maxTable, maxLine, maxEntries}
-use Rattle.crontab.specs.Lines.{onto, linesOf, readLine}
-use Rattle.crontab.specs.Items.{Items, done, fault, setting, entry, moved, placed, afterLine, itemsFrom, itemsOf}
+use Rattle.crontab.specs.Lines.{onto, linesOf, isCut, isLast, readLine}
+use Rattle.crontab.specs.Items.{Items, done, fault, setting, entry, moved, placed, afterLine, lastFault, faultOf, itemsFrom, itemsOf}
 use Rattle.crontab.proofs.Offsets.{force-in}
 use Rattle.crontab.proofs.Proper.{Inside, Proper, line-proper}
 
@@ -59,7 +59,7 @@ pub record Sound (n : ℕ) (e : Entry) : Type 0 where
 
 abbrev pub SoundItems : ℕ → ℕ → Items → Type 0
 SoundItems n k done = Unit {0}
-SoundItems n k (fault number line column) = (1 ≤ number) × (number ≤ 25) × (line ≤ maxTable + 1) × (column ≤ maxLine + 1)
+SoundItems n k (fault number line column) = (1 ≤ number) × (number ≤ 27) × (line ≤ maxTable + 1) × (column ≤ maxLine + 1)
 SoundItems n k (setting line name value later) = (Inside n name) × (Inside n value) × SoundItems n k later
 SoundItems n k (entry e later) = (Sound n e) × (k < maxEntries) × SoundItems n (k + 1) later
 
@@ -84,18 +84,37 @@ module _ (n at size : ℕ) (h : at + size ≤ n) (short : n ≤ maxTable) where
           (record { line = omega arith; short = omega (arith, p .0); some = omega (arith, p .1); within = h; zone = z }, ltb-true _ _ e, q (k + 1) o z)
       go false e = (omega arith, omega arith, omega arith, omega arith)
 
-from-sound : (rules : Rules) (n at m k : ℕ) (o : ℤ) (ls : List (List ℕ)) → n ≤ maxTable → m ≤ at + 1 → InZones o → Placed n at ls
-    → SoundItems n k (itemsFrom rules at m k o ls)
+  -- of the last line, which is cut
+  last-sound : (m k : ℕ) (x : Line) → m ≤ at + 1 → Proper size x → SoundItems n k (faultOf m (lastFault size k x))
+  unfolding lastFault
+  last-sound m k line.Ignored i p = (omega arith, omega arith, omega arith, omega arith)
+  last-sound m k (line.Setting name value zone) i p = (omega arith, omega arith, omega arith, omega (arith, p .0))
+  last-sound m k (line.Refused f) i p = (p .from, let t = p .to in omega arith, omega arith, p .inside)
+  last-sound m k (line.Entry when start) i p = go (ltb k maxEntries)
+    where
+      go : (t : Bool) → SoundItems n k (faultOf m (cond t (record { number = 26; column = size + 1 }) (record { number = 12; column = 1 })))
+      go true = (omega arith, omega arith, omega arith, omega (arith, p .0))
+      go false = (omega arith, omega arith, omega arith, omega arith)
+
+from-sound : (rules : Rules) (cut : Bool) (n at m k : ℕ) (o : ℤ) (ls : List (List ℕ)) → n ≤ maxTable → m ≤ at + 1 → InZones o → Placed n at ls
+    → SoundItems n k (itemsFrom rules cut at m k o ls)
 unfolding itemsFrom
-from-sound rules n at m k o [] short i z w = tt
-from-sound rules n at m k o (l ∷ ls) short i z w =
-    line-sound n at (length l) (w .0) short m k o (readLine rules l) _ i z (line-proper rules l)
-    (λ j p y. from-sound rules n (at + length l + 1) (m + 1) j p ls short (omega arith) y (w .1))
+from-sound rules cut n at m k o [] short i z w = tt
+from-sound rules cut n at m k o (l ∷ ls) short i z w =
+    go (cut && isLast ls) (λ j p y. from-sound rules cut n (at + length l + 1) (m + 1) j p ls short (omega arith) y (w .1))
+  where
+    later : ℕ → ℤ → Items
+    later j p = itemsFrom rules cut (at + length l + 1) (m + 1) j p ls
+
+    go : (t : Bool) → ((j : ℕ) (p : ℤ) → InZones p → SoundItems n j (later j p))
+        → SoundItems n k (cond t (faultOf m (lastFault (length l) k (readLine rules l))) (afterLine at m (length l) k o (readLine rules l) later))
+    go true more = last-sound n at (length l) (w .0) short m k (readLine rules l) i (line-proper rules l)
+    go false more = line-sound n at (length l) (w .0) short m k o (readLine rules l) later i z (line-proper rules l) more
 
 pub items-sound : (rules : Rules) (s : List ℕ) → SoundItems (length s) 0 (itemsOf rules s)
 unfolding itemsOf
 items-sound rules s = go (ltb maxTable (length s)) refl
   where
-    go : (t : Bool) → ltb maxTable (length s) ≡ t → SoundItems (length s) 0 (cond t (fault 1 0 0) (itemsFrom rules 0 1 0 utc (linesOf s)))
+    go : (t : Bool) → ltb maxTable (length s) ≡ t → SoundItems (length s) 0 (cond t (fault 1 0 0) (itemsFrom rules (isCut s) 0 1 0 utc (linesOf s)))
     go true e = (omega arith, omega arith, omega arith, omega arith)
-    go false e = from-sound rules (length s) 0 1 0 utc (linesOf s) (ltb-false maxTable (length s) e) (omega arith) (omega arith) (lines-placed s (length s) 0 (omega arith))
+    go false e = from-sound rules (isCut s) (length s) 0 1 0 utc (linesOf s) (ltb-false maxTable (length s) e) (omega arith) (omega arith) (lines-placed s (length s) 0 (omega arith))

@@ -1,5 +1,6 @@
 -- What a caller may rely on: of a table that is read, of the entries it has, of where settings stand, and of how far ahead a firing is.
 --   table-sound, table-short: a table that is read; a good one is as long as it may be
+--   cut-refused: one that isn't refused is empty, or its last byte is a newline
 --   entry-sound, entry-told: an entry that is found, and the answer to a number
 --   owner-inside, owner-short: where an owner's parts stand
 --   behind-time: an owner is read from the column that was judged, the one behind the time
@@ -49,7 +50,7 @@ use Rattle.crontab.specs.declared.firing.DueAnswer.the-variants as due
 use Rattle.crontab.specs.declared.firing.NextAnswer.{NextAnswer}
 use Rattle.crontab.specs.declared.firing.NextAnswer.the-variants.{At, Refused}
 use Rattle.crontab.specs.Limits.{maxTable, maxLine, maxEntries}
-use Rattle.crontab.specs.Lines.{linesOf}
+use Rattle.crontab.specs.Lines.{linesOf, isCut}
 use Rattle.crontab.specs.Offsets.{utc}
 use Rattle.crontab.specs.Items.{Items, done, fault, setting, entry, moved, itemsFrom, itemsOf}
 use Rattle.crontab.specs.Tables.{blankEntry, noEntries, refusedTable, emptyTable, withEntry, withItems, tableOf, entryIn}
@@ -58,6 +59,7 @@ use Rattle.crontab.specs.Firings.{byWhen, firesAt, dueOf, told, nextOf, 
 use Rattle.crontab.proofs.Proper.{Inside}
 use Rattle.crontab.proofs.Sound.{Sound, SoundItems, items-sound}
 use Rattle.crontab.proofs.Tables.{entryFrom, table-entry}
+pub use Rattle.crontab.proofs.Cuts.{cut-refused}
 pub use Rattle.crontab.proofs.Owners.{behind-time}
 pub use Rattle.crontab.proofs.Zones.{zoned-is, setting-says}
 
@@ -65,7 +67,7 @@ pub use Rattle.crontab.proofs.Zones.{zoned-is, setting-says}
 
 -- A table of n bytes. Its entries are sound, and a refused one has none; a good one has no place of fault.
 pub record SoundTable (n : ℕ) (t : Table) : Type 0 where
-  pub number : t .refusal ≤ 25
+  pub number : t .refusal ≤ 27
   pub few : t .count ≤ maxEntries
   pub full : length (t .entries) ≡ maxEntries
   pub each : (i : ℕ) → i < t .count → Sound n (getD (t .entries) i blankEntry)
@@ -75,7 +77,7 @@ pub record SoundTable (n : ℕ) (t : Table) : Type 0 where
   pub column-few : t .column ≤ maxLine + 1
 
 module _ (n : ℕ) where
-  refused-sound : (number line column : ℕ) → 1 ≤ number → number ≤ 25 → line ≤ maxTable + 1 → column ≤ maxLine + 1 → SoundTable n (refusedTable number line column)
+  refused-sound : (number line column : ℕ) → 1 ≤ number → number ≤ 27 → line ≤ maxTable + 1 → column ≤ maxLine + 1 → SoundTable n (refusedTable number line column)
   unfolding refusedTable noEntries
   refused-sound number line column h k i j =
       record {
@@ -146,7 +148,7 @@ unfolding tableOf itemsOf withItems refusedTable
 table-short rules s = go (ltb maxTable (length s)) refl
   where
     go : (b : Bool) → ltb maxTable (length s) ≡ b
-        → withItems emptyTable (cond b (fault 1 0 0) (itemsFrom rules 0 1 0 utc (linesOf s))) .refusal ≡ 0 → length s ≤ maxTable
+        → withItems emptyTable (cond b (fault 1 0 0) (itemsFrom rules (isCut s) 0 1 0 utc (linesOf s))) .refusal ≡ 0 → length s ≤ maxTable
     go true e z = absurd (omega arith)
     go false e z = ltb-false maxTable (length s) e
 
@@ -284,7 +286,7 @@ unfolding settingIn itemsOf settingFrom refusedSetting
 setting-short rules s k = go (ltb maxTable (length s)) refl
   where
     go : (b : Bool) → ltb maxTable (length s) ≡ b
-        → settingFrom (refusedSetting 19) k (cond b (fault 1 0 0) (itemsFrom rules 0 1 0 utc (linesOf s))) .refusal ≡ 0 → length s ≤ maxTable
+        → settingFrom (refusedSetting 19) k (cond b (fault 1 0 0) (itemsFrom rules (isCut s) 0 1 0 utc (linesOf s))) .refusal ≡ 0 → length s ≤ maxTable
     go true e z = absurd (omega arith)
     go false e z = ltb-false maxTable (length s) e
 

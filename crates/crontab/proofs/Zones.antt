@@ -6,7 +6,7 @@ use mathlib.Core.List.{List}
 use Prim.Native.Nat.{ℕ, _+_}
 use lib.ListN.{length, getD}
 use lib.Dec.{eqb, leb, ltb}
-use Rattle.bytes.specs.declared.class.Class.the-variants.{Blank, Not}
+use Rattle.bytes.specs.declared.class.Class.the-variants.{Blank, InLine}
 use Rattle.bytes.specs.Runs.{skipped}
 use Rattle.crontab.specs.declared.Rules.{Rules}
 use Rattle.crontab.specs.declared.Kind.{Kind}
@@ -30,7 +30,7 @@ use Rattle.crontab.specs.Entries.{timeAt, withCommand, afterOwner, withU
 use Rattle.crontab.specs.Offsets.{zoneName, isOffset, offsetOf, readOffset, zoneOf, mayStand}
 use Rattle.crontab.specs.Settings.{partBytes}
 use Rattle.crontab.specs.Assignments.{nameAt, valueAt, afterOffset, withOffset, zoned, afterEquals, afterName, settingAt}
-use Rattle.crontab.specs.Lines.{startsEntry, contentFrom, contentOf, readLine}
+use Rattle.crontab.specs.Lines.{startsEntry, contentFrom, contentOf, byteFault, readLine}
 
 -- a setting by its shown name and value
 pub zoned-is : (s : List ℕ) (at : ℕ) (name value : Part)
@@ -131,10 +131,10 @@ module _ (s : List ℕ) where
 
   line-says : (rules : Rules) → Says (readLine rules s)
   unfolding readLine
-  line-says rules = go (ltb 1000 (length s)) (ltb (skipped (Not 0) s 0) (length s))
+  line-says rules = go (ltb 1000 (length s)) (ltb (skipped InLine s 0) (length s))
     where
       go : (a b : Bool)
-          → Says (cond a (line.Refused (record { number = 2; column = 1001 })) (cond b (line.Refused (record { number = 3; column = skipped (Not 0) s 0 + 1 })) (contentOf rules s)))
+          → Says (cond a (line.Refused (record { number = 2; column = 1001 })) (cond b (line.Refused (byteFault s)) (contentOf rules s)))
       go true b = tt
       go false true = tt
       go false false = content-says rules

@@ -133,6 +133,21 @@ lines-read : Hold (readLine ofUser)
     ∷ (text "@hourly x", Entry hourly 8)
     -- byte 0, in a comment too
     ∷ (35 ∷ 0 ∷ [], refused 3 2)
+    -- ticket 2026-11: a control byte, in a comment and among blanks too, straight after byte 0, wherever that stands
+    ∷ (text "#" ++ 1 ∷ [], refused 27 2)
+    ∷ (text "# a" ++ 127 ∷ [], refused 27 4)
+    ∷ (32 ∷ 13 ∷ [], refused 27 2)
+    ∷ (8 ∷ 31 ∷ [], refused 27 1)
+    ∷ (1 ∷ 35 ∷ 0 ∷ 0 ∷ [], refused 3 3)
+    ∷ (35 ∷ 0 ∷ 1 ∷ [], refused 3 2)
+    -- before any other fault of the line, and in every part of it
+    ∷ (text "60 * * * * x" ++ 27 ∷ [], refused 27 13)
+    ∷ (text "A" ++ 11 ∷ [], refused 27 2)
+    ∷ (text "A='b" ++ 12 ∷ text "'", refused 27 5)
+    ∷ (text "@reboot x" ++ 13 ∷ [], refused 27 10)
+    -- tab, space and all bytes from 128 on are allowed
+    ∷ (text "@reboot x" ++ 9 ∷ 32 ∷ 126 ∷ 128 ∷ 159 ∷ 255 ∷ [], Entry Reboot 8)
+    ∷ (128 ∷ text "=" ++ 255 ∷ [], setting 0 1 2 3)
     -- settings: without their quotes and the last blanks; a value may be empty
     ∷ (text "A = \"b c\" ", setting 0 1 5 8)
     ∷ (text "'A B'=c'd ", setting 1 4 6 9)
@@ -148,10 +163,11 @@ lines-read : Hold (readLine ofUser)
     ∷ (text " A b=c", refused 11 2)
     ∷ (text " A=\"b", refused 11 2)
     ∷ (text " 'A", refused 11 2)
-    -- as long as a line may be, and a byte more, which comes before byte 0
+    -- as long as a line may be, and a byte more, which comes before byte 0 and a control byte
     ∷ (replicate maxLine 32, Ignored)
     ∷ (replicate (maxLine + 1) 32, refused 2 1001)
     ∷ (0 ∷ replicate maxLine 32, refused 2 1001)
+    ∷ (1 ∷ replicate maxLine 32, refused 2 1001)
     ∷ [])
 unfolding reading
 lines-read = refl
@@ -244,9 +260,21 @@ times (suc n) s = s ++ times n s
 tables-read : Hold fault
     -- the empty table has no entries
     (([], 0 ∷ 0 ∷ 0 ∷ 0 ∷ [])
-    -- the three lines of the paper's whole run, the last without a newline
-    ∷ (text "* * * * * a\n@reboot b\n0 * * * * c", 0 ∷ 0 ∷ 0 ∷ 3 ∷ [])
-    -- a tab ends no line, and byte 0 none
+    -- the three lines of the paper's whole run
+    ∷ (text "* * * * * a\n@reboot b\n0 * * * * c\n", 0 ∷ 0 ∷ 0 ∷ 3 ∷ [])
+    -- ticket 2026-11: the last without a newline; whatever that line is, a comment and one of blanks too
+    ∷ (text "* * * * * a\n@reboot b\n0 * * * * c", 26 ∷ 3 ∷ 12 ∷ 0 ∷ [])
+    ∷ (text "@reboot b\nA=b ", 26 ∷ 2 ∷ 5 ∷ 0 ∷ [])
+    ∷ (text "#", 26 ∷ 1 ∷ 2 ∷ 0 ∷ [])
+    ∷ (text "\n\n ", 26 ∷ 3 ∷ 2 ∷ 0 ∷ [])
+    ∷ (replicate maxLine 32, 26 ∷ 1 ∷ 1001 ∷ 0 ∷ [])
+    -- any other fault comes first: of a line before it, or its own
+    ∷ (text "60 * * * * a\n@reboot b", 6 ∷ 1 ∷ 1 ∷ 0 ∷ [])
+    ∷ (text "@reboot b\n@reboot", 9 ∷ 2 ∷ 8 ∷ 0 ∷ [])
+    ∷ (text "@reboot b\n# c" ++ 13 ∷ [], 27 ∷ 2 ∷ 4 ∷ 0 ∷ [])
+    ∷ (text "# c\n# d" ++ 13 ∷ 10 ∷ 0 ∷ [], 27 ∷ 2 ∷ 4 ∷ 0 ∷ [])
+    ∷ (replicate (maxLine + 1) 32, 2 ∷ 1 ∷ 1001 ∷ 0 ∷ [])
+    -- a tab ends no line, and byte 0 and CR none
     ∷ (text "A=\tb\n@reboot\tx\n", 0 ∷ 0 ∷ 0 ∷ 1 ∷ [])
     ∷ (10 ∷ 35 ∷ 0 ∷ [], 3 ∷ 2 ∷ 2 ∷ 0 ∷ [])
     -- the first bad line, and no entry
@@ -255,9 +283,14 @@ tables-read : Hold fault
     ∷ (text "A=b\n#\n" ++ times maxEntries (text "@reboot x\n"), 0 ∷ 0 ∷ 0 ∷ 512 ∷ [])
     ∷ (times (maxEntries + 1) (text "@reboot x\n") ++ text "A\n", 12 ∷ 513 ∷ 1 ∷ 0 ∷ [])
     ∷ (times maxEntries (text "@reboot x\n") ++ text "60\n", 6 ∷ 513 ∷ 1 ∷ 0 ∷ [])
-    -- as many bytes as there may be, and one more
+    -- the last entry that there may be, and one more, without a newline
+    ∷ (times 511 (text "@reboot x\n") ++ text "@reboot x", 26 ∷ 512 ∷ 10 ∷ 0 ∷ [])
+    ∷ (times maxEntries (text "@reboot x\n") ++ text "@reboot x", 12 ∷ 513 ∷ 1 ∷ 0 ∷ [])
+    ∷ (times maxEntries (text "@reboot x\n") ++ text "#", 26 ∷ 513 ∷ 2 ∷ 0 ∷ [])
+    -- as many bytes as there may be, and one more, which comes before the missing newline
     ∷ (replicate maxTable 10, 0 ∷ 0 ∷ 0 ∷ 0 ∷ [])
     ∷ (replicate (maxTable + 1) 10, 1 ∷ 0 ∷ 0 ∷ 0 ∷ [])
+    ∷ (replicate (maxTable + 1) 32, 1 ∷ 0 ∷ 0 ∷ 0 ∷ [])
     ∷ [])
 unfolding times reading
 tables-read = refl
@@ -280,7 +313,7 @@ entries-found = refl
 
 -- ticket 2026-09: an entry is under the last offset before it; before the first, and after another setting, none changes
 abbrev zones : List ℕ
-zones = text "@reboot a\nCRON_TZ=-03:30\n@reboot b\nA=+01:00\n@reboot c\n'CRON_TZ'='+05:45'\n#\n\n@reboot d\n@reboot e\nCRON_TZ=-00:00\n@reboot f"
+zones = text "@reboot a\nCRON_TZ=-03:30\n@reboot b\nA=+01:00\n@reboot c\n'CRON_TZ'='+05:45'\n#\n\n@reboot d\n@reboot e\nCRON_TZ=-00:00\n@reboot f\n"
 
 abbrev underOf : EntryAnswer → ℤ
 underOf (answer.Found e) = e .offset
@@ -305,7 +338,7 @@ settings-found = refl
 -- ---- ticket 2026-04: owners, by the number of their entry: a refusal, and user, group and class
 
 abbrev watch : List ℕ
-watch = text "A=b\n @reboot u:g x\n0 * * * * v/c y\n@daily w:h/d z"
+watch = text "A=b\n @reboot u:g x\n0 * * * * v/c y\n@daily w:h/d z\n"
 
 abbrev owned : Rules → ℕ → ℕ × List Part
 owned rules i =

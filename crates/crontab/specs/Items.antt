@@ -2,7 +2,7 @@
 -- its line and its place in the table, up to its end or to the fault that refuses it whole. Lines count from 1, entries and places from 0.
 -- Assumes nothing.
 use Prim.Native.Nat.{ℕ, _+_}
-use mathlib.Core.Bool.{cond}
+use mathlib.Core.Bool.{Bool, cond, _&&_}
 use mathlib.Core.List.{List, [], _∷_}
 use lib.ListN.{length}
 use lib.Dec.{ltb}
@@ -11,12 +11,13 @@ use Rattle.crontab.specs.declared.entry.Entry.{Entry}
 use Rattle.crontab.specs.declared.Part.{Part}
 use Rattle.crontab.specs.declared.time.When.{When}
 use Rattle.crontab.specs.declared.Rules.{Rules}
+use Rattle.crontab.specs.declared.line.Fault.{Fault}
 use Rattle.crontab.specs.declared.line.Line.{Line}
 use Rattle.crontab.specs.declared.line.Line.the-variants as line
 use Rattle.crontab.specs.Limits.{maxTable, maxEntries}
-use Rattle.crontab.specs.Refusals.{tableTooLong, tooManyEntries}
+use Rattle.crontab.specs.Refusals.{tableTooLong, tooManyEntries, cutTable}
 use Rattle.crontab.specs.Offsets.{utc, inForce}
-use Rattle.crontab.specs.Lines.{linesOf, readLine}
+use Rattle.crontab.specs.Lines.{linesOf, isCut, isLast, readLine}
 
 pub data Items : Type 0 where
   done : Items
@@ -47,11 +48,24 @@ afterLine at n size k offset (line.Entry when start) later =
     cond (ltb k maxEntries) (entry (placed at n size offset when start) (later (k + 1) offset)) (fault tooManyEntries n 1)
 afterLine at n size k offset (line.Refused f) later = fault (f .number) n (f .column)
 
--- the next line starts a newline after this one
-unfoldable pub itemsFrom : Rules → ℕ → ℕ → ℕ → ℤ → List (List ℕ) → Items
-itemsFrom rules at n k offset [] = done
-itemsFrom rules at n k offset (l ∷ ls) =
-    afterLine at n (length l) k offset (readLine rules l) (λ j next. itemsFrom rules (at + length l + 1) (n + 1) j next ls)
+-- ticket 2026-11: the last line of a cut table, of so many bytes and behind k entries, has its own fault, 12 too, or else 26
+unfoldable pub lastFault : ℕ → ℕ → Line → Fault
+lastFault size k line.Ignored = record { number = cutTable; column = size + 1 }
+lastFault size k (line.Setting name value zone) = record { number = cutTable; column = size + 1 }
+lastFault size k (line.Entry when start) =
+    cond (ltb k maxEntries) (record { number = cutTable; column = size + 1 }) (record { number = tooManyEntries; column = 1 })
+lastFault size k (line.Refused f) = f
+
+abbrev pub faultOf : ℕ → Fault → Items
+faultOf n f = fault (f .number) n (f .column)
+
+-- the lines of a table that is cut or isn't; the next line starts a newline after this one
+unfoldable pub itemsFrom : Rules → Bool → ℕ → ℕ → ℕ → ℤ → List (List ℕ) → Items
+itemsFrom rules cut at n k offset [] = done
+itemsFrom rules cut at n k offset (l ∷ ls) =
+    cond (cut && isLast ls)
+    (faultOf n (lastFault (length l) k (readLine rules l)))
+    (afterLine at n (length l) k offset (readLine rules l) (λ j next. itemsFrom rules cut (at + length l + 1) (n + 1) j next ls))
 
 unfoldable pub itemsOf : Rules → List ℕ → Items
-itemsOf rules s = cond (ltb maxTable (length s)) (fault tableTooLong 0 0) (itemsFrom rules 0 1 0 utc (linesOf s))
+itemsOf rules s = cond (ltb maxTable (length s)) (fault tableTooLong 0 0) (itemsFrom rules (isCut s) 0 1 0 utc (linesOf s))

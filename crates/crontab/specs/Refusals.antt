@@ -46,3 +46,10 @@ badUser = 20
 -- the value of `CRON_TZ` is no offset
 abbrev pub badOffset : ℕ
 badOffset = 25
+
+-- the table's last byte isn't a newline
+abbrev pub cutTable : ℕ
+cutTable = 26
+
+abbrev pub controlByte : ℕ
+controlByte = 27

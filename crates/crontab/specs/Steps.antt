@@ -5,6 +5,9 @@ use Prim.Native.Nat.{ℕ, _+_, _≤_, _<_}
 use mathlib.Core.List.{List}
 use lib.ListN.{length, drop}
 use lib.IntN.{ℤ}
+use Rattle.bytes.specs.declared.class.Class.the-variants.{Not, InLine}
+use Rattle.bytes.specs.Classes.{newline}
+use Rattle.bytes.specs.Runs.{skipped}
 use Rattle.schedule.specs.Local.{InZones}
 use Rattle.crontab.specs.declared.Rules.{Rules}
 use Rattle.crontab.specs.declared.item.Cursor.{Cursor}
@@ -12,12 +15,12 @@ use Rattle.crontab.specs.declared.item.Item.{Item}
 use Rattle.crontab.specs.declared.item.Item.the-variants as item
 use Rattle.crontab.specs.declared.item.Step.{Step}
 use Rattle.crontab.specs.Limits.{maxTable, maxEntries}
-use Rattle.crontab.specs.Lines.{linesOf}
+use Rattle.crontab.specs.Lines.{linesOf, isCut}
 use Rattle.crontab.specs.Items.{Items, fault, setting, entry, itemsFrom}
 
 -- the items from a cursor on
 unfoldable pub itemsAt : Rules → List ℕ → Cursor → Items
-itemsAt rules s c = itemsFrom rules (c .at) (c .line) (c .count) (c .offset) (linesOf (drop (c .at) s))
+itemsAt rules s c = itemsFrom rules (isCut s) (c .at) (c .line) (c .count) (c .offset) (linesOf (drop (c .at) s))
 
 -- a cursor of a table: as many lines and entries as there can be before it, and an offset that may be
 pub record Reached (s : List ℕ) (c : Cursor) : Type 0 where
@@ -26,6 +29,13 @@ pub record Reached (s : List ℕ) (c : Cursor) : Type 0 where
   pub lines : c .line ≤ c .at + 1
   pub few : c .count ≤ maxEntries
   pub zone : InZones (c .offset)
+
+-- the line at a cursor: its first byte that no line may have, or its end, and its end, which is at a newline or the table's end
+pub record LineAt (s : List ℕ) (c : Cursor) (stop end : ℕ) : Type 0 where
+  pub reached : Reached s c
+  pub inside : c .at < length s
+  pub stops : stop ≡ skipped InLine s (c .at)
+  pub ends : end ≡ skipped (Not newline) s stop
 
 -- the cursor behind a line that ends at a place
 abbrev pub behind : Cursor → ℕ → ℕ → ℤ → Cursor

@@ -3,8 +3,9 @@ ghost use mathlib.Core.Path.{_≡_};
 ghost use Prim.Native.Nat.{_+_, _≤_, _<_};
 ghost use lib.ListN.{length};
 ghost use Rattle.crontab.specs.Limits.{maxTable, maxLine};
-ghost use Rattle.crontab.specs.Items.{moved, placed};
-ghost use Rattle.crontab.specs.Steps.{behind, Reached, StepIs};
+ghost use Rattle.crontab.specs.Items.{moved, placed, lastFault};
+ghost use Rattle.crontab.specs.Steps.{behind, Reached, LineAt, StepIs};
+use crate::CUT_TABLE;
 use crate::MAX_ENTRIES;
 use crate::Part;
 use crate::Rules;
@@ -86,14 +87,17 @@ fn behind(c: Cursor, end: usize, count: usize, offset: i32) -> Cursor
     }
 }
 
-// The line at a cursor, and the cursor behind it. One search finds the line's end and its first byte 0.
-pub fn advance(s: &[u8], rules: Rules, c: Cursor) -> Step
-    requires { ⌜ Reached (now s) c × (c .at < length (now s)) ⌝ }
+const TOO_MANY: Fault = Fault {
+    number: TOO_MANY_ENTRIES,
+    column: 1,
+};
+
+// The line at a cursor that ends in a newline, and the cursor behind it.
+fn ended(s: &[u8], rules: Rules, c: Cursor, stop: usize, end: usize) -> Step
+    requires { ⌜ LineAt (now s) c stop end × (end < length (now s)) ⌝ }
     ensures { λ r. ⌜ StepIs rules (now (s .entry)) c r ⌝ }
 {
     let at = c.at;
-    let stop = skip(s, at, Class::InLine);
-    let end = skip(s, stop, Class::Not(b'\n'));
     let next = behind(c, end, c.count, c.offset);
     match line::judge(&s[at..end], rules, stop - at) {
         Line::Ignored => Step {
@@ -109,12 +113,8 @@ pub fn advance(s: &[u8], rules: Rules, c: Cursor) -> Step
         },
         Line::Entry { when, start } => {
             if c.count == MAX_ENTRIES {
-                let fault = Fault {
-                    number: TOO_MANY_ENTRIES,
-                    column: 1,
-                };
                 return Step {
-                    item: Item::Refused(fault),
+                    item: Item::Refused(TOO_MANY),
                     next,
                 };
             }
@@ -128,4 +128,57 @@ pub fn advance(s: &[u8], rules: Rules, c: Cursor) -> Step
             next,
         },
     }
+}
+
+// The fault of a last line without a newline, which has so many bytes and stands behind so many entries.
+fn last_fault(line: Line, size: usize, count: usize) -> Fault
+    requires { ⌜ size ≤ maxTable ⌝ }
+    ensures { λ r. ⌜ r ≡ lastFault size count line ⌝ }
+{
+    let cut = Fault {
+        number: CUT_TABLE,
+        column: size + 1,
+    };
+    match line {
+        Line::Refused(fault) => fault,
+        Line::Entry { when: _, start: _ } => {
+            if count < MAX_ENTRIES {
+                return cut;
+            }
+            TOO_MANY
+        }
+        Line::Setting {
+            name: _,
+            value: _,
+            zone: _,
+        } => cut,
+        Line::Ignored => cut,
+    }
+}
+
+// The line at a cursor that ends where the table does, with no newline.
+fn last(s: &[u8], rules: Rules, c: Cursor, stop: usize) -> Step
+    requires { ⌜ LineAt (now s) c stop (length (now s)) ⌝ }
+    ensures { λ r. ⌜ StepIs rules (now (s .entry)) c r ⌝ }
+{
+    let at = c.at;
+    let end = s.len();
+    let line = line::judge(&s[at..end], rules, stop - at);
+    Step {
+        item: Item::Refused(last_fault(line, end - at, c.count)),
+        next: behind(c, end, c.count, c.offset),
+    }
+}
+
+// The line at a cursor, and the cursor behind it. One search finds the line's end and its first byte that it may not have.
+pub fn advance(s: &[u8], rules: Rules, c: Cursor) -> Step
+    requires { ⌜ Reached (now s) c × (c .at < length (now s)) ⌝ }
+    ensures { λ r. ⌜ StepIs rules (now (s .entry)) c r ⌝ }
+{
+    let stop = skip(s, c.at, Class::InLine);
+    let end = skip(s, stop, Class::Not(b'\n'));
+    if end < s.len() {
+        return ended(s, rules, c, stop, end);
+    }
+    last(s, rules, c, stop)
 }

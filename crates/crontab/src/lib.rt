@@ -49,6 +49,10 @@ pub const BAD_USER: u8 = 20;
 
 pub const BAD_OFFSET: u8 = 25;
 
+pub const CUT_TABLE: u8 = 26;
+
+pub const CONTROL_BYTE: u8 = 27;
+
 // The kinds of tables: those of users, and the system's, in which a user stands between the time and the command.
 pub enum Kind {
     User,

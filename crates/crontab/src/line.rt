@@ -1,11 +1,12 @@
 // One line of a table, by its bytes without the newline. Places count from 0 in the line, columns from 1.
 ghost use mathlib.Core.Path.{_≡_};
-ghost use Prim.Native.Nat.{_≤_};
+ghost use Prim.Native.Nat.{_≤_, _<_};
 ghost use lib.ListN.{length};
-ghost use Rattle.bytes.specs.declared.class.Class.the-variants.{Not};
+ghost use Rattle.bytes.specs.declared.class.Class.the-variants.{InLine};
 ghost use Rattle.bytes.specs.Runs.{skipped};
 ghost use Rattle.crontab.specs.Limits.{maxLine};
-ghost use Rattle.crontab.specs.Lines.{startsEntry, contentOf, readLine};
+ghost use Rattle.crontab.specs.Lines.{startsEntry, contentOf, byteFault, readLine};
+use crate::CONTROL_BYTE;
 use crate::LINE_TOO_LONG;
 use crate::MAX_LINE;
 use crate::NUL_BYTE;
@@ -41,7 +42,7 @@ pub fn starts_entry(b: u8) -> bool
     (b == b'*') | (((b'0' <= b) & (b <= b'9')) | (b == b'@'))
 }
 
-// A line that is short enough and has no byte 0, by its first byte that isn't blank.
+// A line that is short enough and has only bytes that it may have, by its first byte that isn't blank.
 fn content(s: &[u8], rules: Rules) -> Line
     requires { ⌜ length (now s) ≤ maxLine ⌝ }
     ensures { λ r. ⌜ r ≡ contentOf rules (now (s .entry)) ⌝ }
@@ -60,9 +61,27 @@ fn content(s: &[u8], rules: Rules) -> Line
     assignment::read(s, at)
 }
 
-// A line whose first byte 0 stands at a place, or one that has none and ends there.
-pub(crate) fn judge(s: &[u8], rules: Rules, nul: usize) -> Line
-    requires { ⌜ nul ≡ skipped (Not 0) (now s) 0 ⌝ }
+// The fault of a line whose first byte that it may not have stands at a place: a byte 0 from there on comes first.
+fn byte_fault(s: &[u8], stop: usize) -> Fault
+    requires { ⌜ (stop ≡ skipped InLine (now s) 0) × (stop < length (now s)) × (length (now s) ≤ maxLine) ⌝ }
+    ensures { λ r. ⌜ r ≡ byteFault (now (s .entry)) ⌝ }
+{
+    let nul = skip(s, stop, Class::Not(0));
+    if nul < s.len() {
+        return Fault {
+            number: NUL_BYTE,
+            column: nul + 1,
+        };
+    }
+    Fault {
+        number: CONTROL_BYTE,
+        column: stop + 1,
+    }
+}
+
+// A line whose first byte that it may not have stands at a place, or one that has none and ends there.
+pub(crate) fn judge(s: &[u8], rules: Rules, stop: usize) -> Line
+    requires { ⌜ stop ≡ skipped InLine (now s) 0 ⌝ }
     ensures { λ r. ⌜ r ≡ readLine rules (now (s .entry)) ⌝ }
 {
     if MAX_LINE < s.len() {
@@ -71,11 +90,8 @@ pub(crate) fn judge(s: &[u8], rules: Rules, nul: usize) -> Line
             column: MAX_LINE + 1,
         });
     }
-    if nul < s.len() {
-        return Line::Refused(Fault {
-            number: NUL_BYTE,
-            column: nul + 1,
-        });
+    if stop < s.len() {
+        return Line::Refused(byte_fault(s, stop));
     }
     content(s, rules)
 }

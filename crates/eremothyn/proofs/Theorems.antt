@@ -66,10 +66,10 @@ abbrev second : Schedule → ℕ → ℕ → ℤ → Entry
 second times start end offset = record { when = Timed times; line = 2; at = 15; start = start; end = end; offset = offset }
 
 abbrev west : List ℕ
-west = text "CRON_TZ=-12:00\n0 18 * * * a"
+west = text "CRON_TZ=-12:00\n0 18 * * * a\n"
 
 abbrev east : List ℕ
-east = text "CRON_TZ=+14:00\n* * * * * a"
+east = text "CRON_TZ=+14:00\n* * * * * a\n"
 
 zoned-entries :
     (entryIn (tableOf (rulesOf 0) west) 0 ≡ Found (second evenings 26 27 (negsuc 719)))
@@ -79,10 +79,10 @@ zoned-entries = (refl, refl)
 
 pub local-days :
     -- 18:00 at -12:00, after minute 0: 30 hours later in UTC
-    (nextNumber (nextIn (tableOf (rulesOf 0) (text "CRON_TZ=-12:00\n0 18 * * * a")) 0 0) ≡ 1800)
+    (nextNumber (nextIn (tableOf (rulesOf 0) (text "CRON_TZ=-12:00\n0 18 * * * a\n")) 0 0) ≡ 1800)
     -- the last minute of the local calendar at +14:00, and 17 behind it
-    × (nextNumber (nextIn (tableOf (rulesOf 0) (text "CRON_TZ=+14:00\n* * * * * a")) 0 4223370838) ≡ 4223370839)
-    × (nextNumber (nextIn (tableOf (rulesOf 0) (text "CRON_TZ=+14:00\n* * * * * a")) 0 4223370839) ≡ 4294967313)
+    × (nextNumber (nextIn (tableOf (rulesOf 0) (text "CRON_TZ=+14:00\n* * * * * a\n")) 0 4223370838) ≡ 4223370839)
+    × (nextNumber (nextIn (tableOf (rulesOf 0) (text "CRON_TZ=+14:00\n* * * * * a\n")) 0 4223370839) ≡ 4294967313)
 unfolding nextNumber told
 local-days = (
   ap nextNumber (zoned west (second evenings 26 27 (negsuc 719)) evenings 0 refl (zoned-entries .0) (lit≤ tt) ∙ ap told (known-days-in .3)),
@@ -92,12 +92,12 @@ local-days = (
 
 -- the tables of KnownDays, in its order, and the ticket's
 entries :
-    reads (text "0 0 29 2 * a") leapDay 11 12
-    × reads (text "30 4 1,15 * 5 a") fridays 14 15
-    × reads (text "0 0 30 2 * a") february30 11 12
-    × reads (text "0 0 30 2 1 a") mondays30 11 12
-    × reads (text "0 0 31 12 * a") lastDay 12 13
-    × reads (text "0 0 29 2 */7 a") leapSundays 13 14
+    reads (text "0 0 29 2 * a\n") leapDay 11 12
+    × reads (text "30 4 1,15 * 5 a\n") fridays 14 15
+    × reads (text "0 0 30 2 * a\n") february30 11 12
+    × reads (text "0 0 30 2 1 a\n") mondays30 11 12
+    × reads (text "0 0 31 12 * a\n") lastDay 12 13
+    × reads (text "0 0 29 2 */7 a\n") leapSundays 13 14
 unfolding schedules reading
 entries = (refl, refl, refl, refl, refl, refl)
 
@@ -125,12 +125,12 @@ known-days = (
 )
 
 -- `0 0 29 2 */7` after 62,147,520 (2088-02-29): 83,184,480 (2128-02-29)
-pub gap-reached : nextNumber (nextIn (tableOf (rulesOf 0) (text "0 0 29 2 */7 a")) 0 62147520) ≡ 83184480
+pub gap-reached : nextNumber (nextIn (tableOf (rulesOf 0) (text "0 0 29 2 */7 a\n")) 0 62147520) ≡ 83184480
 unfolding nextNumber told
 gap-reached = ap nextNumber (firing _ leapSundays 13 14 _ (entries .5) (lit≤ tt) ∙ ap told firings.gap-reached)
 
 -- `0 0 30 2 *` is never due: 16 after every minute of the calendar
-pub february-30 : (m : ℕ) → m ≤ lastMinute → nextNumber (nextIn (tableOf (rulesOf 0) (text "0 0 30 2 * a")) 0 m) ≡ 4294967312
+pub february-30 : (m : ℕ) → m ≤ lastMinute → nextNumber (nextIn (tableOf (rulesOf 0) (text "0 0 30 2 * a\n")) 0 m) ≡ 4294967312
 unfolding nextNumber told schedules firings.ever
 february-30 m h = ap nextNumber (firing _ february30 11 12 m (entries .2) h ∙ ap told (firings.never february30 m refl))
 

@@ -63,11 +63,17 @@ abbrev checked : List ℕ → List ℕ
 checked s = let t = tableOf (rulesOf 0) s in checkNumber t ∷ t .line ∷ t .column ∷ []
 
 tables : Hold checked
-    ((text "@reboot x\n0 * * * * y", 2 ∷ 0 ∷ 0 ∷ [])
+    ((text "@reboot x\n0 * * * * y\n", 2 ∷ 0 ∷ 0 ∷ [])
     -- 60 as a minute, on line 2 at column 3: 6
-    ∷ (text "\n  60 0 * * * x", 4294967302 ∷ 2 ∷ 3 ∷ [])
+    ∷ (text "\n  60 0 * * * x\n", 4294967302 ∷ 2 ∷ 3 ∷ [])
     -- ticket 2026-09: an hour of one digit, at the value: 25
     ∷ (text "A=b\nCRON_TZ = +1:00\n", 4294967321 ∷ 2 ∷ 11 ∷ [])
+    -- ticket 2026-11: a last line without a newline, but for the empty table; a control byte; both, and each with another fault
+    ∷ (text "@reboot x\n0 * * * * y", 4294967322 ∷ 2 ∷ 12 ∷ [])
+    ∷ ([], 0 ∷ 0 ∷ 0 ∷ [])
+    ∷ (text "@reboot x\r\n", 4294967323 ∷ 1 ∷ 10 ∷ [])
+    ∷ (text "@reboot x\r\n@reboot y", 4294967323 ∷ 1 ∷ 10 ∷ [])
+    ∷ (text "@reboot x\n60 * * * * y", 4294967302 ∷ 2 ∷ 1 ∷ [])
     ∷ [])
 unfolding answering
 tables = refl
@@ -76,7 +82,7 @@ tables = refl
 
 -- of an entry, where user, group and class start, and how long each is
 abbrev watch : List ℕ
-watch = text "A=b\n@reboot u:gh x\n0 * * * * v/c y"
+watch = text "A=b\n@reboot u:gh x\n0 * * * * v/c y\n"
 
 abbrev owned : ℕ × ℕ → List ℕ
 owned (kind, i) =
@@ -126,7 +132,7 @@ due : Hold dueOn
     ∷ ((pair, 1, 61), 0)
     ∷ ((pair, 0, 60), 0)
     -- at the calendar's last minute
-    ∷ ((text "* * * * * x", 0, 4223371679), 1)
+    ∷ ((text "* * * * * x\n", 0, 4223371679), 1)
     -- ticket 2026-09: under -12:00 from minute 720 on, under +14:00 up to 840 minutes before the last; each until the next offset
     ∷ ((clocks, 0, 719), 0)
     ∷ ((clocks, 0, 720), 1)
@@ -141,7 +147,7 @@ due : Hold dueOn
     ∷ ((pair, 1, 4223371680), 4294967310)
     ∷ ((pair, 0, 4223371680), 4294967310)
     ∷ ((pair, 2, 4223371680), 4294967309)
-    ∷ ((text "60", 2, 60), 4294967302)
+    ∷ ((text "60\n", 2, 60), 4294967302)
     ∷ ((replicate (maxTable + 1) 10, 2, 60), 4294967297)
     ∷ [])
 unfolding answering
@@ -156,7 +162,8 @@ next : Hold nextOn
     ∷ ((pair, 0, 4223371680), 4294967310)
     ∷ ((pair, 1, 4223371680), 4294967310)
     ∷ ((pair, 2, 4223371680), 4294967309)
-    ∷ ((text "60", 2, 4223371680), 4294967302)
+    ∷ ((text "60\n", 2, 4223371680), 4294967302)
+    ∷ ((text "* * * * * x", 2, 4223371680), 4294967322)
     ∷ [])
 unfolding answering
 next = refl
@@ -170,14 +177,15 @@ shown (s, n) =
 
 settings : Hold shown
     -- on line 2, without the quotes
-    (((text "\nA = \"b c\"", 2), 1 ∷ 1 ∷ 6 ∷ 3 ∷ [])
+    (((text "\nA = \"b c\"\n", 2), 1 ∷ 1 ∷ 6 ∷ 3 ∷ [])
     -- an empty value, behind an entry
-    ∷ ((text "@reboot x\nA=\"\"\nB=c", 2), 10 ∷ 1 ∷ 13 ∷ 0 ∷ [])
+    ∷ ((text "@reboot x\nA=\"\"\nB=c\n", 2), 10 ∷ 1 ∷ 13 ∷ 0 ∷ [])
     -- line 1, line 0 and line 3 are 19; a refused table is refused here too
-    ∷ ((text "\nA = \"b c\"", 1), 4294967315 ∷ 4294967315 ∷ 4294967315 ∷ 4294967315 ∷ [])
-    ∷ ((text "\nA = \"b c\"", 0), 4294967315 ∷ 4294967315 ∷ 4294967315 ∷ 4294967315 ∷ [])
-    ∷ ((text "\nA = \"b c\"", 3), 4294967315 ∷ 4294967315 ∷ 4294967315 ∷ 4294967315 ∷ [])
-    ∷ ((text "A=b\n60", 1), 4294967302 ∷ 4294967302 ∷ 4294967302 ∷ 4294967302 ∷ [])
+    ∷ ((text "\nA = \"b c\"\n", 1), 4294967315 ∷ 4294967315 ∷ 4294967315 ∷ 4294967315 ∷ [])
+    ∷ ((text "\nA = \"b c\"\n", 0), 4294967315 ∷ 4294967315 ∷ 4294967315 ∷ 4294967315 ∷ [])
+    ∷ ((text "\nA = \"b c\"\n", 3), 4294967315 ∷ 4294967315 ∷ 4294967315 ∷ 4294967315 ∷ [])
+    ∷ ((text "A=b\n60\n", 1), 4294967302 ∷ 4294967302 ∷ 4294967302 ∷ 4294967302 ∷ [])
+    ∷ ((text "A=b", 1), 4294967322 ∷ 4294967322 ∷ 4294967322 ∷ 4294967322 ∷ [])
     ∷ [])
 unfolding answering
 settings = refl
@@ -185,7 +193,7 @@ settings = refl
 -- ---- commands: with buffers of four bytes, the shell line's length, both buffers, and the input's length
 
 abbrev commands : List ℕ
-commands = text "A=b\n@reboot a%b\\%c\n@reboot d\n@reboot e%\n@reboot fghij"
+commands = text "A=b\n@reboot a%b\\%c\n@reboot d\n@reboot e%\n@reboot fghij\n"
 
 abbrev shell : List ℕ
 shell = text "----"
@@ -216,19 +224,19 @@ splits = refl
 abbrev formOn : List ℕ × List ℕ → ℕ × List ℕ
 formOn (s, buffer) = let f = normalForm s buffer in (normalNumber (f .answer), f .buffer)
 
--- of so many bytes, which are written in 165 more
+-- a line of so many bytes, which are written in 165 more
 abbrev growing : ℕ → List ℕ
-growing n = text "0-59 * * * * " ++ replicate (n - 13) 97
+growing n = text "0-59 * * * * " ++ replicate (n - 13) 97 ++ text "\n"
 
 forms : Hold formOn
     -- the bytes behind stay
-    (((text "# a\nA = 'b'\n@hourly\tc", text "------------------"), (16, text "A=b\n0 * * * * c\n--"))
+    (((text "# a\nA = 'b'\n@hourly\tc\n", text "------------------"), (16, text "A=b\n0 * * * * c\n--"))
     -- a byte too few: 18
-    ∷ ((text "@reboot  x", text "---------"), (4294967314, text "---------"))
+    ∷ ((text "@reboot  x\n", text "---------"), (4294967314, text "---------"))
     -- a line of 1,001 bytes: 21, before 18, which one of 1,000 gets; the table's own refusal comes first, wherever it stands
     ∷ ((growing 836, text "-"), (4294967317, text "-"))
     ∷ ((growing 835, text "-"), (4294967314, text "-"))
-    ∷ ((growing 836 ++ text "\n60", text "-"), (4294967302, text "-"))
+    ∷ ((growing 836 ++ text "60\n", text "-"), (4294967302, text "-"))
     ∷ [])
 unfolding answering
 forms = refl
@@ -239,11 +247,11 @@ abbrev compileOn : List ℕ × List ℕ → ℕ × List ℕ
 compileOn (s, buffer) = let f = compiled s buffer in (normalNumber (f .answer), f .buffer)
 
 compiles : Hold compileOn
-    (((text "# a\n@reboot  b c", text "--------"), (7, 5 ∷ 0 ∷ 2 ∷ 0 ∷ text "b c-"))
+    (((text "# a\n@reboot  b c\n", text "--------"), (7, 5 ∷ 0 ∷ 2 ∷ 0 ∷ text "b c-"))
     -- the table's refusal, 21 and 18
-    ∷ ((text "@reboot", text "--------"), (4294967305, text "--------"))
+    ∷ ((text "@reboot\n", text "--------"), (4294967305, text "--------"))
     ∷ ((growing 836, text "-"), (4294967317, text "-"))
-    ∷ ((text "@reboot x", text "----"), (4294967314, text "----"))
+    ∷ ((text "@reboot x\n", text "----"), (4294967314, text "----"))
     ∷ [])
 unfolding answering
 compiles = refl
@@ -292,8 +300,8 @@ last-minute = refl
 
 -- a refused table comes before 28, and 28 before 14; a room in which no line was made is 28
 refused-run :
-    (run (text "60") (replicate 7 7) (init ∷ tick 4223371680 ∷ pop ∷ []) ≡ 4294967302 ∷ 4294967302 ∷ 4294967302 ∷ [])
-    × (run (text "60") [] (init ∷ tick 4223371680 ∷ pop ∷ []) ≡ 4294967302 ∷ 4294967302 ∷ 4294967302 ∷ [])
+    (run (text "60\n") (replicate 7 7) (init ∷ tick 4223371680 ∷ pop ∷ []) ≡ 4294967302 ∷ 4294967302 ∷ 4294967302 ∷ [])
+    × (run (text "60\n") [] (init ∷ tick 4223371680 ∷ pop ∷ []) ≡ 4294967302 ∷ 4294967302 ∷ 4294967302 ∷ [])
     × (run (replicate (maxTable + 1) 10) (replicate 2 0) (init ∷ tick 4223371680 ∷ pop ∷ []) ≡ 4294967297 ∷ 4294967297 ∷ 4294967297 ∷ [])
     × (run (text "@reboot x\n") (replicate 11 0) (init ∷ tick 4223371680 ∷ pop ∷ []) ≡ 4294967324 ∷ 4294967324 ∷ 4294967324 ∷ [])
     × (run (text "@reboot x\n") (replicate 12 0) (tick 4223371680 ∷ tick 5 ∷ pop ∷ []) ≡ 4294967324 ∷ 4294967324 ∷ 4294967324 ∷ [])

@@ -11,7 +11,7 @@ use lib.Dec.{eqb, leb}
 use borrow.Author.Tests.{lt-ltb, lt-leb, le-leb, leb-true, ne-eqb, not-true}
 use Rattle.bytes.specs.Texts.{text}
 use Rattle.bytes.specs.declared.class.Class.the-variants.{Blank, Solid, InLine}
-use Rattle.bytes.specs.Classes.{isBlank, ofClass}
+use Rattle.bytes.specs.Classes.{isBlank, isControl, ofClass}
 use Rattle.bytes.specs.Runs.{run, areOf}
 use Rattle.bytes.proofs.Runs.{trimmed-whole}
 use Rattle.bytes.proofs.Each.{each-so}
@@ -41,8 +41,17 @@ use Rattle.normal.specs.Proper.{isCommand, isSchedule}
 -- ---- one field
 
 byte-clean : (b : ℕ) → FieldByte b → ofClass InLine b ≡ true
-unfolding ofClass
-byte-clean b h = rw (ne-eqb b 10 (λ e. omega (arith, e, h .0)), ne-eqb b 0 (λ e. omega (arith, e, h .0)))
+unfolding ofClass isControl
+byte-clean b h =
+    rw (
+      ne-eqb b 10 (λ e. omega (arith, e, h .0)),
+      ne-eqb b 0 (λ e. omega (arith, e, h .0)),
+      le-leb 1 b (omega (arith, h .0)),
+      lt-leb b 8 (omega (arith, h .0)),
+      le-leb 11 b (omega (arith, h .0)),
+      lt-leb b 31 (omega (arith, h .0)),
+      ne-eqb b 127 (λ e. omega (arith, e, h .1)),
+    )
 
 pub field-clean : (l : Limits) → Usual l → (set : ℕ) (star : Bool) → areOf InLine (fieldText l set star) ≡ true
 field-clean l u set star = all-are InLine (fieldText l set star) (each-so FieldByte _ byte-clean (fieldText l set star) (field-bytes l u set star))

@@ -10,7 +10,7 @@ use lib.Dec.{eqb, leb}
 use borrow.Author.Tests.{lt-leb}
 use Rattle.bytes.specs.Texts.{text}
 use Rattle.bytes.specs.declared.class.Class.the-variants.{Blank, Not, InLine}
-use Rattle.bytes.specs.Classes.{isBlank, ofClass}
+use Rattle.bytes.specs.Classes.{isBlank, isControl, ofClass}
 use Rattle.bytes.specs.Runs.{areOf, skipped}
 use Rattle.bytes.proofs.Places.{are-append, solid-run, not-skipped}
 use Rattle.field.specs.Limits.{minuteLimits, hourLimits, dayLimits, monthLimits, weekdayLimits}
@@ -109,7 +109,7 @@ line-back (timed x command) e =
     entry-line (scheduleText x ++ 32 ∷ command) (f .first) (f .more) (f .is) (f .solid) (f .no-comment) (f .entry)
     ∙ timed-back x command (t .0) (t .1)
 
--- ---- its text has no newline and no byte 0
+-- ---- its text has only bytes that a line may have
 
 -- a byte of a line before others
 in-line : (b : ℕ) (s : List ℕ) → ofClass InLine b ≡ true → areOf InLine s ≡ true → areOf InLine (b ∷ s) ≡ true
@@ -117,7 +117,7 @@ unfolding areOf
 in-line b s p q = rw (p, q)
 
 quoted-clean : (s : List ℕ) → areOf InLine s ≡ true → areOf InLine (quoted s) ≡ true
-unfolding quoted ofClass areOf
+unfolding quoted ofClass isControl areOf
 quoted-clean s h = go (areOf (Not 34) s)
   where
     go : (t : Bool) → areOf InLine (cond t (inQuotes 34 s) (inQuotes 39 s)) ≡ true
@@ -129,7 +129,7 @@ text-clean true s h = h
 text-clean false s h = quoted-clean s h
 
 spaced-clean : (a b : List ℕ) → areOf InLine a ≡ true → areOf InLine b ≡ true → areOf InLine (a ++ 32 ∷ b) ≡ true
-unfolding ofClass areOf
+unfolding ofClass isControl areOf
 spaced-clean a b h k = are-append InLine a (32 ∷ b) h k
 
 schedule-clean : (x : Schedule) → areOf InLine (scheduleText x) ≡ true
@@ -138,7 +138,7 @@ schedule-clean x =
     search (spaced-clean, field-clean minuteLimits minute-usual, field-clean hourLimits hour-usual, field-clean dayLimits day-usual, field-clean monthLimits month-usual, field-clean weekdayLimits weekday-usual)
 
 pub item-clean : (i : Item) → isItem i ≡ true → areOf InLine (itemText i) ≡ true
-unfolding isItem itemText nameText valueText isValue ofClass areOf
+unfolding isItem itemText nameText valueText isValue ofClass isControl areOf
 item-clean (setting name value) e =
     let t = and-eq-true-iff (isName name) (isValue value && mayStand name value) .0 e in
     let u = and-eq-true-iff (isValue value) (mayStand name value) .0 (t .1) in

@@ -2,7 +2,7 @@
 -- a good table.
 -- Assumes nothing.
 use mathlib.Core.Path.{_≡_, refl, sym, ap, _∙_}
-use mathlib.Core.Bool.{Bool, true, false, cond, not, _||_, true≢false, and-eq-true-iff}
+use mathlib.Core.Bool.{Bool, true, false, cond, not, _&&_, and-eq-true-iff}
 use mathlib.Core.List.{List, [], _∷_, _++_, map, append-nil}
 use Prim.Native.Nat.{ℕ, suc, _+_, _≤_}
 use native.Mathlib.Omega.{arith}
@@ -16,7 +16,7 @@ use borrow.Author.Tests.{ltb-true, ltb-false, lt-ltb, le-ltb, leb-true, not-true
 use Rattle.bytes.specs.declared.class.Class.the-variants.{Not, InLine}
 use Rattle.bytes.specs.Classes.{ofClass}
 use Rattle.bytes.specs.Runs.{run, areOf, skipped, between}
-use Rattle.bytes.proofs.Runs.{run-over}
+use Rattle.bytes.proofs.Runs.{run-over, no-newline}
 use Rattle.bytes.proofs.Places.{run-are, are-all, are-so, Stands, between-part}
 use Rattle.crontab.specs.declared.Part.{Part}
 use Rattle.crontab.specs.declared.time.When.{When}
@@ -25,7 +25,7 @@ use Rattle.crontab.specs.declared.line.Line.{Line}
 use Rattle.crontab.specs.declared.line.Line.the-variants as line
 use Rattle.crontab.specs.declared.table.Table.{Table}
 use Rattle.crontab.specs.Limits.{maxTable, maxLine, maxEntries}
-use Rattle.crontab.specs.Lines.{onto, linesOf, contentOf, readLine}
+use Rattle.crontab.specs.Lines.{onto, linesOf, isCut, isLast, contentOf, byteFault, readLine}
 use Rattle.crontab.specs.Items.{Items, placed, moved, afterLine, itemsFrom, itemsOf}
 use Rattle.crontab.specs.Items as items
 use Rattle.crontab.specs.Settings.{partBytes}
@@ -106,57 +106,33 @@ lines-free (b ∷ s) = go (eqb b 10) refl (lines-free s)
 
 -- ---- a line that isn't refused
 
-both-in-line : (s : List ℕ) → areOf (Not 10) s ≡ true → areOf (Not 0) s ≡ true → areOf InLine s ≡ true
-unfolding areOf ofClass
-both-in-line [] p q = refl
-both-in-line (b ∷ s) p q =
-    let x = and-eq-true-iff (not (eqb b 10)) (areOf (Not 10) s) .0 p in
-    let y = and-eq-true-iff (not (eqb b 0)) (areOf (Not 0) s) .0 q in
-    rw (not-true (eqb b 10) (x .0), not-true (eqb b 0) (y .0)) (both-in-line s (x .1) (y .1))
-
 abbrev Read : Line → Type 0
 Read line.Ignored = Unit {0}
 Read (line.Setting name value zone) = Unit {0}
 Read (line.Entry when start) = Unit {0}
 Read (line.Refused f) = ⊥
 
-whole-are : (s : List ℕ) → length s ≤ run (Not 0) s → areOf (Not 0) s ≡ true
-whole-are s h = rw take-all at (run-are (Not 0) s)
+whole-are : (s : List ℕ) → length s ≤ run InLine s → areOf InLine s ≡ true
+whole-are s h = rw take-all at (run-are InLine s)
 
-line-read : (s : List ℕ) → Read (readLine ofUser s) → (readLine ofUser s ≡ contentOf ofUser s) × (areOf (Not 0) s ≡ true)
+line-read : (s : List ℕ) → Read (readLine ofUser s) → (readLine ofUser s ≡ contentOf ofUser s) × (areOf InLine s ≡ true)
 unfolding readLine skipped
-line-read s h = go (ltb maxLine (length s)) (ltb (0 + run (Not 0) s) (length s)) refl h
+line-read s h = go (ltb maxLine (length s)) (ltb (0 + run InLine s) (length s)) refl h
   where
-    go : (a b : Bool) → ltb (0 + run (Not 0) s) (length s) ≡ b
-        → Read (cond a (line.Refused (record { number = 2; column = 1001 })) (cond b (line.Refused (record { number = 3; column = 0 + run (Not 0) s + 1 })) (contentOf ofUser s)))
-        → (cond a (line.Refused (record { number = 2; column = 1001 })) (cond b (line.Refused (record { number = 3; column = 0 + run (Not 0) s + 1 })) (contentOf ofUser s)) ≡ contentOf ofUser s)
-        × (areOf (Not 0) s ≡ true)
+    go : (a b : Bool) → ltb (0 + run InLine s) (length s) ≡ b
+        → Read (cond a (line.Refused (record { number = 2; column = 1001 })) (cond b (line.Refused (byteFault s)) (contentOf ofUser s)))
+        → (cond a (line.Refused (record { number = 2; column = 1001 })) (cond b (line.Refused (byteFault s)) (contentOf ofUser s)) ≡ contentOf ofUser s)
+        × (areOf InLine s ≡ true)
     go true b e h = absurd h
     go false true e h = absurd h
-    go false false e h = (refl, whole-are s (omega (arith, ltb-false (0 + run (Not 0) s) (length s) e)))
+    go false false e h = (refl, whole-are s (omega (arith, ltb-false (0 + run InLine s) (length s) e)))
 
--- a line that is short enough and has no byte 0
-no-nul : (b : ℕ) → ofClass InLine b ≡ true → ofClass (Not 0) b ≡ true
-unfolding ofClass
-no-nul b e = go (eqb b 10) (eqb b 0) e
-  where
-    go : (x y : Bool) → not (x || y) ≡ true → not y ≡ true
-    go false y e = e
-    go true y e = absurd (true≢false (sym e))
-
-no-newline : (b : ℕ) → ofClass InLine b ≡ true → ofClass (Not 10) b ≡ true
-unfolding ofClass
-no-newline b e = go (eqb b 10) (eqb b 0) e
-  where
-    go : (x y : Bool) → not (x || y) ≡ true → not x ≡ true
-    go false y e = refl
-    go true y e = absurd (true≢false (sym e))
-
+-- a line that is short enough and has only bytes that it may have
 line-plain : (s : List ℕ) → length s ≤ maxLine → areOf InLine s ≡ true → readLine ofUser s ≡ contentOf ofUser s
 unfolding readLine skipped run
 line-plain s short clean =
-    let all : run (Not 0) s ≡ length s + 0 = rw append-nil at (run-over (Not 0) s [] (are-all (Not 0) s (are-so InLine (Not 0) no-nul s clean))) in
-    rw (le-ltb maxLine (length s) short, le-ltb (0 + run (Not 0) s) (length s) (omega arith))
+    let all : run InLine s ≡ length s + 0 = rw append-nil at (run-over InLine s [] (are-all InLine s clean)) in
+    rw (le-ltb maxLine (length s) short, le-ltb (0 + run InLine s) (length s) (omega arith))
 
 -- ---- one line more
 
@@ -233,17 +209,24 @@ record Meant (s : List ℕ) (k : ℕ) (ls : List (List ℕ)) (all : Items) : Typ
   proper : areItems (itemsIn ls) ≡ true
   few : k ≤ maxEntries → k + entriesIn (itemsIn ls) ≤ maxEntries
 
-lines-meant : (s : List ℕ) (at n k : ℕ) (o : ℤ) (ls : List (List ℕ)) → Lie s at ls → Free ls → Clean (itemsFrom ofUser at n k o ls) → Meant s k ls (itemsFrom ofUser at n k o ls)
+-- where there is no fault, no line is the last of a cut table
+uncut : (c : Bool) (f g : Items) → Clean (cond c f g) → (Clean f → ⊥) → (cond c f g ≡ g) × Clean g
+uncut true f g h n = absurd (n h)
+uncut false f g h n = (refl, h)
+
+lines-meant : (s : List ℕ) (c : Bool) (at n k : ℕ) (o : ℤ) (ls : List (List ℕ)) → Lie s at ls → Free ls → Clean (itemsFrom ofUser c at n k o ls)
+    → Meant s k ls (itemsFrom ofUser c at n k o ls)
 unfolding itemsFrom itemsIn lineItems meanings areItems entriesIn
-lines-meant s at n k o [] lie free h = record { means = refl; proper = refl; few = λ f. omega arith }
-lines-meant s at n k o (l ∷ ls) lie free h =
-    let g = line-given s l at (lie .0) n k o (readLine ofUser l) (λ j next. itemsFrom ofUser (at + length l + 1) (n + 1) j next ls) (line-proper ofUser l) h in
+lines-meant s c at n k o [] lie free h = record { means = refl; proper = refl; few = λ f. omega arith }
+lines-meant s c at n k o (l ∷ ls) lie free h =
+    let u = uncut (c && isLast ls) _ _ h (λ z. z) in
+    let g = line-given s l at (lie .0) n k o (readLine ofUser l) (λ j next. itemsFrom ofUser c (at + length l + 1) (n + 1) j next ls) (line-proper ofUser l) (u .1) in
     let r = line-read l (g .read) in
-    let m = lines-meant s (at + length l + 1) (n + 1) (g .count) (g .offset) ls (lie .1) (free .1) (g .clean) in
+    let m = lines-meant s c (at + length l + 1) (n + 1) (g .count) (g .offset) ls (lie .1) (free .1) (g .clean) in
     let e : itemIn l (readLine ofUser l) ≡ lineItems l = ap (itemIn l) (r .0) in
     record {
-      means = g .means ∙ rw (e, m .means);
-      proper = are-items-append (lineItems l) (itemsIn ls) (lines.line-proper l (both-in-line l (free .0) (r .1))) (m .proper);
+      means = rw (u .0) (g .means ∙ rw (e, m .means));
+      proper = are-items-append (lineItems l) (itemsIn ls) (lines.line-proper l (r .1)) (m .proper);
       few = λ f. omega (arith, m .few (g .few f), g .counts, entries-append (lineItems l) (itemsIn ls), ap entriesIn e);
     }
 
@@ -251,7 +234,7 @@ lines-meant s at n k o (l ∷ ls) lie free h =
 
 -- a table that isn't refused has no fault, and is short enough
 abbrev tableItems : List ℕ → Items
-tableItems s = itemsFrom ofUser 0 1 0 utc (linesOf s)
+tableItems s = itemsFrom ofUser (isCut s) 0 1 0 utc (linesOf s)
 
 items-of : (s : List ℕ) → length s ≤ maxTable → itemsOf ofUser s ≡ tableItems s
 unfolding itemsOf
@@ -268,7 +251,7 @@ unfolding tableOf emptyTable refusedTable
 items-good s short h = rw (items-of s short) (clean-good emptyTable (tableItems s) refl h)
 
 meant : (s : List ℕ) → Clean (tableItems s) → Meant s 0 (linesOf s) (tableItems s)
-meant s h = lines-meant s 0 1 0 utc (linesOf s) (lines-lie s 0 s refl) (lines-free s) h
+meant s h = lines-meant s (isCut s) 0 1 0 utc (linesOf s) (lines-lie s 0 s refl) (lines-free s) h
 
 -- a good table means what its lines mean
 pub meaning-lines : (s : List ℕ) → tableOf ofUser s .refusal ≡ 0 → meaningOf s ≡ itemsIn (linesOf s)
@@ -300,6 +283,19 @@ lines-written (i ∷ is) h =
     first-line (itemText i) (normalText is) (are-so InLine (Not 10) no-newline (itemText i) (lines.item-clean i (t .0)))
     ∙ rw (lines-written is (t .1))
 
+-- and its last byte is a newline
+uncut-before : (a b : List ℕ) → isCut b ≡ false → isCut (a ++ 10 ∷ b) ≡ false
+unfolding isCut
+uncut-before [] [] h = refl
+uncut-before [] (x ∷ b) h = h
+uncut-before (y ∷ []) b h = uncut-before [] b h
+uncut-before (y ∷ z ∷ a) b h = uncut-before (z ∷ a) b h
+
+written-uncut : (is : List Item) → isCut (normalText is) ≡ false
+unfolding normalText isCut
+written-uncut [] = refl
+written-uncut (i ∷ is) = uncut-before (itemText i) (normalText is) (written-uncut is)
+
 pub items-written : (is : List Item) → areItems is ≡ true → itemsIn (map itemText is) ≡ is
 unfolding itemsIn areItems
 items-written [] h = refl
@@ -324,7 +320,7 @@ line-means : (i : Item) → isItem i ≡ true → itemIn (itemText i) (contentOf
 unfolding lineItems
 line-means i e = lines.line-back i e
 
-kept : (at n k : ℕ) (o : ℤ) (is : List Item) → areItems is ≡ true → areShort is ≡ true → k + entriesIn is ≤ maxEntries → Clean (itemsFrom ofUser at n k o (map itemText is))
+kept : (at n k : ℕ) (o : ℤ) (is : List Item) → areItems is ≡ true → areShort is ≡ true → k + entriesIn is ≤ maxEntries → Clean (itemsFrom ofUser false at n k o (map itemText is))
 unfolding itemsFrom areItems areShort
 kept at n k o [] p q few = tt
 kept at n k o (i ∷ is) p q few =
@@ -333,7 +329,7 @@ kept at n k o (i ∷ is) p q few =
     let u = and-eq-true-iff (leb (length (itemText i)) maxLine) (areShort is) .0 q in
     let more : entriesIn (i ∷ is) ≡ entriesIn (i ∷ []) + entriesIn is = entries-append (i ∷ []) is in
     let plain = line-plain (itemText i) (leb-true (length (itemText i)) maxLine (u .0)) (lines.item-clean i (t .0)) in
-    line-kept at n (length (itemText i)) k o (itemText i) (readLine ofUser (itemText i)) i (λ j next. itemsFrom ofUser (at + length (itemText i) + 1) (n + 1) j next (map itemText is))
+    line-kept at n (length (itemText i)) k o (itemText i) (readLine ofUser (itemText i)) i (λ j next. itemsFrom ofUser false (at + length (itemText i) + 1) (n + 1) j next (map itemText is))
     (ap (itemIn (itemText i)) plain ∙ line-means i (t .0)) (omega arith)
     (λ next. kept (at + length (itemText i) + 1) (n + 1) (k + entriesIn (i ∷ [])) next is (t .1) (u .1) (omega arith))
 
@@ -341,7 +337,7 @@ kept at n k o (i ∷ is) p q few =
 module _ (is : List Item) (proper : areItems is ≡ true) (short : areShort is ≡ true) (small : length (normalText is) ≤ maxTable) (few : entriesIn is ≤ maxEntries) where
   pub written-good : tableOf ofUser (normalText is) .refusal ≡ 0
   written-good =
-      items-good (normalText is) small (rw (lines-written is proper) (kept 0 1 0 utc is proper short (omega arith)))
+      items-good (normalText is) small (rw (written-uncut is, lines-written is proper) (kept 0 1 0 utc is proper short (omega arith)))
 
   pub written-means : meaningOf (normalText is) ≡ is
   written-means = meaning-lines (normalText is) written-good ∙ rw (lines-written is proper) (items-written is proper)
@@ -358,15 +354,16 @@ unfolding offsetsFrom
 setting-under o n v zone is e = ap (λ (z : Zone). offsetsFrom (inForce z o) is) (sym e)
 
 -- entries are under the offset that the settings before them say
-lines-under : (s : List ℕ) (at n k : ℕ) (o : ℤ) (ls : List (List ℕ)) → Lie s at ls → Clean (itemsFrom ofUser at n k o ls)
-    → entryOffsets (itemsFrom ofUser at n k o ls) ≡ offsetsFrom o (meanings s (itemsFrom ofUser at n k o ls))
+lines-under : (s : List ℕ) (c : Bool) (at n k : ℕ) (o : ℤ) (ls : List (List ℕ)) → Lie s at ls → Clean (itemsFrom ofUser c at n k o ls)
+    → entryOffsets (itemsFrom ofUser c at n k o ls) ≡ offsetsFrom o (meanings s (itemsFrom ofUser c at n k o ls))
 unfolding itemsFrom afterLine entryOffsets meanings offsetsFrom
-lines-under s at n k o [] lie h = refl
-lines-under s at n k o (l ∷ ls) lie h =
-    go (readLine ofUser l) refl (line-proper ofUser l) h (λ j next. lines-under s (at + length l + 1) (n + 1) j next ls (lie .1))
+lines-under s c at n k o [] lie h = refl
+lines-under s c at n k o (l ∷ ls) lie h =
+    let u = uncut (c && isLast ls) _ _ h (λ z. z) in
+    rw (u .0) (go (readLine ofUser l) refl (line-proper ofUser l) (u .1) (λ j next. lines-under s c (at + length l + 1) (n + 1) j next ls (lie .1)))
   where
     later : ℕ → ℤ → Items
-    later j next = itemsFrom ofUser (at + length l + 1) (n + 1) j next ls
+    later j next = itemsFrom ofUser c (at + length l + 1) (n + 1) j next ls
 
     go : (x : Line) → readLine ofUser l ≡ x → Proper (length l) x → Clean (afterLine at n (length l) k o x later)
         → ((j : ℕ) (next : ℤ) → Clean (later j next) → entryOffsets (later j next) ≡ offsetsFrom next (meanings s (later j next)))
@@ -388,4 +385,4 @@ lines-under s at n k o (l ∷ ls) lie h =
 pub meaning-offsets : (s : List ℕ) → tableOf ofUser s .refusal ≡ 0 → entryOffsets (itemsOf ofUser s) ≡ offsetsFrom utc (meaningOf s)
 unfolding meaningOf
 meaning-offsets s e =
-    rw (items-of s (table-short ofUser s e)) (lines-under s 0 1 0 utc (linesOf s) (lines-lie s 0 s refl) (good-items s e))
+    rw (items-of s (table-short ofUser s e)) (lines-under s (isCut s) 0 1 0 utc (linesOf s) (lines-lie s 0 s refl) (good-items s e))

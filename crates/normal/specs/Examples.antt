@@ -23,46 +23,46 @@ settings : Hold written
     -- no blanks but within
     ((text " A\t=  b c \n", text "A=b c\n")
     -- quotes that do nothing go
-    ∷ (text "\"A\" = 'b\"c'", text "A=b\"c\n")
+    ∷ (text "\"A\" = 'b\"c'\n", text "A=b\"c\n")
     -- a name that has a blank, `=` or a quote, or would start another line
-    ∷ (text "'A B'=c", text "\"A B\"=c\n")
-    ∷ (text "'A=B'=c", text "\"A=B\"=c\n")
-    ∷ (text "\"A'B\"=c", text "\"A'B\"=c\n")
-    ∷ (text "'A\"B'=c", text "'A\"B'=c\n")
-    ∷ (text "'1A'=c", text "\"1A\"=c\n")
-    ∷ (text "'*'=c", text "\"*\"=c\n")
-    ∷ (text "'@A'=c", text "\"@A\"=c\n")
-    ∷ (text "'#A'=c", text "\"#A\"=c\n")
-    ∷ (text "A1@#*=c", text "A1@#*=c\n")
+    ∷ (text "'A B'=c\n", text "\"A B\"=c\n")
+    ∷ (text "'A=B'=c\n", text "\"A=B\"=c\n")
+    ∷ (text "\"A'B\"=c\n", text "\"A'B\"=c\n")
+    ∷ (text "'A\"B'=c\n", text "'A\"B'=c\n")
+    ∷ (text "'1A'=c\n", text "\"1A\"=c\n")
+    ∷ (text "'*'=c\n", text "\"*\"=c\n")
+    ∷ (text "'@A'=c\n", text "\"@A\"=c\n")
+    ∷ (text "'#A'=c\n", text "\"#A\"=c\n")
+    ∷ (text "A1@#*=c\n", text "A1@#*=c\n")
     -- an empty value is bare
-    ∷ (text "A=''", text "A=\n")
+    ∷ (text "A=''\n", text "A=\n")
     -- a value that starts with a blank or a quote, or ends with a blank: in double quotes if it has none
-    ∷ (text "A=' b'", text "A=\" b\"\n")
-    ∷ (text "A='b\t'", text "A=\"b\t\"\n")
-    ∷ (text "A=' '", text "A=\" \"\n")
-    ∷ (text "A=\"'b\"", text "A=\"'b\"\n")
-    ∷ (text "A='\"b'", text "A='\"b'\n")
-    ∷ (text "A='b\" '", text "A='b\" '\n")
-    ∷ (text "A=b'\"c", text "A=b'\"c\n")
-    ∷ (text "A=b=#@1", text "A=b=#@1\n")
+    ∷ (text "A=' b'\n", text "A=\" b\"\n")
+    ∷ (text "A='b\t'\n", text "A=\"b\t\"\n")
+    ∷ (text "A=' '\n", text "A=\" \"\n")
+    ∷ (text "A=\"'b\"\n", text "A=\"'b\"\n")
+    ∷ (text "A='\"b'\n", text "A='\"b'\n")
+    ∷ (text "A='b\" '\n", text "A='b\" '\n")
+    ∷ (text "A=b'\"c\n", text "A=b'\"c\n")
+    ∷ (text "A=b=#@1\n", text "A=b=#@1\n")
     ∷ [])
 unfolding writing
 settings = refl
 
 entries : Hold written
     -- `@reboot` stays, and other words become fields
-    ((text "@reboot\t x y ", text "@reboot x y \n")
-    ∷ (text "@yearly x", text "0 0 1 1 * x\n")
-    ∷ (text "@monthly x", text "0 0 1 * * x\n")
-    ∷ (text "@weekly x", text "0 0 * * 0 x\n")
-    ∷ (text "@daily x", text "0 0 * * * x\n")
-    ∷ (text "@hourly x", text "0 * * * * x\n")
+    ((text "@reboot\t x y \n", text "@reboot x y \n")
+    ∷ (text "@yearly x\n", text "0 0 1 1 * x\n")
+    ∷ (text "@monthly x\n", text "0 0 1 * * x\n")
+    ∷ (text "@weekly x\n", text "0 0 * * 0 x\n")
+    ∷ (text "@daily x\n", text "0 0 * * * x\n")
+    ∷ (text "@hourly x\n", text "0 * * * * x\n")
     -- Sunday as 0, and names as numbers
-    ∷ (text "0 0 * * 7 x", text "0 0 * * 0 x\n")
-    ∷ (text "0 0 1 Feb,jan fri-sun x", text "0 0 1 1,2 0,5,6 x\n")
+    ∷ (text "0 0 * * 7 x\n", text "0 0 * * 0 x\n")
+    ∷ (text "0 0 1 Feb,jan fri-sun x\n", text "0 0 1 1,2 0,5,6 x\n")
     -- a star is kept, and its step the smallest
-    ∷ (text "*/9999 */1 */7 */6 */9 x", text "*/60 * */7 */6 */7 x\n")
-    ∷ (text "0-59/30 0-23/12 */31 1-12/6 0-6/3 x", text "0,30 0,12 */31 1,7 0,3,6 x\n")
+    ∷ (text "*/9999 */1 */7 */6 */9 x\n", text "*/60 * */7 */6 */7 x\n")
+    ∷ (text "0-59/30 0-23/12 */31 1-12/6 0-6/3 x\n", text "0,30 0,12 */31 1,7 0,3,6 x\n")
     -- single spaces before the command, which is copied raw
     ∷ (text "  30,5-10/5,5\t4  1 1 1\t#a  b%\\%c \n", text "5,10,30 4 1 1 1 #a  b%\\%c \n")
     ∷ [])
@@ -73,7 +73,7 @@ tables : Hold written
     (([], [])
     -- comments and blank lines vanish, and the order stays
     ∷ (text "#a\n\n \n\t# b\n", [])
-    ∷ (text "B=c\n#\n@daily x\n\nA=b\n@reboot y\nA=b", text "B=c\n0 0 * * * x\nA=b\n@reboot y\nA=b\n")
+    ∷ (text "B=c\n#\n@daily x\n\nA=b\n@reboot y\nA=b\n", text "B=c\n0 0 * * * x\nA=b\n@reboot y\nA=b\n")
     ∷ [])
 unfolding writing
 tables = refl
@@ -94,19 +94,20 @@ lines (suc n) = long 822 ++ 10 ∷ lines n
 
 calls : Hold call
     -- the bytes behind stay
-    (((text "A = b", text "123456"), (Written 4, text "A=b\n56"))
+    (((text "A = b\n", text "123456"), (Written 4, text "A=b\n56"))
     -- just enough room, and a byte less
-    ∷ ((text "A = b", text "1234"), (Written 4, text "A=b\n"))
-    ∷ ((text "A = b", text "123"), (Refused 18, text "123"))
+    ∷ ((text "A = b\n", text "1234"), (Written 4, text "A=b\n"))
+    ∷ ((text "A = b\n", text "123"), (Refused 18, text "123"))
     -- nothing needs no room
-    ∷ ((text "#", []), (Written 0, []))
+    ∷ ((text "#\n", []), (Written 0, []))
     ∷ (([], text "1"), (Written 0, text "1"))
     -- the table's refusal comes first
-    ∷ ((text "A", text "123"), (Refused 11, text "123"))
-    ∷ ((long 823 ++ text "\nA", []), (Refused 11, []))
+    ∷ ((text "A\n", text "123"), (Refused 11, text "123"))
+    ∷ ((text "A = b", text "123"), (Refused 26, text "123"))
+    ∷ ((long 823 ++ text "\nA\n", []), (Refused 11, []))
     -- a line as long as it may be, and a byte more, which comes before a short buffer
-    ∷ ((long 822, text "1"), (Refused 18, text "1"))
-    ∷ ((long 823, text "1"), (Refused 21, text "1"))
+    ∷ ((long 822 ++ text "\n", text "1"), (Refused 18, text "1"))
+    ∷ ((long 823 ++ text "\n", text "1"), (Refused 21, text "1"))
     -- a table that is as long as it may be, and a line more
     ∷ ((lines (maxTable / 1001), text "1"), (Refused 18, text "1"))
     ∷ ((lines (maxTable / 1001 + 1), text "1"), (Refused 21, text "1"))
@@ -125,6 +126,8 @@ names : Hold isName
     ∷ (text "'\"A\"", false)
     ∷ (text "A\nB", false)
     ∷ (65 ∷ 0 ∷ [], false)
+    ∷ (65 ∷ 1 ∷ [], false)
+    ∷ (128 ∷ 9 ∷ [], true)
     ∷ [])
 unfolding writing
 names = refl
@@ -139,6 +142,8 @@ values : Hold isValue
     ∷ (text " \"'", false)
     ∷ (text "a\n", false)
     ∷ (0 ∷ [], false)
+    ∷ (127 ∷ [], false)
+    ∷ (9 ∷ 126 ∷ 128 ∷ [], true)
     ∷ [])
 unfolding writing
 values = refl
@@ -149,6 +154,8 @@ commands : Hold isCommand
     ∷ (text " x", false)
     ∷ (text "x\ny", false)
     ∷ (120 ∷ 0 ∷ [], false)
+    ∷ (120 ∷ 13 ∷ [], false)
+    ∷ (120 ∷ 9 ∷ 255 ∷ [], true)
     ∷ [])
 unfolding writing
 commands = refl

@@ -20,7 +20,7 @@ use Rattle.normal.specs.Texts.{doubleQuote, singleQuote, isBareName, isB
 unfoldable pub isQuotable : List ℕ → Bool
 isQuotable s = areOf (Not doubleQuote) s || areOf (Not singleQuote) s
 
--- one byte or more, none of them a newline or 0, that stand bare or in quotes
+-- one byte or more, each of which a line may have, that stand bare or in quotes
 unfoldable pub isName : List ℕ → Bool
 isName s = leb 1 (length s) && (areOf InLine s && (isBareName s || isQuotable s))
 

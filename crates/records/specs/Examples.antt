@@ -3,7 +3,7 @@
 use mathlib.Core.Path.{refl}
 use mathlib.Core.List.{List, [], _∷_, _++_}
 use Prim.Native.Nat.{ℕ, zero, suc}
-use lib.ListN.{replicate}
+use lib.ListN.{take, drop, replicate}
 use Rattle.bytes.specs.Texts.{text}
 use Rattle.bytes.specs.Rows.{Hold}
 use Rattle.normal.specs.declared.NormalAnswer.{NormalAnswer}
@@ -32,10 +32,10 @@ morning =
 
 tables : Hold records
     (([], [])
-    ∷ (text "5 4 * * * x", morning)
+    ∷ (text "5 4 * * * x\n", morning)
     -- minute 59 is the fourth bit of the last byte, Sunday is bit 0; stars of minute and hour
     ∷ (
-      text "*/59 * 31 12 7 %",
+      text "*/59 * 31 12 7 %\n",
       23 ∷ 0 ∷ 1 ∷ 0
           ∷ 1 ∷ 0 ∷ 0 ∷ 0 ∷ 0 ∷ 0 ∷ 0 ∷ 8
           ∷ 255 ∷ 255 ∷ 255 ∷ 0
@@ -47,22 +47,22 @@ tables : Hold records
     )
     -- the star of the day alone, and of the month alone
     ∷ (
-      text "0 0 * 1 0 x",
+      text "0 0 * 1 0 x\n",
       23 ∷ 0 ∷ 1 ∷ 0 ∷ 1 ∷ 0 ∷ 0 ∷ 0 ∷ 0 ∷ 0 ∷ 0 ∷ 0 ∷ 1 ∷ 0 ∷ 0 ∷ 0 ∷ 254 ∷ 255 ∷ 255 ∷ 255 ∷ 2 ∷ 0 ∷ 1 ∷ 4 ∷ text "x",
     )
     ∷ (
-      text "0 0 1 * 0 x",
+      text "0 0 1 * 0 x\n",
       23 ∷ 0 ∷ 1 ∷ 0 ∷ 1 ∷ 0 ∷ 0 ∷ 0 ∷ 0 ∷ 0 ∷ 0 ∷ 0 ∷ 1 ∷ 0 ∷ 0 ∷ 0 ∷ 2 ∷ 0 ∷ 0 ∷ 0 ∷ 254 ∷ 31 ∷ 1 ∷ 8 ∷ text "x",
     )
     -- kind 2
-    ∷ (text "@reboot  x y ", 6 ∷ 0 ∷ 2 ∷ 0 ∷ text "x y ")
+    ∷ (text "@reboot  x y \n", 6 ∷ 0 ∷ 2 ∷ 0 ∷ text "x y ")
     -- kind 3: a name of 2 bytes, and the value without its quotes
-    ∷ (text "AB = 'cd '", 9 ∷ 0 ∷ 3 ∷ 0 ∷ 2 ∷ 0 ∷ text "ABcd ")
+    ∷ (text "AB = 'cd '\n", 9 ∷ 0 ∷ 3 ∷ 0 ∷ 2 ∷ 0 ∷ text "ABcd ")
     -- kind 4, with kind 3's body
-    ∷ (text "\"CRON_TZ\" = +05:30", 17 ∷ 0 ∷ 4 ∷ 0 ∷ 7 ∷ 0 ∷ text "CRON_TZ+05:30")
-    ∷ (text "CRON_T=+05:30", 16 ∷ 0 ∷ 3 ∷ 0 ∷ 6 ∷ 0 ∷ text "CRON_T+05:30")
+    ∷ (text "\"CRON_TZ\" = +05:30\n", 17 ∷ 0 ∷ 4 ∷ 0 ∷ 7 ∷ 0 ∷ text "CRON_TZ+05:30")
+    ∷ (text "CRON_T=+05:30\n", 16 ∷ 0 ∷ 3 ∷ 0 ∷ 6 ∷ 0 ∷ text "CRON_T+05:30")
     -- in order, without comments
-    ∷ (text "#\nA=\n@reboot x\nA=", text "" ++ (5 ∷ 0 ∷ 3 ∷ 0 ∷ 1 ∷ 0 ∷ 65 ∷ 3 ∷ 0 ∷ 2 ∷ 0 ∷ 120 ∷ 5 ∷ 0 ∷ 3 ∷ 0 ∷ 1 ∷ 0 ∷ 65 ∷ []))
+    ∷ (text "#\nA=\n@reboot x\nA=\n", text "" ++ (5 ∷ 0 ∷ 3 ∷ 0 ∷ 1 ∷ 0 ∷ 65 ∷ 3 ∷ 0 ∷ 2 ∷ 0 ∷ 120 ∷ 5 ∷ 0 ∷ 3 ∷ 0 ∷ 1 ∷ 0 ∷ 65 ∷ []))
     ∷ [])
 unfolding coding
 tables = refl
@@ -79,13 +79,14 @@ abbrev compile : List ℕ × List ℕ → NormalAnswer × List ℕ
 compile (s, buffer) = let f = compiled s buffer in (f .answer, f .buffer)
 
 calls : Hold compile
-    (((text "@reboot x", text "123456"), (Written 5, 3 ∷ 0 ∷ 2 ∷ 0 ∷ 120 ∷ text "6"))
-    ∷ ((text "@reboot x", text "1234"), (Refused 18, text "1234"))
-    ∷ ((text "A", text "1234"), (Refused 11, text "1234"))
+    (((text "@reboot x\n", text "123456"), (Written 5, 3 ∷ 0 ∷ 2 ∷ 0 ∷ 120 ∷ text "6"))
+    ∷ ((text "@reboot x\n", text "1234"), (Refused 18, text "1234"))
+    ∷ ((text "A\n", text "1234"), (Refused 11, text "1234"))
+    ∷ ((text "@reboot x", text "1234"), (Refused 26, text "1234"))
     -- its line would be written in 1,001 bytes
-    ∷ ((text "0-59 * * * * " ++ replicate 823 97, text "1"), (Refused 21, text "1"))
+    ∷ ((text "0-59 * * * * " ++ replicate 823 97 ++ text "\n", text "1"), (Refused 21, text "1"))
     -- the table's refusal comes before it
-    ∷ ((long 823 ++ text "\nA", []), (Refused 11, []))
+    ∷ ((long 823 ++ text "\nA\n", []), (Refused 11, []))
     -- 49 lines of 1,001 written bytes are a table, and 50 aren't
     ∷ ((times 49 (long 822 ++ text "\n"), []), (Refused 18, []))
     ∷ ((times 50 (long 822 ++ text "\n"), []), (Refused 21, []))
@@ -129,6 +130,12 @@ read : Hold decompile
     ∷ (3 ∷ 0 ∷ 2 ∷ 0 ∷ 32 ∷ [], bad 24 1)
     ∷ (4 ∷ 0 ∷ 2 ∷ 0 ∷ 120 ∷ 10 ∷ [], bad 24 1)
     ∷ (4 ∷ 0 ∷ 2 ∷ 0 ∷ 120 ∷ 0 ∷ [], bad 24 1)
+    -- ticket 2026-11: a control byte in a command, of kind 1 too, in a name and in a value, but not a tab or a byte from 128 on
+    ∷ (4 ∷ 0 ∷ 2 ∷ 0 ∷ 120 ∷ 13 ∷ [], bad 24 1)
+    ∷ (23 ∷ 0 ∷ 1 ∷ 0 ∷ take 20 (drop 4 morning) ++ 127 ∷ [], bad 24 1)
+    ∷ (6 ∷ 0 ∷ 3 ∷ 0 ∷ 1 ∷ 0 ∷ 1 ∷ 65 ∷ [], bad 24 1)
+    ∷ (6 ∷ 0 ∷ 3 ∷ 0 ∷ 1 ∷ 0 ∷ 65 ∷ 31 ∷ [], bad 24 1)
+    ∷ (5 ∷ 0 ∷ 2 ∷ 0 ∷ 120 ∷ 9 ∷ 128 ∷ [], (Written 12, text "@reboot x\t" ++ 128 ∷ 10 ∷ [], 0))
     -- no name length, an empty name, a name past the body
     ∷ (3 ∷ 0 ∷ 3 ∷ 0 ∷ 1 ∷ [], bad 24 1)
     ∷ (5 ∷ 0 ∷ 3 ∷ 0 ∷ 0 ∷ 0 ∷ 65 ∷ [], bad 24 1)

@@ -12,7 +12,7 @@ const NO_OFFSET: &str =
     "not an offset from UTC: CRON_TZ is -12:00 to +14:00, as +05:30, with a sign and two digits each";
 
 /// The paper's words of each fault, in short, and a table that has it: line and column beside.
-const FAULTS: [(u64, &str, &str, &str); 12] = [
+const FAULTS: [(u64, &str, &str, &str); 17] = [
     (3, "1:1", "\0", "the line has a byte 0"),
     (4, "1:4", "5 5", "fewer than five time fields"),
     (5, "2:3", "#\n0 5/2 * * * x", "not a time field: *, */step, or a list of n, n-m and n-m/step, with names for months and weekdays"),
@@ -25,6 +25,11 @@ const FAULTS: [(u64, &str, &str, &str); 12] = [
     (25, "2:9", "\nCRON_TZ=Japan\n", NO_OFFSET),
     (25, "1:11", "CRON_TZ = '+5:30'", NO_OFFSET),
     (25, "1:9", "CRON_TZ=", NO_OFFSET),
+    (26, "2:10", "A=b\n@hourly x", "no newline at the end: the table may have been cut"),
+    (27, "1:2", "#\x01\n", "the line has a control byte: of those below 32, and 127, it may have tabs only (byte 1, 0x01)"),
+    (27, "2:4", "A=b\nA=b\x7f", "the line has a control byte: of those below 32, and 127, it may have tabs only (byte 127, 0x7f)"),
+    (27, "1:3", "#a\rb\n", "the line has a control byte: of those below 32, and 127, it may have tabs only (byte 13, 0x0d)"),
+    (27, "2:10", "A=b\n@hourly x\r\nC=d\r\n", "the line has a control byte: of those below 32, and 127, it may have tabs only (byte 13, 0x0d); the line ends in CR LF, and the CR isn't allowed"),
 ];
 
 #[test]
@@ -37,7 +42,7 @@ fn a_good_table_is_counted_and_a_bad_one_is_refused_with_its_place() {
         (verdict.to_string(), status)
     };
     assert_eq!(says(""), (": 0 entries\n".to_string(), Some(0)));
-    assert_eq!(says("@hourly x"), (": 1 entries\n".to_string(), Some(0)));
+    assert_eq!(says("@hourly x\n"), (": 1 entries\n".to_string(), Some(0)));
 
     let mut faults: Vec<(u64, &str, String, &str)> = FAULTS
         .map(|(number, place, table, words)| (number, place, table.to_string(), words))
@@ -260,8 +265,9 @@ fn compare_random(check: &Subcommand, kind: Kind, option: Option<&str>) {
     let mut expected = Vec::new();
     for i in 0..1000 {
         let good = samples::table(&mut random, kind, i % 20);
-        let table = match i % 2 {
-            0 => good,
+        let table = match i % 4 {
+            0 | 2 => good,
+            1 => samples::cut_table(&mut random, kind, 1 + i % 20),
             _ => samples::mutated(&mut random, &good),
         };
         let path = check.write(&i.to_string(), &table);

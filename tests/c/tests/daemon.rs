@@ -154,7 +154,7 @@ fn the_log_is_the_second_programs() {
         (&two_sites, Kind::User),
         (several.as_bytes(), Kind::System),
         (
-            b"* * * * * a\n  \"CRON_TZ\"='-12:00'\n* * * * * b\nCRON_TZ = +14:00 \n* * * * * c",
+            b"* * * * * a\n  \"CRON_TZ\"='-12:00'\n* * * * * b\nCRON_TZ = +14:00 \n* * * * * c\n",
             Kind::User,
         ),
         // A boot job under a clock that shows no date of the calendar yet, or any more.

@@ -37,6 +37,15 @@ pub fn of_kind(text: &str, kind: Kind) -> String {
     text.replace('~', user)
 }
 
+/// A text as a table: with a newline at its end, unless it is empty.
+pub fn ended(text: impl AsRef<[u8]>) -> Vec<u8> {
+    let mut table = text.as_ref().to_vec();
+    if !matches!(table.last(), None | Some(b'\n')) {
+        table.push(b'\n');
+    }
+    table
+}
+
 /// A table of so many entries, each with the time given.
 pub fn alike(kind: Kind, time: &str, entries: usize) -> Vec<u8> {
     let line = of_kind(&format!("{time} ~a\n"), kind);

@@ -306,11 +306,11 @@ fn a_rare_entry_is_named_within_the_bound() {
     for (fields, about) in rare {
         for place in [0, 1, 127, 128, 510, 511] {
             let kind = any_kind(&mut random);
-            let often = of_kind("* * * * * ~often", kind);
+            let often = of_kind("* * * * * ~often\n", kind);
             let mut lines = vec![&often[..]; ENTRIES as usize];
-            let line = of_kind(&format!("{fields} ~rare"), kind);
+            let line = of_kind(&format!("{fields} ~rare\n"), kind);
             lines[place as usize] = &line;
-            let table = lines.join("\n");
+            let table = lines.concat();
             let case = Case::of_kind(table.as_bytes(), kind.number());
             let firing = case.next(place, about - 1).expect("a firing");
 

@@ -33,6 +33,8 @@ const BAD_SETTING: u64 = 11;
 const TOO_MANY_ENTRIES: u64 = 12;
 const NEXT_OF_REBOOT: u64 = 15;
 const BAD_USER_COLUMN: u64 = 20;
+const NO_LAST_NEWLINE: u64 = 26;
+const CONTROL_BYTE: u64 = 27;
 
 /// Why a table is refused, and where: line and column count from 1, and are 0 for the whole table.
 #[derive(Clone, Copy, Debug, PartialEq, Eq)]
@@ -141,7 +143,24 @@ pub fn read(bytes: &[u8], kind: Kind) -> Result<Table<'_>, Fault> {
         }
         start += line.len() + 1;
     }
-    Ok(table)
+    match unended(bytes) {
+        Some(fault) => Err(fault),
+        None => Ok(table),
+    }
+}
+
+/// What is wrong with a table's end: its last byte isn't a newline.
+fn unended(bytes: &[u8]) -> Option<Fault> {
+    if matches!(bytes.last(), None | Some(b'\n')) {
+        return None;
+    }
+    let last = bytes.rsplit(|&byte| byte == b'\n').next()?;
+    let before = &bytes[..bytes.len() - last.len()];
+    Some(Fault {
+        number: NO_LAST_NEWLINE,
+        line: lines(before).count() as u64 + 1,
+        column: last.len() as u64 + 1,
+    })
 }
 
 /// A refusal's number, and how many bytes of the line stand before its place.
@@ -169,10 +188,19 @@ fn meaning(line: &[u8], kind: Kind) -> Result<Line<'_>, Bad> {
     if let Some(at) = line.iter().position(|&byte| byte == 0) {
         return Err(Bad(ZERO_BYTE, at));
     }
+    if let Some(at) = line.iter().position(|&byte| is_control(byte)) {
+        return Err(Bad(CONTROL_BYTE, at));
+    }
     content(line, kind)
 }
 
-/// What a line says, whatever its length.
+/// No line has these: the control characters of ASCII but for the tab. Byte 0 has a refusal of its own, and a newline ends
+/// a line.
+fn is_control(byte: u8) -> bool {
+    byte.is_ascii_control() && byte != b'\t'
+}
+
+/// What a line says, whatever its length and its bytes.
 fn content(line: &[u8], kind: Kind) -> Result<Line<'_>, Bad> {
     let mut words = Words { line, at: 0 };
     let Some(first) = words.next() else {

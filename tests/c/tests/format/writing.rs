@@ -41,8 +41,8 @@ fn files_are_rewritten() {
     let before = names(&format.folder);
     for option in ["-w", "--write"] {
         format.write("one", TABLE);
-        format.write("two", "# a");
-        format.write("three", "A=b");
+        format.write("two", "# a\n");
+        format.write("three", "A='b'\n");
         let output = format.run(&[option, "one", "two", "three"]);
         assert_eq!(all(&output), is("", "", 0));
         assert_eq!(format.read("one"), TEXT.as_bytes());

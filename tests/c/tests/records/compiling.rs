@@ -45,6 +45,8 @@ fn a_refused_table_is_told_as_check_tells_it() {
         "\tname",
         "CRON_TZ=x",
         "a=b\n0 0 * * *",
+        "a=b",
+        "a=b\r\n",
     ] {
         compile.write("table", table);
         let verdict = compile.verdict("table");

@@ -1,5 +1,6 @@
 //! Bytes of every kind: any at all, those that mean something, good tables, and good tables damaged.
 
+use compare::samples::ended;
 use second::random::Random;
 use second::table::documents::{ENTRIES, SETTINGS, SYSTEM_ENTRIES};
 use second::table::{samples, Kind};
@@ -58,7 +59,7 @@ fn good(random: &mut Random, kind: Kind) -> Vec<u8> {
                 _ => random.pick(&ENTRIES).0.as_bytes(),
             };
             let lines: Vec<&[u8]> = (0..lines).map(|_| line(random)).collect();
-            lines.join(&b'\n')
+            ended(lines.join(&b'\n'))
         }
         _ => samples::table(random, kind, lines),
     }

@@ -6,7 +6,7 @@ use compare::table::Compared;
 use second::random::Random;
 use second::table::{Kind, ENTRIES, LINE_BYTES, TABLE_BYTES};
 
-/// A table, and number, line and column of its refusal.
+/// A table, and number, line and column of its refusal, which may be 26 where it has no other.
 type Row = (Vec<u8>, Option<[u64; 3]>);
 
 const TOO_LONG: Option<[u64; 3]> = Some([1, 0, 0]);
@@ -112,8 +112,20 @@ fn many_entries(kind: Kind) -> Vec<Row> {
     rows
 }
 
+/// 26, of a table that has no other fault.
+fn cut(table: &[u8]) -> Option<[u64; 3]> {
+    let newlines = table.iter().filter(|&&byte| byte == b'\n').count() as u64;
+    let last = table.rsplit(|&byte| byte == b'\n').next()?.len() as u64;
+    (last > 0).then_some([26, newlines + 1, last + 1])
+}
+
 fn rows(kind: Kind) -> Vec<Row> {
-    [long_lines(kind), long_tables(kind), many_entries(kind)].concat()
+    let rows = [long_lines(kind), long_tables(kind), many_entries(kind)].concat();
+    let judged = |(table, fault): Row| {
+        let fault = fault.or_else(|| cut(&table));
+        (table, fault)
+    };
+    rows.into_iter().map(judged).collect()
 }
 
 #[test]
@@ -136,7 +148,7 @@ fn tables_at_the_limits_with_one_byte_changed() {
         for (mut table, _) in rows(kind) {
             for _ in 0..10 {
                 let at = random.below(table.len() as u64) as usize;
-                let byte = random.pick(b"\0\n \t%\\*@#='\"1a\xff:/-");
+                let byte = random.pick(b"\0\x01\r\x7f\n \t%\\*@#='\"1a\xff:/-");
                 let before = std::mem::replace(&mut table[at], byte);
                 Compared::of_kind(&table, kind.number()).everything(&mut random);
                 table[at] = before;

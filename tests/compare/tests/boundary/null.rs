@@ -75,14 +75,16 @@ fn no_buffer_for(table: Table) {
 #[test]
 fn no_buffer_for_a_text() {
     // With nothing to write there is nothing to write to.
-    let rows: [(&[u8], Answer); 7] = [
-        (b"#", Ok(0)),
+    let rows: [(&[u8], Answer); 9] = [
+        (b"#\n", Ok(0)),
         (b"\n \n", Ok(0)),
-        (b"a=", TOO_SHORT),
-        (b"@reboot a", TOO_SHORT),
+        (b"a=\n", TOO_SHORT),
+        (b"@reboot a\n", TOO_SHORT),
         (b"* * * * * a\n", TOO_SHORT),
         (b"a", Err(11)),
         (b"# a\0", Err(3)),
+        (b"#", Err(26)),
+        (b"#\r\n", Err(27)),
     ];
     for_each_empty(|empty| {
         for (table, answer) in rows {
@@ -118,7 +120,7 @@ fn no_records_and_no_buffer_for_their_text() {
 #[test]
 fn no_room() {
     // An entry in both kinds.
-    let entry = Guarded::read_only(b"@reboot a b");
+    let entry = Guarded::read_only(b"@reboot a b\n");
     let entry = Place::of(&entry).table();
     let least = Case::of(b"").least;
     for_each_empty(|empty| {

@@ -31,7 +31,7 @@ fn short_commands_into_all_buffers() {
         let kind = any_kind(&mut random);
         let length = 1 + random.below(14) as usize;
         let start = of_kind("@daily ~", kind);
-        let table = [start.as_bytes(), &command(&mut random, length)].concat();
+        let table = [start.as_bytes(), &command(&mut random, length), b"\n"].concat();
         let compared = Compared::of_kind(&table, kind.number());
         split_into_every(&compared, 0, length, 2);
     }
@@ -52,7 +52,7 @@ fn long_commands_into_buffers_about_the_needed_length() {
             command[random.below(length as u64) as usize] = random.pick(b"%\\");
         }
         let line = [start.as_bytes(), &command].concat();
-        let table = [&line[..], b"@daily a b", &line].join(&b'\n');
+        let table = [&line[..], b"@daily a b", &line, b""].join(&b'\n');
         let compared = Compared::of_kind(&table, kind.number());
         for entry in [0, 2] {
             split_into_every(&compared, entry, 2, 2);

@@ -103,7 +103,7 @@ fn who_is_fixed() {
     ];
     for (fields, is_fixed) in rows {
         for kind in Kind::BOTH {
-            let table = of_kind(&format!(" \t{fields} ~a"), kind);
+            let table = of_kind(&format!(" \t{fields} ~a\n"), kind);
             let case = Case::of_kind(table.as_bytes(), kind.number());
             let mut line = marked(&case, Some(60));
             let answer = line.tick(&case, case.enough(), 181);

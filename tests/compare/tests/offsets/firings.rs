@@ -23,12 +23,12 @@ fn in_both_kinds(table: &str, test: impl Fn(&Compared)) {
 #[test]
 fn by_hand() {
     for (value, fields, minute, expected) in NEXT {
-        in_both_kinds(&format!("CRON_TZ={value}\n{fields} ~a"), |table| {
+        in_both_kinds(&format!("CRON_TZ={value}\n{fields} ~a\n"), |table| {
             assert_eq!(table.next(0, minute), expected, "{value} {fields} {minute}");
         });
     }
     for (value, fields, minute, expected) in DUE {
-        in_both_kinds(&format!("CRON_TZ={value}\n{fields} ~a"), |table| {
+        in_both_kinds(&format!("CRON_TZ={value}\n{fields} ~a\n"), |table| {
             assert_eq!(table.due(0, minute), expected, "{value} {fields} {minute}");
         });
     }

@@ -1,6 +1,7 @@
 //! Offsets in records: kind 4, which only this name has.
 
 use compare::records::Compared;
+use compare::samples::ended;
 use compare::table;
 use eremothyn::Answer;
 use second::random::Random;
@@ -45,7 +46,7 @@ fn tables_there_and_back() {
     let mut random = Random::seeded();
     for _ in 0..3_000 {
         let line = any_line(&mut random);
-        let alone = table::Compared::of(line.as_bytes()).there_and_back();
+        let alone = table::Compared::of(&ended(&line)).there_and_back();
         assert_eq!(alone[2..4], [4, 0], "{line}");
         let between = format!("@reboot a\n{line}\nTZ=x\n{line}\n@daily b\n");
         let records = table::Compared::of(between.as_bytes()).there_and_back();

@@ -52,7 +52,7 @@ fn every_call_is_refused() {
     }
 }
 
-/// The first line that is bad counts, and on it 2 and 3 come first, then 11.
+/// The first line that is bad counts, and on it 2, 3 and 27 come first, then 11; 26 comes last.
 #[test]
 fn the_order_on_a_line() {
     let long = |length: usize| format!("CRON_TZ={}", "x".repeat(length - "CRON_TZ=".len()));
@@ -62,6 +62,10 @@ fn the_order_on_a_line() {
         ("CRON_TZ=x\0".into(), [3, 1, 10]),
         ("\0CRON_TZ=x".into(), [3, 1, 1]),
         ("CRON_TZ=+05:30\0".into(), [3, 1, 15]),
+        ("CRON_TZ=x\r\n".into(), [27, 1, 10]),
+        ("CRON_TZ=+05:30\r\n".into(), [27, 1, 15]),
+        ("CRON_TZ=x".into(), [25, 1, 9]),
+        ("CRON_TZ=+05:30".into(), [26, 1, 15]),
         ("CRON_TZ='x".into(), [11, 1, 1]),
         ("  CRON_TZ='x' y".into(), [11, 1, 3]),
         ("CRON_TZ x=+05:30".into(), [11, 1, 1]),
@@ -73,7 +77,7 @@ fn the_order_on_a_line() {
     }
     // 12 has nothing to do with settings.
     let full = "@reboot u a\n".repeat(512);
-    assert_eq!(fault(format!("{full}CRON_TZ=+05:30").as_bytes()), None);
+    assert_eq!(fault(format!("{full}CRON_TZ=+05:30\n").as_bytes()), None);
     let bad = format!("{full} CRON_TZ = x");
     assert_eq!(fault(bad.as_bytes()), Some([25, 513, 12]));
     let more = format!("{full}@reboot u a\nCRON_TZ=x");
@@ -86,7 +90,7 @@ fn every_value_of_the_form() {
     for hours in 0..100 {
         for minutes in 0..100 {
             for (sign, most) in [('+', 14), ('-', 12)] {
-                let line = format!("CRON_TZ={sign}{hours:02}:{minutes:02}");
+                let line = format!("CRON_TZ={sign}{hours:02}:{minutes:02}\n");
                 let is_good = minutes < 60 && (hours < most || hours == most && minutes == 0);
                 let expected = if is_good { None } else { Some([25, 1, 9]) };
                 assert_eq!(fault(line.as_bytes()), expected, "{line}");
@@ -140,9 +144,9 @@ fn only_this_name_is_special() {
             let mut name = b"CRON_TZ".to_vec();
             name[at] = byte;
             for line in [
-                [&name[..], b"=Japan"].concat(),
-                [b"'", &name[..], b"'=Japan"].concat(),
-                [&name[..at], b"=Japan"].concat(),
+                [&name[..], b"=Japan\n"].concat(),
+                [b"'", &name[..], b"'=Japan\n"].concat(),
+                [&name[..at], b"=Japan\n"].concat(),
             ] {
                 let _ = fault(&line);
             }

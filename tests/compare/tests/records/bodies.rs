@@ -128,7 +128,7 @@ fn any_sets() {
 fn every_byte_of_every_text() {
     let timed = &with_set(0, 1, false)[..20];
     for byte in 0..=255 {
-        let is_in_line = byte != 0 && byte != b'\n';
+        let is_in_line = !matches!(byte, 0..=8 | 10..=31 | 127);
         let starts = is_in_line && byte != b' ' && byte != b'\t';
         for (text, is_command) in [
             (&[byte][..], starts),

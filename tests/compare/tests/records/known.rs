@@ -1,17 +1,19 @@
 //! Records written by hand, from the ticket's words.
 
 use compare::records::Compared;
+use compare::samples::ended;
 use compare::table;
 use eremothyn::{Records, Table};
 use second::table::records::known::{
     bad_entries, hex, LINES, NO_LINES, RECORDS, REFUSED, TABLE, TEXT,
 };
 
-fn compiled(table: &str) -> Vec<u8> {
-    table::Compared::of(table.as_bytes()).compile_into_all();
+fn compiled(text: &str) -> Vec<u8> {
+    let table = ended(text);
+    table::Compared::of(&table).compile_into_all();
     let mut records = [0; 2_000];
-    let length = Table::of(table.as_bytes()).compile(&mut records[..]);
-    records[..length.expect(table) as usize].to_vec()
+    let length = Table::of(&table).compile(&mut records[..]);
+    records[..length.expect(text) as usize].to_vec()
 }
 
 fn decompiled(records: &[u8]) -> Result<String, u64> {

@@ -18,7 +18,7 @@ fn equal_meanings_compile_to_equal_bytes() {
         let other = samples::respelled(&mut random, &items);
         let shown = other.escape_ascii();
         assert_eq!(Compared::of(&other).there_and_back(), records, "{shown}");
-        let lines = table.split(|&byte| byte == b'\n');
+        let lines = table.split_inclusive(|&byte| byte == b'\n');
         let apart = lines.map(|line| Compared::of(line).there_and_back());
         assert_eq!(apart.collect::<Vec<_>>().concat(), records, "{shown}");
     }
@@ -30,7 +30,7 @@ fn records_one_behind_the_other() {
     let mut random = Random::seeded();
     for _ in 0..3_000 {
         let tables = [(); 2].map(|_| samples::table(&mut random, 3));
-        let both = Compared::of(&tables.join(&b'\n')).there_and_back();
+        let both = Compared::of(&tables.concat()).there_and_back();
         let apart = tables.map(|table| Compared::of(&table).there_and_back());
         assert_eq!(apart.concat(), both);
     }

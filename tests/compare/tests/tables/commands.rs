@@ -25,7 +25,7 @@ fn texts(bytes: &[u8], most: u32) -> impl Iterator<Item = Vec<u8>> + '_ {
 fn percent_and_backslash_in_every_combination() {
     for text in texts(b"%\\ab ", 6) {
         for (start, kind) in [("@daily x", 0), ("@daily u:g x", 1)] {
-            let line = [start.as_bytes(), &text].concat();
+            let line = [start.as_bytes(), &text, b"\n"].concat();
             let table = Compared::of_kind(&line, kind);
             let _ = table.stdin_length(0);
             table.split_into_all(0);
@@ -76,7 +76,7 @@ fn known_commands() {
             Some("Happy Birthday!\nTime for lunch."),
         ),
         ("a  ", "a  ", None),
-        ("a\r", "a\r", None),
+        ("a\u{a0}", "a\u{a0}", None),
         ("a \t% b ", "a \t", Some(" b ")),
         ("a%", "a", Some("")),
         ("%", "", Some("")),
@@ -88,7 +88,7 @@ fn known_commands() {
     ];
     for (command, shell, input) in rows {
         for kind in Kind::BOTH {
-            let line = of_kind(&format!("* * * * * ~{command}"), kind);
+            let line = of_kind(&format!("* * * * * ~{command}\n"), kind);
             let table = Compared::of_kind(line.as_bytes(), kind.number());
             let length = input.map(|input| input.len() as u64);
             assert_eq!(table.stdin_length(0), Ok(length), "{line}");
@@ -105,20 +105,20 @@ fn known_commands() {
 
 #[test]
 fn no_input_needs_no_room_and_empty_input_neither() {
-    for (line, length) in [("@daily a", None), ("@daily a%", Some(0))] {
+    for (line, length) in [("@daily a\n", None), ("@daily a%\n", Some(0))] {
         let table = Compared::of(line.as_bytes());
         assert_eq!(table.stdin_length(0), Ok(length));
         assert_eq!(table.split_command(0, [1, 0]), Ok(1));
         assert_eq!(table.split_command(0, [0, 0]), Err(18));
     }
-    let table = Compared::of(b"@daily %a");
+    let table = Compared::of(b"@daily %a\n");
     assert_eq!(table.split_command(0, [0, 1]), Ok(0));
     assert_eq!(table.split_command(0, [9, 0]), Err(18));
 }
 
 #[test]
 fn too_short_comes_last() {
-    let table = Compared::of(b"@daily abc%def");
+    let table = Compared::of(b"@daily abc%def\n");
     assert_eq!(table.split_command(1, [0, 0]), Err(13));
     assert_eq!(table.split_command(0, [2, 3]), Err(18));
     assert_eq!(table.split_command(0, [3, 2]), Err(18));
@@ -146,7 +146,7 @@ fn a_command_starts_after_the_blanks_and_keeps_its_own() {
                 "%",
                 "=\"",
             ] {
-                let line = format!("{start}{blanks}{command}");
+                let line = format!("{start}{blanks}{command}\n");
                 let table = Compared::of_kind(line.as_bytes(), kind);
                 let shell = command.find('%').unwrap_or(command.len());
                 assert_eq!(

@@ -23,16 +23,16 @@ fn minutes_of_values(which: usize) -> Vec<u64> {
 fn with_field(which: usize, field: &str) -> String {
     let mut fields = ["*"; 5];
     fields[which] = field;
-    format!("{} a", fields.join(" "))
+    format!("{} a b\n", fields.join(" "))
 }
 
 /// The values of a field for which an entry is due, which are the same in tables of both kinds.
 fn values(which: usize, field: &str) -> Result<Vec<u64>, u64> {
-    let user = with_field(which, field);
-    let system = format!("{user} b");
+    // Good in both kinds, or in neither.
+    let table = with_field(which, field);
     let [user, system] = [
-        Compared::of(user.as_bytes()),
-        Compared::system(system.as_bytes()),
+        Compared::of(table.as_bytes()),
+        Compared::system(table.as_bytes()),
     ]
     .map(|table| due_values(which, &table));
     assert_eq!(user, system, "{field}");
@@ -232,7 +232,7 @@ fn names_with_one_byte_changed() {
                 for byte in (1..=255).filter(|byte| !b" \t\n".contains(byte)) {
                     let mut changed = name.to_vec();
                     changed[at] = byte;
-                    let line = [&b"* * * * "[..2 * own], &changed, b" * a"].concat();
+                    let line = [&b"* * * * "[..2 * own], &changed, b" * a\n"].concat();
                     let _ = Compared::of(&line).next(0, 0);
                 }
             }
@@ -245,7 +245,7 @@ fn words_with_one_byte_changed() {
     for word in samples::WORDS {
         let word = word.as_bytes();
         let judge = |changed: &[u8]| {
-            let line = [changed, b" a"].concat();
+            let line = [changed, b" a\n"].concat();
             let table = Compared::of(&line);
             let _ = table.next(0, 0);
             table.fault()
@@ -258,7 +258,11 @@ fn words_with_one_byte_changed() {
                 let mut changed = word.to_vec();
                 changed[at] = byte;
                 let longer = [&word[..at], &[byte], &word[at..]].concat();
-                if !b" \t\n".contains(&byte) {
+                if byte.is_ascii_control() && byte != b'\t' && byte != b'\n' {
+                    let fault = Some([27, 1, at as u64 + 1]);
+                    assert_eq!(judge(&changed), fault);
+                    assert_eq!(judge(&longer), fault);
+                } else if !b" \t\n".contains(&byte) {
                     let fault = (changed != word).then_some([10, 1, 1]);
                     assert_eq!(judge(&changed), fault);
                     assert_eq!(judge(&longer), Some([10, 1, 1]));
@@ -308,7 +312,7 @@ fn day_fields_together() {
     for day in days {
         for weekday in weekdays {
             for month in months {
-                let line = format!("0 0 {day} {month} {weekday} a");
+                let line = format!("0 0 {day} {month} {weekday} a\n");
                 let table = Compared::of(line.as_bytes());
                 for start in [0, 14_000_000, 66_000_000] {
                     let mut minute = start;

@@ -1,5 +1,6 @@
 //! Known tables: the paper's known days, the examples of the documents, and what other crons get wrong.
 
+use compare::samples::ended;
 use compare::table::Compared;
 use second::calendar::LAST_MINUTE;
 use second::random::Random;
@@ -7,7 +8,7 @@ use second::table::documents;
 
 /// The next firing of a user table's first entry.
 fn next(table: &str, minute: u64) -> Result<u64, u64> {
-    Compared::of(table.as_bytes()).next(0, minute)
+    Compared::of(&ended(table)).next(0, minute)
 }
 
 /// Every call, with the table as one of either kind.
@@ -41,7 +42,7 @@ fn known_days() {
     }
     for (fields, minute, expected) in documents::KNOWN_DAYS {
         assert_eq!(next(&format!("{fields} a"), minute), expected, "{fields}");
-        let line = format!("{fields} u:g/l a");
+        let line = format!("{fields} u:g/l a\n");
         let system = Compared::system(line.as_bytes());
         assert_eq!(system.next(0, minute), expected, "{line}");
     }
@@ -67,7 +68,7 @@ fn due_is_no_for_reboot_and_refused_off_the_calendar() {
 #[test]
 fn numbers_of_entries_and_lines_are_never_cut_short() {
     for kind in [0, 1] {
-        never_cut_short(&Compared::of_kind(b"a=b\n* * * * * u c%d\ne=f", kind));
+        never_cut_short(&Compared::of_kind(b"a=b\n* * * * * u c%d\ne=f\n", kind));
     }
 }
 
@@ -156,8 +157,9 @@ fn the_documents_tables() {
         .map(|(line, _)| *line)
         .chain(documents::SETTINGS.iter().map(|(line, ..)| *line))
         .collect();
-    for table in [lines.join("\n"), documents::VIXIE.into()] {
-        let compared = Compared::of(table.as_bytes());
+    for table in [&lines.join("\n"), documents::VIXIE] {
+        let table = ended(table);
+        let compared = Compared::of(&table);
         assert_eq!(compared.fault(), None);
         compared.everything(&mut Random::new(4));
     }
@@ -170,12 +172,12 @@ fn tables_with_nothing_in_them() {
         b"",
         b"\n",
         b"\n\n\n",
-        b" ",
-        b"\t \n ",
-        b"#",
+        b" \n",
+        b"\t \n \n",
+        b"#\n",
         b"#\n#\n",
-        b"# a=b\n# * * * * * a",
-        b" \t#\n\t",
+        b"# a=b\n# * * * * * a\n",
+        b" \t#\n\t\n",
     ];
     for table in tables {
         let compared = Compared::of(table);
@@ -187,13 +189,13 @@ fn tables_with_nothing_in_them() {
 }
 
 #[test]
-fn a_last_line_counts_without_its_newline() {
+fn a_last_line_is_judged_without_its_newline() {
     /// A table, its count of entries, and its fault.
     type Row = (&'static [u8], u64, Option<[u64; 3]>);
     let rows: [Row; 8] = [
-        (b"* * * * * a", 1, None),
+        (b"* * * * * a", 0, Some([26, 1, 12])),
         (b"* * * * * a\n", 1, None),
-        (b"* * * * * a\n* * * * * b", 2, None),
+        (b"* * * * * a\n* * * * * b", 0, Some([26, 2, 12])),
         (b"* * * * * a\n\n", 1, None),
         (b"a=b\n* * * * *", 0, Some([9, 2, 10])),
         (b"a=b\n* * * * *\n", 0, Some([9, 2, 10])),
@@ -211,7 +213,7 @@ fn a_last_line_counts_without_its_newline() {
 #[test]
 fn slips_of_other_crons() {
     // Steps are no divisibility: months 1, 3, 5.
-    let months = Compared::of(b"0 0 1 */2 * a");
+    let months = Compared::of(b"0 0 1 */2 * a\n");
     assert_eq!(months.next(0, 0), Ok(59 * 1_440));
     assert_eq!(months.due(0, 0), Ok(1));
     assert_eq!(months.due(0, 31 * 1_440), Ok(0));
@@ -220,7 +222,7 @@ fn slips_of_other_crons() {
     assert_eq!(next("0 0 3-7/2 * * a", 2 * 1_440), Ok(4 * 1_440));
     // 7 in a range is Sunday, 4 January.
     for field in ["5-7", "7", "0", "6-7", "1-7/6", "*/7", "7-7", "sun", "1,7"] {
-        let table = format!("0 0 * * {field} a");
+        let table = format!("0 0 * * {field} a\n");
         let compared = Compared::of(table.as_bytes());
         assert_eq!(compared.due(0, 3 * 1_440), Ok(1), "{field}");
         assert_eq!(compared.due(0, 10 * 1_440), Ok(1), "{field}");
@@ -229,7 +231,7 @@ fn slips_of_other_crons() {
     assert_eq!(next("0 0 30 2 * a", 0), Err(16));
     assert_eq!(next("0 0 29 2 * a", 66_355_200), Ok(70_561_440));
     // `\\%` is a pair and then the end of the shell line.
-    let pair = Compared::of(br"@hourly a\\%b");
+    let pair = Compared::of(b"@hourly a\\\\%b\n");
     assert_eq!(pair.stdin_length(0), Ok(Some(1)));
     assert_eq!(pair.split_command(0, [3, 1]), Ok(3));
     // Numbers don't wrap.
@@ -239,7 +241,7 @@ fn slips_of_other_crons() {
         assert_eq!(fault, Some([expected, 1, 1]), "{number}");
     }
     // The month always counts: Mondays of February, and the 1st.
-    let february = Compared::of(b"0 0 1 2 1 a");
+    let february = Compared::of(b"0 0 1 2 1 a\n");
     assert_eq!(february.due(0, 4 * 1_440), Ok(0));
     assert_eq!(february.next(0, 0), Ok(31 * 1_440));
     assert_eq!(february.next(0, 31 * 1_440), Ok(32 * 1_440));
@@ -253,7 +255,7 @@ fn slips_of_other_crons() {
 
 #[test]
 fn bytes_that_are_no_blanks() {
-    // CR, form feed, vertical tab, a no-break space and others belong to the word they stand in.
+    // A no-break space and others belong to the word they stand in; CR, form feed and vertical tab are 27.
     for byte in (1..=255_u8).filter(|byte| !b" \t\n#".contains(byte)) {
         let with = |text: &str| -> Vec<u8> {
             let replaced = text.bytes().map(|of| if of == b'~' { byte } else { of });

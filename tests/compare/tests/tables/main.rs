@@ -1,6 +1,7 @@
 //! The calls that say what a table means, against the second program.
 
 mod commands;
+mod cuts;
 mod fields;
 mod known;
 mod normal;

@@ -1,5 +1,6 @@
 //! Tables written back in their normal form (ticket 2026-06).
 
+use compare::samples::ended;
 use compare::table::Compared;
 use eremothyn::{Answer, Table};
 use guard::Guarded;
@@ -29,7 +30,7 @@ fn written_by_law(table: &[u8]) -> Vec<u8> {
     let text = written(table).unwrap_or_else(|refusal| panic!("{refusal}: {shown}"));
     assert_eq!(meaning(&text), meaning(table), "{shown}");
     assert_eq!(written(&text).as_ref(), Ok(&text), "{shown}");
-    let lines = table.split(|&byte| byte == b'\n');
+    let lines = table.split_inclusive(|&byte| byte == b'\n');
     let apart: Vec<Vec<u8>> = lines.map(|line| written(line).expect("a line")).collect();
     assert_eq!(apart.concat(), text, "{shown}");
     let _ = Compared::of(table).there_and_back();
@@ -68,7 +69,7 @@ fn known_texts() {
         ),
     ];
     for (table, expected) in rows {
-        let text = written_by_law(table.as_bytes());
+        let text = written_by_law(&ended(table));
         assert_eq!(
             text.escape_ascii().to_string(),
             expected.as_bytes().escape_ascii().to_string()
@@ -82,15 +83,16 @@ fn the_documents_tables() {
     let settings = documents::SETTINGS.iter().map(|(line, ..)| *line);
     let mut good = Vec::new();
     for line in entries.chain(settings) {
-        match Compared::of(line.as_bytes()).fault() {
+        let table = ended(line);
+        match Compared::of(&table).fault() {
             None => {
-                let _ = written_by_law(line.as_bytes());
+                let _ = written_by_law(&table);
                 good.push(line);
             }
-            Some([number, ..]) => assert_eq!(written(line.as_bytes()), Err(number)),
+            Some([number, ..]) => assert_eq!(written(&table), Err(number)),
         }
     }
-    let _ = written_by_law(good.join("\n# and\n").as_bytes());
+    let _ = written_by_law(&ended(good.join("\n# and\n")));
     let normal = "SHELL=/bin/sh\n\
         MAILTO=paul\n\
         5 0 * * * $HOME/bin/daily.job >> $HOME/tmp/out 2>&1\n\
@@ -193,8 +195,9 @@ fn short_lines_of_the_bytes_that_settings_are_made_of() {
         let longer = |line: &Vec<u8>| bytes.map(|byte| [&line[..], &[byte]].concat());
         lines = lines.iter().flat_map(longer).collect();
         for line in &lines {
-            if let Ok(text) = written(line) {
-                assert_eq!(meaning(&text), meaning(line), "{}", line.escape_ascii());
+            let table = ended(line);
+            if let Ok(text) = written(&table) {
+                assert_eq!(meaning(&text), meaning(&table), "{}", line.escape_ascii());
                 settings += u32::from(!text.is_empty());
             }
         }
@@ -216,9 +219,9 @@ fn every_byte_in_a_name_and_in_a_value() {
             for quote in [&b""[..], b"\"", b"'"] {
                 let quoted = [quote, &text, quote].concat();
                 for line in [
-                    [&quoted[..], b"=v"].concat(),
-                    [b"n=", &quoted[..]].concat(),
-                    [b"* * * * * ", &quoted[..]].concat(),
+                    [&quoted[..], b"=v\n"].concat(),
+                    [b"n=", &quoted[..], b"\n"].concat(),
+                    [b"* * * * * ", &quoted[..], b"\n"].concat(),
                 ] {
                     if Compared::of(&line).fault().is_none() {
                         let _ = written_by_law(&line);
@@ -273,8 +276,9 @@ fn what_differs_in_meaning_differs_in_its_text() {
         ("A=", "A=\"'\""),
     ];
     for (one, other) in rows {
-        assert_ne!(meaning(one.as_bytes()), meaning(other.as_bytes()));
-        let [one, other] = [one, other].map(|table| written_by_law(table.as_bytes()));
+        let [one, other] = [one, other].map(ended);
+        assert_ne!(meaning(&one), meaning(&other));
+        let [one, other] = [one, other].map(|table| written_by_law(&table));
         assert_ne!(one, other);
     }
 }
@@ -290,7 +294,7 @@ fn lines_about_as_long_as_may_be() {
                 continue;
             };
             lines += 1;
-            for (before, behind) in [("", ""), ("", "\n"), ("A = b\n#\n", "\n@daily c\n")] {
+            for (before, behind) in [("", "\n"), ("\n", "\n\n"), ("A = b\n#\n", "\n@daily c\n")] {
                 let table = [before.as_bytes(), &line, behind.as_bytes()].concat();
                 let compared = Compared::of(&table);
                 compared.normal_form_into_all();
@@ -303,7 +307,7 @@ fn lines_about_as_long_as_may_be() {
                     expected(Ok(text.len() as u64))
                 );
                 assert_eq!(compared.normal_form(text.len() - 1), expected(TOO_SHORT));
-                let bad = [&table[..], b"\n\n60"].concat();
+                let bad = [&table[..], b"\n60"].concat();
                 let bad = Compared::of(&bad);
                 assert_eq!(bad.normal_form(0), Err(6));
                 assert_eq!(bad.normal_form(TABLE_BYTES), Err(6));
@@ -331,7 +335,8 @@ fn every_word_and_every_set_at_the_limit_of_a_line() {
                 "{start}{}",
                 "a".repeat(LINE_BYTES - start.len() - grown + over)
             );
-            let compared = Compared::of(line.as_bytes());
+            let table = ended(line);
+            let compared = Compared::of(&table);
             let expected = match over {
                 0 => Ok(LINE_BYTES as u64 + 1),
                 _ => TOO_LONG,
@@ -351,7 +356,7 @@ fn every_word_and_every_set_at_the_limit_of_a_line() {
             "{start}{}{end}",
             "b".repeat(LINE_BYTES - start.len() - end.len())
         );
-        let _ = written_by_law(line.as_bytes());
+        let _ = written_by_law(&ended(line));
     }
 }
 
@@ -380,21 +385,18 @@ fn tables_about_as_long_as_may_be() {
     }
 }
 
-/// A last line gets its newline, for which there may be no room.
+/// A last line without its newline is refused before the text's length is looked at.
 #[test]
-fn the_last_newline_counts() {
-    for (length, expected) in [
-        (TABLE_BYTES - 1, Ok(TABLE_BYTES as u64)),
-        (TABLE_BYTES, TOO_LONG),
-    ] {
+fn a_cut_table_has_no_text() {
+    for length in [TABLE_BYTES - 1, TABLE_BYTES] {
         let lines = "A=b\n".repeat(length / 4 - 2);
         let value = "c".repeat(length - lines.len() - 2);
         let table = format!("{lines}A={value}");
-        let compared = Compared::of(table.as_bytes());
-        assert_eq!(compared.normal_form(TABLE_BYTES), expected);
-        assert_eq!(compared.normal_form(TABLE_BYTES + 1), expected);
-        compared.normal_form_into_all();
+        assert_eq!(written(table.as_bytes()), Err(26));
     }
+    let long = format!("0-59 * * * * {}", "a".repeat(LINE_BYTES - 20));
+    assert_eq!(written(long.as_bytes()), Err(26));
+    assert_eq!(written(&ended(long)), TOO_LONG.map(|_| Vec::new()));
 }
 
 /// As many entries as may be, and as many lines.

@@ -1,6 +1,6 @@
 //! Random tables of both kinds: good ones, ones with a bad line, and large ones.
 
-use compare::samples::{any_kind, kind_number};
+use compare::samples::{any_kind, ended, kind_number};
 use compare::table::Compared;
 use second::random::Random;
 use second::table::{samples, Kind, ENTRIES, TABLE_BYTES};
@@ -19,6 +19,25 @@ fn good_tables() {
         // The same bytes read as a table of the other kind.
         let other = kind_number(&mut random, kind.other());
         Compared::of_kind(&table, other).everything(&mut random);
+    }
+}
+
+/// 26, at the last line and behind its last byte; of a table that has another fault, that one.
+#[test]
+fn cut_tables() {
+    let mut random = Random::seeded();
+    for kind in Kind::BOTH.repeat(SAMPLES) {
+        let lines = 1 + random.below(5);
+        let table = samples::cut_table(&mut random, kind, lines);
+        let last = table.rsplit(|&byte| byte == b'\n').next();
+        let column = last.map_or(0, <[u8]>::len) as u64 + 1;
+        let number = kind_number(&mut random, kind);
+        let compared = Compared::of_kind(&table, number);
+        assert_eq!(compared.fault(), Some([26, lines, column]));
+        compared.everything(&mut random);
+        // Cut anywhere else.
+        let length = random.below(table.len() as u64) as usize;
+        Compared::of_kind(&table[..length], number).everything(&mut random);
     }
 }
 
@@ -60,7 +79,7 @@ fn large_tables() {
         };
         while table.len() < length {
             let line = samples::line(&mut random, kind);
-            let is_entry = Compared::of_kind(&line, number).check() == Ok(1);
+            let is_entry = Compared::of_kind(&ended(&line), number).check() == Ok(1);
             if is_entry && entries == most {
                 table.extend(b"# no entry\n");
                 continue;

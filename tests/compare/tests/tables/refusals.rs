@@ -124,7 +124,7 @@ const UNKNOWN_WORDS: [&str; 9] = [
     "@reboot%x",
     "@@",
     "@1",
-    "@daily\r",
+    "@daily\u{a0}",
 ];
 
 const BAD_SETTINGS: [&str; 26] = [
@@ -152,13 +152,13 @@ const BAD_SETTINGS: [&str; 26] = [
     "a=\"\" #",
     "mon",
     "-5 * * * * a",
-    "\r",
+    "\u{a0}",
     "$ * * * * a",
 ];
 
 const BAD_COLUMNS: [&str; 24] = [
     ":", "/", "-", "a:", "a/", ":a", "/a", "a::b", "a//b", "a:b:c", "a/b/c", "a/c:b", "a:b/c:d",
-    "a:/c", "a:b/", "-a", "a:-b", "a/-c", "a:b/-", "a%b", "a\r", "a=b", "\"a\"", "#a",
+    "a:/c", "a:b/", "-a", "a:-b", "a/-c", "a:b/-", "a%b", "a\u{a0}", "a=b", "\"a\"", "#a",
 ];
 
 /// Bad user columns, at every length of time before them, with a command behind them or none.
@@ -233,6 +233,15 @@ fn other_bad_lines() -> Vec<Bad> {
         (b"a\0b".to_vec(), 3, 2),
         (b"* * * * * a\0".to_vec(), 3, 12),
         (b"@x \0".to_vec(), 3, 4),
+        (b"\x01".to_vec(), 27, 1),
+        (b"#\x7f".to_vec(), 27, 2),
+        (b" \t\r".to_vec(), 27, 3),
+        (b"60 60\x1f\x08".to_vec(), 27, 6),
+        (b"a\x0bb\x0c".to_vec(), 27, 2),
+        (b"* * * * * a\r".to_vec(), 27, 12),
+        (b"@x \x1b".to_vec(), 27, 4),
+        (b"\x01#\0".to_vec(), 3, 3),
+        (b"#\0\x01".to_vec(), 3, 2),
     ];
     for fields in 1..5 {
         for (blanks, end) in [(" ", ""), ("\t", "\t"), (" \t ", "  ")] {
@@ -431,7 +440,6 @@ fn one_entry_too_many_of(kind: Kind) {
         let lines = entry.matches('\n').count() as u64 * ENTRIES as u64;
         let table = entry.repeat(ENTRIES);
         good(kind, table.as_bytes(), ENTRIES as u64);
-        good(kind, table.trim_end().as_bytes(), ENTRIES as u64);
         for (line, fault) in &rows {
             let line = of_kind(line, kind);
             for end in ["", "\n", "\n60\n", "\n\0"] {
@@ -440,7 +448,17 @@ fn one_entry_too_many_of(kind: Kind) {
                     Some([number, column]) => {
                         refused(kind, table.as_bytes(), [number, lines + 1, column]);
                     }
-                    None if end.len() < 2 => good(kind, table.as_bytes(), ENTRIES as u64),
+                    None if end == "\n" => good(kind, table.as_bytes(), ENTRIES as u64),
+                    None if end.is_empty() && line.is_empty() => {
+                        good(kind, table.as_bytes(), ENTRIES as u64);
+                    }
+                    None if end.is_empty() => {
+                        refused(
+                            kind,
+                            table.as_bytes(),
+                            [26, lines + 1, line.len() as u64 + 1],
+                        );
+                    }
                     None => {
                         let next = lines + 2;
                         let number = if end == "\n60\n" { 6 } else { 3 };

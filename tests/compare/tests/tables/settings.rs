@@ -38,14 +38,13 @@ fn known_settings() {
         ("'#'=#", (1, "#"), (4, "#")),
         ("'5 * * * *'=a", (1, "5 * * * *"), (12, "a")),
         ("-5=*", (0, "-5"), (3, "*")),
-        ("A\r=b\r", (0, "A\r"), (3, "b\r")),
-        ("A=b\u{b}\u{c} ", (0, "A"), (2, "b\u{b}\u{c}")),
+        ("A\u{a0}=b\u{a0}", (0, "A\u{a0}"), (4, "b\u{a0}")),
         ("é=ü", (0, "é"), (3, "ü")),
         ("%=\\%", (0, "%"), (2, "\\%")),
     ];
     for (line, name, value) in rows {
         for before in ["", "\n", "#\n@daily a b\n  \nC=d\n"] {
-            for end in ["", "\n", "\nE=f", "\n* * * * * g h\n"] {
+            for end in ["\n", "\n\n", "\nE=f\n", "\n* * * * * g h\n"] {
                 let table = format!("{before}{line}{end}");
                 let number = before.matches('\n').count() as u64 + 1;
                 let later = |(at, text)| (before.len() + at, text);
@@ -58,7 +57,7 @@ fn known_settings() {
 
 #[test]
 fn lines_that_are_no_settings() {
-    let table = "A=b\n# C=d\n\n* * * * * e E=f\n@daily g G=h\n \t\nI=j";
+    let table = "A=b\n# C=d\n\n* * * * * e E=f\n@daily g G=h\n \t\nI=j\n";
     let is_setting = |line: u64| shown(table, line).is_ok();
     let found: Vec<u64> = (0..20).filter(|&line| is_setting(line)).collect();
     assert_eq!(found, [1, 7]);
@@ -79,7 +78,7 @@ fn lines_that_are_no_settings() {
     }
     // Behind the last newline is no line, and in front of it an empty one.
     assert_eq!(shown("A=b\n", 2), Err(19));
-    assert_eq!(shown("\nA=b", 1), Err(19));
+    assert_eq!(shown("\nA=b\n", 1), Err(19));
 }
 
 #[test]
@@ -87,6 +86,8 @@ fn a_refused_table_has_no_settings() {
     for line in 0..5 {
         assert_eq!(shown("A=b\n60\nC=d", line), Err(6));
         assert_eq!(shown("A=b\nC", line), Err(11));
+        assert_eq!(shown("A=b\nC=d", line), Err(26));
+        assert_eq!(shown("A=b\r\nC=d\r\n", line), Err(27));
     }
 }
 

@@ -1,5 +1,6 @@
 //! System tables: the user column, its parts as they are shown, and which kind a number means.
 
+use compare::samples::ended;
 use compare::table::Compared;
 use second::random::Random;
 use second::table::{samples, Kind, ENTRIES, NAME_BYTES, TABLE_BYTES};
@@ -58,7 +59,7 @@ fn judge(column: &[u8]) {
         let line = [time.as_bytes(), column].concat();
         let malformed = [20, 1, time.len() as u64 + 1];
         let expected = meant(column).ok_or(malformed);
-        let found = shown(&[&line[..], b" c"].concat());
+        let found = shown(&[&line[..], b" c\n"].concat());
         assert_eq!(found, expected, "{}", line.escape_ascii());
         let no_command = [9, 1, line.len() as u64 + 1];
         let fault = expected.map_or(malformed, |_| no_command);
@@ -73,7 +74,7 @@ fn every_byte_at_every_place_of_a_column() {
     let blank = |byte: &u8| b" \t\n".contains(byte);
     for column in columns {
         judge(column);
-        for byte in (1..=255).filter(|byte| !blank(byte)) {
+        for byte in (1..=255).filter(|byte| !blank(byte) && !byte.is_ascii_control()) {
             for at in 0..=column.len() {
                 let mut longer = column.to_vec();
                 longer.insert(at, byte);
@@ -92,7 +93,7 @@ fn every_byte_at_every_place_of_a_column() {
 #[test]
 fn blanks_zeros_and_newlines_in_a_column() {
     for blank in [" ", "\t"] {
-        let line = format!("* * * * * ab{blank}cd:e f");
+        let line = format!("* * * * * ab{blank}cd:e f\n");
         assert_eq!(
             shown(line.as_bytes()),
             Ok([b"ab".to_vec(), Vec::new(), Vec::new()])
@@ -175,7 +176,8 @@ fn a_bad_column_comes_after_the_time_and_before_the_command() {
         ] {
             for end in ["", " ", "\t\t", " c", " -", " % ", "\tu/l:g"] {
                 let line = format!("{time}{column}{end}");
-                let compared = Compared::system(line.as_bytes());
+                let table = ended(&line);
+                let compared = Compared::system(&table);
                 // Without a column, what ends the line stands in its place.
                 let bad = malformed || column.is_empty() && [" -", " % ", "\tu/l:g"].contains(&end);
                 let place = time.len() + 2;
@@ -212,7 +214,7 @@ fn parts_are_places_in_the_table() {
                 ("1\t2 3  4 5", "\t \t"),
                 ("@daily", "  "),
             ] {
-                for end in ["", "\n", "\n* * * * * last:one/here a%b\n"] {
+                for end in ["\n", "\n\n", "\n* * * * * last:one/here a%b\n"] {
                     let start = format!("{before}{indent}{time}{blanks}");
                     let table = format!("{start}ab:cde/fghi\tc{end}");
                     let compared = Compared::system(table.as_bytes());
@@ -283,8 +285,8 @@ fn the_column_of_each_entry_is_its_own() {
 #[test]
 fn every_number_is_a_kind() {
     let tables: [&[u8]; 7] = [
-        b"* * * * * a",
-        b"* * * * * a b",
+        b"* * * * * a\n",
+        b"* * * * * a b\n",
         b"@reboot u:g/l c%d\nA = b\n",
         b"@daily -x y\n",
         b"A=b\n",
@@ -303,9 +305,9 @@ fn every_number_is_a_kind() {
         assert_eq!(user, Compared::of(table).fault());
     }
     // The two do differ.
-    assert_eq!(Compared::of(b"* * * * * a").fault(), None);
+    assert_eq!(Compared::of(b"* * * * * a\n").fault(), None);
     for kind in system_kinds() {
-        let fault = Compared::of_kind(b"* * * * * a", kind).fault();
+        let fault = Compared::of_kind(b"* * * * * a\n", kind).fault();
         assert_eq!(fault, Some([9, 1, 12]));
     }
 }

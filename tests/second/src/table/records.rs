@@ -9,7 +9,7 @@ pub mod samples;
 
 use super::normal::{item, laid, meaning, text, within_limits, Item};
 use super::offset::CRON_TZ;
-use super::{When, ENTRIES, TOO_MANY_ENTRIES};
+use super::{is_control, When, ENTRIES, TOO_MANY_ENTRIES};
 use crate::answer::Answer;
 use crate::schedule::Schedule;
 
@@ -111,7 +111,7 @@ fn line(whole: &[u8]) -> Result<Option<Vec<u8>>, u64> {
         _ => return Err(UNKNOWN),
     };
     let means_it = |line: &Vec<u8>| {
-        let is_line = !line.contains(&b'\n') && !line.contains(&0);
+        let is_line = !line.iter().any(|&byte| is_control(byte));
         is_line && item(line).is_some_and(|read| record(&read) == whole)
     };
     let line = guess.and_then(|guess| guess.written()).filter(means_it);

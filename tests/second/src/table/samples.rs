@@ -39,8 +39,8 @@ pub(super) const IGNORED: [&[u8]; 8] = [
     b"#",
     b"# run five minutes after midnight, every day",
     b"  \t# 60 60 60 60 60",
-    b"#@unknown\r",
-    b"#\xff\x80\x01",
+    b"#@unknown\t",
+    b"#\xff\x80\x9f~",
 ];
 
 const SETTINGS: [&[u8]; 19] = [
@@ -59,9 +59,9 @@ const SETTINGS: [&[u8]; 19] = [
     b"a=b'c'd",
     b"#=1",
     b"-=-",
-    b"a\r=\r",
+    b"a\x80=\x80",
     b"\xe9t\xe9\t=\tno\xebl",
-    b"\x0b=\x0c",
+    b"\xa0=\x9f",
     b"%=\\%",
 ];
 
@@ -79,8 +79,8 @@ const COMMANDS: [&[u8]; 18] = [
     b"\\%",
     b"\\\\%",
     b"a \t ",
-    b"a\r",
-    b"\xff\x80\x01%\x7f",
+    b"a\xa0",
+    b"\xff\x80\x9f%~",
     b"= '\"",
     b"# no comment",
     b"* * * * * * @daily",
@@ -94,8 +94,8 @@ const UNKNOWN_WORDS: [&str; 9] = [
     "@every_minute",
     "@reboot%x",
     "@@daily",
-    "@\x01",
-    "@daily\r",
+    "@~",
+    "@daily\u{a0}",
 ];
 
 const BAD_SETTINGS: [&[u8]; 16] = [
@@ -114,7 +114,7 @@ const BAD_SETTINGS: [&[u8]; 16] = [
     b"a=\"b'",
     b"a=\"b\"c",
     b"a='b' #",
-    b"\r",
+    b"\xa0",
 ];
 
 const BAD_FORMS: [&str; 33] = [
@@ -146,7 +146,7 @@ const BAD_FORMS: [&str; 33] = [
     "mon/2",
     "*/mon",
     "5-6/x",
-    "5\r",
+    "5\u{a0}",
     "+5",
     "*-5",
     "*/-1",
@@ -158,7 +158,7 @@ const NAME_STARTS: &[u8] = b"abcxyzABCXYZ0189_.";
 const NAME_REST: &[u8] = b"abcxyzABCXYZ0189_.--";
 
 /// No name has these, of which many stand beside those that it has.
-const NO_NAME: &[u8] = b"!\"#$%&'()*+,;<=>?@[\\]^`{|}~\x01\x0b\x0c\r\x1f\x7f\x80\xaa\xc3\xe9\xff";
+const NO_NAME: &[u8] = b"!\"#$%&'()*+,;<=>?@[\\]^`{|}~\x80\xaa\xc3\xe9\xff";
 
 const BAD_USER_COLUMNS: [&str; 29] = [
     ":",
@@ -196,13 +196,24 @@ const BAD_USER_COLUMNS: [&str; 29] = [
 const BYTES: &[u8] =
     b"   \t\t\n\n\n\r\0%%\\\\\"'=#**@,,--//::0123456789+.abcJANsunFri_\x01\x0b\x0c\x7f\x80\xff";
 
-/// A good table of so many lines, with a newline at its end or without.
+/// What no line has, but for byte 0.
+const CONTROL_BYTES: &[u8] =
+    b"\x01\x02\x03\x04\x05\x06\x07\x08\x0b\x0c\r\r\r\x0e\x0f\x10\x11\x12\x13\x14\x15\x16\x17\x18\x19\x1a\x1b\x1c\x1d\x1e\x1f\x7f";
+
+/// A good table of so many lines.
 pub fn table(random: &mut Random, kind: Kind, lines: u64) -> Vec<u8> {
-    let lines: Vec<Vec<u8>> = (0..lines).map(|_| line(random, kind)).collect();
-    let mut bytes = lines.join(&b'\n');
-    if random.below(4) > 0 {
-        bytes.push(b'\n');
+    let ended = |_| [line(random, kind), b"\n".to_vec()].concat();
+    (0..lines).flat_map(ended).collect()
+}
+
+/// A table of so many lines that lacks its last newline and is good otherwise; its last line isn't empty.
+pub fn cut_table(random: &mut Random, kind: Kind, lines: u64) -> Vec<u8> {
+    let mut bytes = table(random, kind, lines - 1);
+    let mut last = line(random, kind);
+    if last.is_empty() {
+        last.push(b'#');
     }
+    bytes.extend(last);
     bytes
 }
 
@@ -399,9 +410,10 @@ fn command(random: &mut Random) -> Vec<u8> {
 pub type BadLine = (Vec<u8>, u64, u64);
 
 pub fn bad_line(random: &mut Random, kind: Kind) -> BadLine {
-    match random.below(10) {
+    match random.below(11) {
         0 => long_line(random, kind),
         1 => line_with_zero(random, kind),
+        10 => line_with_control(random, kind),
         2 => cut_line(random, kind, 4),
         3 => cut_line(random, kind, 9),
         4 => {
@@ -441,6 +453,21 @@ fn line_with_zero(random: &mut Random, kind: Kind) -> BadLine {
     let before = random.below(line.len() as u64 + 1);
     line.insert(before as usize, 0);
     (line, 3, before + 1)
+}
+
+/// A control byte somewhere, perhaps with others behind it; a byte 0, before it or behind, comes first.
+fn line_with_control(random: &mut Random, kind: Kind) -> BadLine {
+    let mut line = line(random, kind);
+    let before = random.below(line.len() as u64 + 1) as usize;
+    let behind = random.below((line.len() - before) as u64 + 1) as usize;
+    line.insert(before + behind, random.pick(CONTROL_BYTES));
+    line.insert(before, random.pick(CONTROL_BYTES));
+    if random.below(4) > 0 {
+        return (line, 27, before as u64 + 1);
+    }
+    let zero = random.below(line.len() as u64 + 1);
+    line.insert(zero as usize, 0);
+    (line, 3, zero + 1)
 }
 
 /// An entry that ends too early: with fewer than five fields (4), or without a command (9), perhaps after its user.
@@ -554,7 +581,7 @@ pub fn noise(random: &mut Random, length: u64) -> Vec<u8> {
 
 /// The schedule of an entry with these five fields.
 pub fn schedule_of(fields: &str) -> Schedule {
-    let line = format!("{fields} a");
+    let line = format!("{fields} a\n");
     let table = read(line.as_bytes(), Kind::User).expect("a good table");
     match table.entries[0].when {
         When::Times(schedule) => schedule,

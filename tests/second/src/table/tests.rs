@@ -5,7 +5,7 @@ use crate::random::Random;
 use std::iter;
 
 fn sets(fields: &str) -> Schedule {
-    let line = format!("{fields} a");
+    let line = format!("{fields} a\n");
     match read(line.as_bytes(), Kind::User).expect(fields).entries[..] {
         [Entry {
             when: When::Times(schedule),
@@ -79,16 +79,30 @@ fn refusals_have_their_places() {
         (String::new(), None),
         ("\n".repeat(TABLE_BYTES), None),
         ("\n".repeat(TABLE_BYTES + 1), fault(1, 0, 0)),
-        (long(1_000), None),
+        (long(1_000), fault(26, 1, 1_001)),
+        (long(1_000) + "\n", None),
         (long(1_001), fault(2, 1, 1_001)),
         ("# \0".into(), fault(3, 1, 3)),
+        // A last line without a newline, unless it has another fault; the empty table has no line.
+        ("A=b".into(), fault(26, 1, 4)),
+        ("A=b\n\n ".into(), fault(26, 3, 2)),
+        ("60\nA=b".into(), fault(6, 1, 1)),
+        ("A=b\n60".into(), fault(6, 2, 1)),
+        (entries(512) + "@reboot a", fault(12, 513, 1)),
+        (entries(511) + "@reboot a", fault(26, 512, 10)),
+        // Control bytes straight after byte 0, in comments too.
+        ("# \r\n".into(), fault(27, 1, 3)),
+        ("\x01\0\n".into(), fault(3, 1, 2)),
+        ("60\x7f".into(), fault(27, 1, 3)),
+        ("A=\u{80}\t\u{a0}~\n".into(), None),
+        ("\n\x1f".into(), fault(27, 2, 1)),
         ("5 5".into(), fault(4, 1, 4)),
         ("60 5".into(), fault(6, 1, 1)),
         ("5 5 ".into(), fault(4, 1, 5)),
         ("5/2 * * * * a".into(), fault(5, 1, 1)),
         ("*,5 * * * * a".into(), fault(5, 1, 1)),
-        ("0 0 * * mon-fri a".into(), None),
-        ("0 0 * jan,jul * a".into(), None),
+        ("0 0 * * mon-fri a\n".into(), None),
+        ("0 0 * jan,jul * a\n".into(), None),
         ("0 0 * * fri-mon a".into(), fault(7, 1, 9)),
         ("0 0 * * mon-0 a".into(), fault(7, 1, 9)),
         ("0 0 * * mon/2 a".into(), fault(5, 1, 9)),
@@ -164,7 +178,7 @@ fn system_entries_have_their_parts() {
 /// Where the parts of a column stand; an absent one is at 0, with length 0.
 #[test]
 fn parts_are_shown_by_their_places() {
-    let table = b"\n5 * * * * ab:c/def x\n\t@daily  a/b\tc\n@reboot a b";
+    let table = b"\n5 * * * * ab:c/def x\n\t@daily  a/b\tc\n@reboot a b\n";
     let system = Calls::of(table, Kind::System);
     assert_eq!(system.user_column(0), Ok([[11, 2], [14, 1], [16, 3]]));
     assert_eq!(system.user_column(1), Ok([[31, 1], [0, 0], [33, 1]]));
@@ -201,10 +215,10 @@ fn names_have_letters_digits_and_three_marks() {
                 of_a_name || byte == b'-',
             ),
         ] {
-            if b" \t\n".contains(&byte) {
+            if b" \t\n".contains(&byte) || byte.is_ascii_control() {
                 continue;
             }
-            let line = [b"@daily ", &column[..], b" x"].concat();
+            let line = [b"@daily ", &column[..], b" x\n"].concat();
             let expected = if is_good { None } else { fault(20, 1, 8) };
             let found = read(&line, Kind::System).err();
             assert_eq!(found, expected, "{}", line.escape_ascii());
@@ -237,7 +251,7 @@ fn settings_have_their_parts() {
         ("\"=\"=''", "=", ""),
     ];
     for (line, name, value) in rows.into_iter().chain(documents::SETTINGS) {
-        let text = format!("\n{line}\n# {line}");
+        let text = format!("\n{line}\n# {line}\n");
         let table = read(text.as_bytes(), Kind::User).expect(line);
         let setting = table.setting(2).expect(line);
         let part = |part: Part| &text[part.offset..part.offset + part.length];
@@ -257,7 +271,8 @@ fn settings_have_their_parts() {
 #[test]
 fn the_documents_examples() {
     for (line, expected) in documents::ENTRIES {
-        let calls = Calls::of(line.as_bytes(), Kind::User);
+        let table = format!("{line}\n");
+        let calls = Calls::of(table.as_bytes(), Kind::User);
         let found = match (calls.next(0, 0), expected) {
             (Err(number), _) => Err((number, calls.fault_column())),
             (Ok(first), Ok(firings)) => {
@@ -278,12 +293,17 @@ fn samples_are_what_they_say() {
         let mut table = samples::table(&mut random, kind, 3);
         let shown = String::from_utf8_lossy(&table).into_owned();
         assert!(read(&table, kind).is_ok(), "{kind:?} {shown}");
-        table.extend(b"\n");
         let lines = lines(&table).count() as u64;
         let (line, number, column) = samples::bad_line(&mut random, kind);
         table.extend(&line);
         let shown = String::from_utf8_lossy(&table).into_owned();
         let found = read(&table, kind).err();
         assert_eq!(found, fault(number, lines + 1, column), "{kind:?} {shown}");
+        let count = 1 + random.below(3);
+        let cut = samples::cut_table(&mut random, kind, count);
+        let found = read(&cut, kind)
+            .err()
+            .map(|fault| [fault.number, fault.line]);
+        assert_eq!(found, Some([26, count]), "{kind:?} {}", cut.escape_ascii());
     }
 }

@@ -1,92 +1,19 @@
--- `crontab::item::advance` meets its contract, by what the line is.
+-- `crontab::item::advance` meets its contract: a newline ends the line, or the table does.
 -- Assumes nothing.
-use mathlib.Core.Path.{sym, _∙_}
 use native.Mathlib.Omega.{arith}
-use Rattle.crontab.proofs.Offsets.{kept, forced}
-use Rattle.crontab.proofs.Lines.{end-found, nul-found}
-use Rattle.crontab.proofs.Proper.{setting-proper}
-use Rattle.crontab.proofs.Items.{step-nothing, step-setting, step-entry, step-full, step-refused, line-ends, entry-placed}
 use borrow.Author.Needs.{needs}
 use Rattle.crontab.proofs.item.advance.Statement.{statement}
 use Rattle.crontab.proofs.item.advance.Tie as tie
 
-behind-requires : tie.Need-behind-requires
-behind-requires c κs =
-    let a = c .before .before .before .before in
-    line-ends (a .args .rules) _ _ _ (a .pre .0) (a .pre .1) (end-found _ _ _ _ (c .before .before .skip .ensures .0) (c .before .skip2 .ensures .0))
+ended-requires : tie.Need-ended-requires
+ended-requires c κs =
+    let a = c .before .before .before .before .pre in (
+      record { reached = a .0; inside = a .1; stops = c .before .before .skip .ensures .0; ends = c .before .skip2 .ensures .0 },
+      omega (arith, c .if1 .taken),
+    )
 
-judge-requires : tie.Need-judge-requires
-judge-requires c κs =
-    let stop = c .before .before .before .before .skip .ensures .0 in
-    nul-found _ _ _ _ stop (end-found _ _ _ _ stop (c .before .before .before .skip2 .ensures .0))
-
-moved-requires : tie.Need-moved-requires
-moved-requires c κs =
-    let p = setting-proper _ _ (sym (c .before .before .before .judge .ensures) ∙ c .before .name .given .1) in
-    omega (arith, p .0, p .1 .order, p .1 .within, c .before .before .before .before .before .before .before .before .before .before .pre .0 .place)
-
-moved-requires-2 : tie.Need-moved-requires-2
-moved-requires-2 c κs =
-    let p = setting-proper _ _ (sym (c .before .before .before .before .judge .ensures) ∙ c .before .before .name .given .1) in
-    omega (arith, p .0, p .2 .order, p .2 .within, c .before .before .before .before .before .before .before .before .before .before .before .pre .0 .place)
-
-in-force-requires : tie.Need-in-force-requires
-in-force-requires c κs = setting-proper _ _ (sym (c .before .before .before .before .before .before .judge .ensures) ∙ c .before .before .before .before .name .given .1) .3
-
-behind-requires-2 : tie.Need-behind-requires-2
-behind-requires-2 c κs =
-    let a = c .before .before .before .before .before .before .before .before .before .before .before .before .before .before in
-    line-ends (a .args .rules) _ _ _ (a .pre .0) (a .pre .1) (end-found _ _ _ _ (c .before .before .before .before .before .before .before .before .before .before .before .before .skip .ensures .0) (c .before .before .before .before .before .before .before .before .before .before .before .skip2 .ensures .0))
-
-returns : tie.Need-returns
-returns c =
-    let a = c .before .before .before .before .before .before .before .before .before .before .before .before .pre in
-    let found = end-found _ _ _ _ (c .before .before .before .before .before .before .before .before .before .before .skip .ensures .0) (c .before .before .before .before .before .before .before .before .before .skip2 .ensures .0) in
-    rw (c .before .before .before .before .before .before .before .behind .ensures)
-    (step-full _ _ _ _ (a .0) (a .1) found (kept (a .0 .zone)) (sym (c .before .before .before .before .before .judge .ensures) ∙ c .before .before .before .when .given .1) (omega arith))
-
-placed-requires : tie.Need-placed-requires
-placed-requires c κs =
-    let a = c .before .before .before .before .before .before .before .before .before .before .before .before .pre in
-    let found = end-found _ _ _ _ (c .before .before .before .before .before .before .before .before .before .before .skip .ensures .0) (c .before .before .before .before .before .before .before .before .before .skip2 .ensures .0) in
-    entry-placed _ _ _ _ (a .0) (a .1) found (sym (c .before .before .before .before .before .judge .ensures) ∙ c .before .before .before .when .given .1)
-
-add-behind : tie.Need-add-behind
-add-behind c = record { fits = omega (arith, c .before .before .before .before .before .before .before .before .before .before .before .before .before .before .pre .0 .few) }
-
-behind-requires-3 : tie.Need-behind-requires-3
-behind-requires-3 c κs =
-    let a = c .before .before .before .before .before .before .before .before .before .before .before .before .before .before .before in
-    line-ends (a .args .rules) _ _ _ (a .pre .0) (a .pre .1) (end-found _ _ _ _ (c .before .before .before .before .before .before .before .before .before .before .before .before .before .skip .ensures .0) (c .before .before .before .before .before .before .before .before .before .before .before .before .skip2 .ensures .0))
-
-returns-2 : tie.Need-returns-2
-returns-2 c =
-    let a = c .before .before .before .before .before .before .before .before .before .pre in
-    let found = end-found _ _ _ _ (c .before .before .before .before .before .before .before .skip .ensures .0) (c .before .before .before .before .before .before .skip2 .ensures .0) in
-    rw (c .before .before .before .before .behind .ensures)
-    (step-nothing _ _ _ _ (a .0) (a .1) found (kept (a .0 .zone)) (sym (c .before .before .judge .ensures) ∙ c .enum-told .given .1))
-
-returns-3 : tie.Need-returns-3
-returns-3 c =
-    let a = c .before .before .before .before .before .before .before .before .before .before .before .before .before .before .before .pre in
-    let found = end-found _ _ _ _ (c .before .before .before .before .before .before .before .before .before .before .before .before .before .skip .ensures .0) (c .before .before .before .before .before .before .before .before .before .before .before .before .skip2 .ensures .0) in
-    let is = sym (c .before .before .before .before .before .before .before .before .judge .ensures) ∙ c .before .before .before .before .before .before .name .given .1 in
-    rw (c .behind2 .ensures, c .before .before .before .before .moved .ensures, c .before .before .before .moved2 .ensures)
-    (step-setting _ _ _ _ (a .0) (a .1) found is (forced _ (setting-proper _ _ is .3) (a .0 .zone) (kept (a .0 .zone)) (c .before .in-force .ensures)))
-
-returns-4 : tie.Need-returns-4
-returns-4 c =
-    let a = c .before .before .before .before .before .before .before .before .before .before .before .before .before .before .before .before .pre in
-    let found = end-found _ _ _ _ (c .before .before .before .before .before .before .before .before .before .before .before .before .before .before .skip .ensures .0) (c .before .before .before .before .before .before .before .before .before .before .before .before .before .skip2 .ensures .0) in
-    rw (c .behind3 .ensures, c .before .before .before .placed .ensures)
-    (step-entry _ _ _ _ (a .0) (a .1) found (kept (a .0 .zone)) (sym (c .before .before .before .before .before .before .before .before .before .judge .ensures) ∙ c .before .before .before .before .before .before .before .when .given .1) (omega (arith, c .before .before .before .before .if1 .left)))
-
-returns-5 : tie.Need-returns-5
-returns-5 c =
-    let a = c .before .before .before .before .before .before .before .before .before .before .pre in
-    let found = end-found _ _ _ _ (c .before .before .before .before .before .before .before .before .skip .ensures .0) (c .before .before .before .before .before .before .before .skip2 .ensures .0) in
-    rw (c .before .before .before .before .before .behind .ensures)
-    (step-refused _ _ _ _ (a .0) (a .1) found (kept (a .0 .zone)) (sym (c .before .before .before .judge .ensures) ∙ c .before .fault .given .1))
+last-requires : tie.Need-last-requires
+last-requires c κs = search needs
 
 pub advance-spec : {M : Type 1} → statement M
 advance-spec =
@@ -94,26 +21,7 @@ advance-spec =
     (tie.spec
     (λ c κs. search needs)
     (λ c κs. search needs)
-    behind-requires
-    (λ c. search needs)
-    (λ c. search needs)
-    (λ c. search needs)
-    (λ c. search needs)
-    judge-requires
-    (λ c. search needs)
-    (λ c. search needs)
-    moved-requires
-    moved-requires-2
-    in-force-requires
-    behind-requires-2
-    (λ c. search needs)
-    returns
-    (λ c. search needs)
-    placed-requires
-    add-behind
-    behind-requires-3
-    (λ c. search needs)
-    returns-2
-    returns-3
-    returns-4
-    returns-5)
+    ended-requires
+    (λ c. c .ended .ensures)
+    last-requires
+    (λ c. c .last .ensures))

@@ -7,7 +7,7 @@ use crate::table::samples::{digits, line, BLANKS, IGNORED, LIMITS, NAMES, WORDS}
 use crate::table::{Kind, When, LINE_BYTES, TABLE_BYTES};
 
 /// The bytes that decide how a name or a value is written.
-const OF_SETTINGS: &[u8] = b"aaB1*@#= \t\"'-\\%\r\x80";
+const OF_SETTINGS: &[u8] = b"aaB1*@#= \t\"'-\\%~\x80";
 
 /// Times, most of which are longer when they are written.
 const TIMES: [&str; 12] = [
@@ -32,12 +32,8 @@ pub fn table(random: &mut Random, lines: u64) -> Vec<u8> {
         1 => timed(random),
         _ => line(random, Kind::User),
     };
-    let lines: Vec<Vec<u8>> = (0..lines).map(|_| line(random)).collect();
-    let mut bytes = lines.join(&b'\n');
-    if random.below(4) > 0 {
-        bytes.push(b'\n');
-    }
-    bytes
+    let ended = |_| [line(random), b"\n".to_vec()].concat();
+    (0..lines).flat_map(ended).collect()
 }
 
 /// A good setting of such bytes as matter.
@@ -77,11 +73,7 @@ pub fn written_in(random: &mut Random, length: usize) -> Option<Vec<u8>> {
 /// have few more.
 pub fn table_written_in(random: &mut Random, length: usize) -> Vec<u8> {
     loop {
-        let mut table = lines_written_in(random, length);
-        // A last line without its newline gets one when it is written.
-        if table.len() == TABLE_BYTES + 1 || random.below(2) == 0 {
-            table.pop();
-        }
+        let table = lines_written_in(random, length);
         if table.len() <= TABLE_BYTES {
             return table;
         }
@@ -125,9 +117,6 @@ pub fn respelled(random: &mut Random, items: &[Item]) -> Vec<u8> {
         table.push(b'\n');
     }
     ignored(random, &mut table);
-    if random.below(3) == 0 {
-        table.pop();
-    }
     match meaning(&table).as_deref() == Ok(items) {
         true => table,
         // Only because it is too long.

@@ -4,7 +4,11 @@ use crate::table::documents;
 use crate::table::ENTRIES;
 
 fn written(table: &str) -> String {
-    let text = normal_text(table.as_bytes()).expect(table);
+    let ended = match table.ends_with('\n') || table.is_empty() {
+        true => table.into(),
+        false => format!("{table}\n"),
+    };
+    let text = normal_text(ended.as_bytes()).expect(table);
     String::from_utf8(text).expect("text")
 }
 
@@ -56,9 +60,8 @@ fn settings_have_quotes_only_where_a_bare_reading_would_differ() {
         ("A=''", "A="),
         ("A=\"\" ", "A="),
         // Only space and tab are blanks.
-        ("A=' b\r'", "A=\" b\r\""),
-        ("A='\rb\r'", "A=\rb\r"),
-        ("'A\r'=b", "A\r=b"),
+        ("A=' b\u{a0}'", "A=\" b\u{a0}\""),
+        ("'A\u{a0}'=b", "A\u{a0}=b"),
         ("A=\u{a0}b\u{a0}", "A=\u{a0}b\u{a0}"),
         // As any other.
         ("'CRON_TZ' =\t\"+05:30\" ", "CRON_TZ=+05:30"),
@@ -106,7 +109,7 @@ fn entries_have_their_fields_and_their_command() {
         ("* * * * *\t  a  b\t ", "* * * * * a  b\t "),
         ("* * * * * # a", "* * * * * # a"),
         ("* * * * * a\\%b%c%%d%", "* * * * * a\\%b%c%%d%"),
-        ("* * * * * 'a\"\r", "* * * * * 'a\"\r"),
+        ("* * * * * 'a\"\u{a0}", "* * * * * 'a\"\u{a0}"),
         ("* * * * * * * * * *", "* * * * * * * * * *"),
     ];
     for (line, expected) in rows {
@@ -170,26 +173,31 @@ fn refusals_in_their_order() {
     let rest = TABLE_BYTES % (LINE_BYTES + 1);
     // Three bytes shorter than when it is written.
     assert_eq!(line(LINE_BYTES).len(), LINE_BYTES - 3);
-    let rows: [(String, usize, Answer); 15] = [
+    let rows: [(String, usize, Answer); 16] = [
         ("A = b\n".into(), 4, Ok(4)),
         ("A = b\n".into(), 100, Ok(4)),
         ("A = b\n".into(), 3, Err(18)),
         ("A = b\n".into(), 0, Err(18)),
         ("".into(), 0, Ok(0)),
-        ("# a".into(), 0, Ok(0)),
+        ("# a\n".into(), 0, Ok(0)),
+        ("# a".into(), 0, Err(26)),
         ("A".into(), 0, Err(11)),
-        (line(LINE_BYTES), LINE_BYTES + 1, Ok(LINE_BYTES as u64 + 1)),
-        (line(LINE_BYTES), LINE_BYTES, Err(18)),
-        (line(LINE_BYTES + 1), 0, Err(21)),
-        (line(LINE_BYTES + 1), 2_000, Err(21)),
+        (lines(1), LINE_BYTES + 1, Ok(LINE_BYTES as u64 + 1)),
+        (lines(1), LINE_BYTES, Err(18)),
+        (line(LINE_BYTES + 1) + "\n", 0, Err(21)),
+        (line(LINE_BYTES + 1) + "\n", 2_000, Err(21)),
         (format!("{}\nA", line(LINE_BYTES + 1)), 0, Err(11)),
         (
-            lines(whole) + &line(rest - 1),
+            lines(whole) + &line(rest - 1) + "\n",
             TABLE_BYTES,
             Ok(TABLE_BYTES as u64),
         ),
-        (lines(whole) + &line(rest - 1), TABLE_BYTES - 1, Err(18)),
-        (lines(whole) + &line(rest), TABLE_BYTES - 1, Err(21)),
+        (
+            lines(whole) + &line(rest - 1) + "\n",
+            TABLE_BYTES - 1,
+            Err(18),
+        ),
+        (lines(whole) + &line(rest) + "\n", TABLE_BYTES - 1, Err(21)),
     ];
     for (table, length, expected) in rows {
         let before = vec![b'~'; length];
@@ -204,25 +212,13 @@ fn refusals_in_their_order() {
     }
 }
 
-/// A table as long as may be has no room for a newline that its last line lacks.
-#[test]
-fn the_last_newline_counts() {
-    for (length, expected) in [(TABLE_BYTES - 1, Ok(TABLE_BYTES)), (TABLE_BYTES, Err(21))] {
-        let lines = "A=b\n".repeat(length / 4 - 2);
-        let value = "c".repeat(length - lines.len() - 2);
-        let table = format!("{lines}A={value}");
-        assert_eq!(table.len(), length);
-        let found = normal_text(table.as_bytes());
-        assert_eq!(found.map(|text| text.len()), expected);
-    }
-}
-
 /// Reading it back gives the same meaning, it is its own text, and each line is written by itself.
 fn obeys(table: &[u8]) {
     let items = meaning(table).expect("a good table");
     let text = text(&items);
     let shown = text.escape_ascii();
-    let lines: Vec<Vec<u8>> = lines(table)
+    let lines: Vec<Vec<u8>> = table
+        .split_inclusive(|&byte| byte == b'\n')
         .map(|line| normal_text(line).unwrap_or_default())
         .collect();
     if let Ok(written) = normal_text(table) {
@@ -235,14 +231,15 @@ fn obeys(table: &[u8]) {
 
 #[test]
 fn the_documents_tables_are_read_back() {
-    let good = |line: &&str| read(line.as_bytes(), Kind::User).is_ok();
+    let good = |line: &String| read(line.as_bytes(), Kind::User).is_ok();
     let entries = documents::ENTRIES.iter().map(|(line, _)| *line);
     let settings = documents::SETTINGS.iter().map(|(line, ..)| *line);
-    let lines: Vec<&str> = entries.chain(settings).filter(good).collect();
+    let ended = entries.chain(settings).map(|line| format!("{line}\n"));
+    let lines: Vec<String> = ended.filter(good).collect();
     for line in &lines {
         obeys(line.as_bytes());
     }
-    obeys(lines.join("\n").as_bytes());
+    obeys(lines.concat().as_bytes());
 }
 
 #[test]

@@ -180,7 +180,7 @@ pub const OTHER_NAMES: [&str; 9] = [
     "CRON_T",
     "CRON_TZ2",
     "CRONTZ",
-    "CRON_TZ\r",
+    "CRON_TZ\u{a0}",
     "'CRON_TZ '",
     "' CRON_TZ'",
     "\"'CRON_TZ'\"",

@@ -73,7 +73,7 @@ fn every_value_of_the_form() {
     for hours in 0..100 {
         for minutes in 0..100 {
             for (sign, most) in [('+', 14), ('-', 12)] {
-                let line = format!("CRON_TZ={sign}{hours:02}:{minutes:02}");
+                let line = format!("CRON_TZ={sign}{hours:02}:{minutes:02}\n");
                 let is_good = minutes < 60 && (hours < most || hours == most && minutes == 0);
                 let found = read(line.as_bytes(), Kind::User);
                 assert_eq!(found.is_ok(), is_good, "{line}");

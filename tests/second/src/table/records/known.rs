@@ -147,7 +147,7 @@ pub const REFUSED: [(&str, u64, Result<&str, u64>); 22] = [
 ];
 
 /// Records of the kinds 2, 3 and 4 that no line could mean.
-pub const NO_LINES: [&str; 35] = [
+pub const NO_LINES: [&str; 43] = [
     // @reboot with no command, with a blank before it, a byte 0, a newline
     "02 00 02 00",
     "03 00 02 00 20",
@@ -167,6 +167,15 @@ pub const NO_LINES: [&str; 35] = [
     "05 00 03 00 01 00 0a",
     "06 00 03 00 01 00 41 00",
     "06 00 03 00 01 00 41 0a",
+    // a control byte in a command, in a name, in a value
+    "03 00 02 00 01",
+    "04 00 02 00 61 0d",
+    "04 00 02 00 61 7f",
+    "05 00 03 00 01 00 08",
+    "05 00 03 00 01 00 1f",
+    "06 00 03 00 01 00 41 0b",
+    "06 00 03 00 01 00 41 7f",
+    "12 00 04 00 07 00 43 52 4f 4e 5f 54 5a 2b 30 35 3a 33 30 0d",
     // both quotes in a name; in a value that starts with a blank or a quote, or ends with a blank
     "06 00 03 00 02 00 22 27",
     "07 00 03 00 03 00 41 22 27",

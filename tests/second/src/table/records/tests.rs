@@ -17,7 +17,8 @@ fn a_table_by_hand() {
 #[test]
 fn lines_by_hand() {
     for (line, text, record) in LINES {
-        assert_eq!(compiled(line.as_bytes()), Ok(hex(record)), "{line}");
+        let table = format!("{line}\n");
+        assert_eq!(compiled(table.as_bytes()), Ok(hex(record)), "{line}");
         let found = decompiled(&hex(record));
         assert_eq!(found.as_deref(), Ok(text.as_bytes()), "{line}");
     }
@@ -106,13 +107,14 @@ fn limits_come_last_and_in_order() {
 #[test]
 fn compiling_is_refused_in_order() {
     let long = format!("@daily {}", "x".repeat(LINE_BYTES - 9));
-    assert_eq!(compiled(long.as_bytes()), Err(21));
+    assert_eq!(compiled(format!("{long}\n").as_bytes()), Err(21));
+    assert_eq!(compiled(long.as_bytes()), Err(26));
     assert_eq!(compiled(format!("{long}\n60").as_bytes()), Err(6));
     let mut buffer = [7; 6];
-    assert_eq!(compile(b"A=", &mut buffer), Err(18));
+    assert_eq!(compile(b"A=\n", &mut buffer), Err(18));
     assert_eq!(buffer, [7; 6]);
     let mut buffer = [7; 8];
-    assert_eq!(compile(b"A=", &mut buffer), Ok(7));
+    assert_eq!(compile(b"A=\n", &mut buffer), Ok(7));
     assert_eq!(buffer, [5, 0, 3, 0, 1, 0, b'A', 7]);
     assert_eq!(compile(b"", &mut []), Ok(0));
 }
