@@ -110,6 +110,9 @@ kinds : Hold checkedAs
     ∷ ((1, text "\n@reboot -a x\n"), 4294967316 ∷ 2 ∷ 9 ∷ [])
     ∷ ((2, text "@reboot a x\n"), 1 ∷ 0 ∷ 0 ∷ [])
     ∷ ((0, text "@reboot -a x\n"), 1 ∷ 0 ∷ 0 ∷ [])
+    -- ticket 2026-11 holds for a system's table too
+    ∷ ((1, text "@reboot a x"), 4294967322 ∷ 1 ∷ 12 ∷ [])
+    ∷ ((1, text "@reboot a\rx\n"), 4294967323 ∷ 1 ∷ 10 ∷ [])
     ∷ [])
 unfolding answering
 kinds = refl
@@ -325,6 +328,11 @@ jumps : Hold jumping
     ∷ (tick 300 ∷ tick 200 ∷ tick 301 ∷ [], 0 ∷ 0 ∷ 0 ∷ 0 ∷ [])
     -- a refused announcement leaves the mark
     ∷ (tick 200 ∷ tick 4223371680 ∷ tick 290 ∷ [], 0 ∷ 0 ∷ 4294967310 ∷ 2 ∷ [])
+    -- a fresh line has no mark, whatever mark the room held
+    ∷ (tick 270 ∷ init ∷ tick 270 ∷ [], 0 ∷ 3 ∷ 0 ∷ 3 ∷ [])
+    ∷ (tick 300 ∷ init ∷ tick 270 ∷ [], 0 ∷ 0 ∷ 0 ∷ 3 ∷ [])
+    -- a request leaves the mark, where nothing waits too
+    ∷ (tick 200 ∷ pop ∷ tick 300 ∷ [], 0 ∷ 0 ∷ 4294967296 ∷ 1 ∷ [])
     ∷ [])
 unfolding run answering
 jumps = refl
@@ -333,6 +341,26 @@ jumps = refl
 jumps-once : run (text "0,30 4 * * * a\n") (replicate 12 0) (init ∷ tick 200 ∷ tick 300 ∷ pop ∷ pop ∷ []) ≡ 0 ∷ 0 ∷ 1 ∷ 0 ∷ 4294967296 ∷ []
 unfolding run answering
 jumps-once = refl
+
+-- file order, the one that is caught up too: 03:20 and 05:00
+jumps-order :
+    run (text "* * * * * a\n30 4 * * * b\n") (replicate 14 0) (init ∷ tick 200 ∷ pop ∷ tick 300 ∷ pop ∷ pop ∷ pop ∷ [])
+    ≡ 0 ∷ 1 ∷ 0 ∷ 2 ∷ 0 ∷ 1 ∷ 4294967296 ∷ []
+unfolding run answering
+jumps-order = refl
+
+-- no mark at first is not the mark 0, under which 00:30 is caught up
+jumps-first : Hold (λ (asks : List Ask). run (text "30 0 * * * a\n") (replicate 12 0) (init ∷ asks))
+    ((tick 40 ∷ [], 0 ∷ 0 ∷ [])
+    ∷ (tick 0 ∷ tick 40 ∷ [], 0 ∷ 0 ∷ 1 ∷ [])
+    ∷ [])
+unfolding run answering
+jumps-first = refl
+
+-- the calendar's last minute, 23:59, is a mark as any other
+jumps-last : run (text "59 23 * * * a\n") (replicate 12 0) (init ∷ tick 4223371678 ∷ tick 4223371679 ∷ pop ∷ tick 4223371679 ∷ tick 4223371500 ∷ tick 4223371679 ∷ []) ≡ 0 ∷ 0 ∷ 1 ∷ 0 ∷ 0 ∷ 0 ∷ 0 ∷ []
+unfolding run answering
+jumps-last = refl
 
 jumps-local : run (text "CRON_TZ=+01:00\n30 4 * * * a\n") (replicate 12 0) (init ∷ tick 100 ∷ tick 209 ∷ tick 210 ∷ []) ≡ 0 ∷ 0 ∷ 0 ∷ 1 ∷ []
 unfolding run answering

@@ -13,9 +13,11 @@ use lib.ListN.{length, length-append}
 use borrow.Author.Tests.{not-true, le-leb, lt-leb, lt-ltb, le-ltb}
 use Rattle.bytes.specs.Marks.{marked}
 use Rattle.calendar.specs.Dates.{lastMinute}
+use Rattle.schedule.specs.Jumps.{markAfter}
+use Rattle.fifo.specs.declared.Ticked.the-variants.{Joined}
 use Rattle.fifo.specs.WaitingLine.{Line, standsIn, entriesOf, pick}
 use Rattle.fifo.specs.Queue.{isQueue, queueOf, queueLaid, queueSize, queueRoomy, limit}
-use Rattle.fifo.specs.Layout.{lineOf}
+use Rattle.fifo.specs.Layout.{lineOf, laid, isLine}
 use Rattle.fifo.specs.Steps.{Jobs, fresh, initStep, calls, joins, joiners, ticked, tickStep}
 use Rattle.fifo.specs.SmallSteps.{canPush, pushed, callees, initCalled, joined, tickCalled}
 use Rattle.fifo.proofs.WaitingLines.{stands-append, stands-pick, pick-same, entries-length, entries-snoc, entries-pick}
@@ -184,6 +186,14 @@ pub joins-new : (jobs : Jobs) (minute : ℕ) (l : Line) (e : ℕ) → joins jobs
 unfolding joins
 joins-new jobs minute l e q =
     not-true (standsIn e (l .waiting)) (and-eq-true-iff (not (jobs .boot e) && calls jobs (l .mark) minute e) (not (standsIn e (l .waiting))) .0 q .1)
+
+-- an announcement that isn't refused
+pub tick-done : (n : ℕ) (called : List ℕ) (minute : ℕ) (room : List ℕ) → isLine n room ≡ true → minute ≤ lastMinute
+    → let l = lineOf room in
+    tickCalled n called minute room
+    ≡ record { answer = Joined (length (callees n called (l .waiting))); room = laid (joined n called (markAfter (l .mark) minute) l) room }
+unfolding tickCalled
+tick-done n called minute room e on = rw (e, le-leb minute lastMinute on)
 
 -- where the set has just those jobs of which the step speaks
 module _ (jobs : Jobs) (called room : List ℕ) where

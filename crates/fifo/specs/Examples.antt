@@ -75,8 +75,8 @@ abbrev marked : ℕ → List ℕ
 marked low = 69 ∷ 82 ∷ 81 ∷ 49 ∷ low ∷ 137 ∷ 187 ∷ 251 ∷ replicate 8 0
 
 marks-run :
-    map (answer three) (pop (marked 160) ∷ tick 4223371679 (marked 160) ∷ pop (marked 161) ∷ tick 59 (marked 161) ∷ [])
-    ≡ inr Nothing ∷ inl (Joined 1) ∷ inr (NotPopped 28) ∷ inl (NotTicked 28) ∷ []
+    map (answer three) (pop (marked 160) ∷ tick 4223371679 (marked 160) ∷ pop (marked 161) ∷ tick 59 (marked 161) ∷ tick 4223371680 (marked 161) ∷ [])
+    ≡ inr Nothing ∷ inl (Joined 1) ∷ inr (NotPopped 28) ∷ inl (NotTicked 28) ∷ inl (NotTicked 28) ∷ []
 unfolding three answer running
 marks-run = refl
 

@@ -4,10 +4,14 @@ use Rattle.fifo.proofs.Gathered.{gathered-none}
 use Rattle.fifo.proofs.Lines.{is-line}
 use Rattle.fifo.specs.Layout.{lineOf}
 use Rattle.fifo.specs.SmallSteps.{tickCalled}
+use Rattle.calendar.specs.Dates.{lastMinute}
 use Rattle.schedule.proofs.Theorems.{mark-stays}
+use native.Mathlib.Omega.{arith}
 use borrow.Author.Needs.{needs}
-use borrow.Author.Tests.{lt-leb, le-leb}
-use mathlib.Core.Path.{refl, sym, _∙_}
+use borrow.Author.Tests.{lt-leb}
+use Rattle.fifo.specs.declared.Ticked.the-variants.{Joined}
+use Rattle.fifo.proofs.Filling.{tick-done}
+use mathlib.Core.Path.{refl, sym, ap, _∙_}
 use Rattle.fifo.proofs.tick.Statement.{statement}
 use Rattle.fifo.proofs.tick.Tie as tie
 
@@ -16,7 +20,7 @@ gather-requires c κs = (gathered-none 1024, refl)
 
 returns : tie.Need-returns
 unfolding tickCalled
-returns c = rw (sym (c .before .before .gather .ensures .0) ∙ c .before .if1 .taken, lt-leb _ _ (c .if2 .taken)) (refl, refl)
+returns c = rw (sym (c .before .before .gather .ensures .0) ∙ c .before .if1 .taken, lt-leb (c .before .before .before .before .before .before .before .args .minute) lastMinute (omega arith)) (refl, refl)
 
 announce-requires : tie.Need-announce-requires
 announce-requires c κs =
@@ -29,12 +33,14 @@ announce-requires c κs =
     )
 
 returns-2 : tie.Need-returns-2
-unfolding tickCalled lineOf
+unfolding lineOf
 returns-2 c =
     let a = c .before .before in
     let f = a .before .before .before .before .before .before in
     let g = f .before .before in
-    rw (sym (g .gather .ensures .0) ∙ f .before .if1 .taken, le-leb _ _ (f .if2 .left), a .announce .ensures .0, a .announce .ensures .1, a .before .before .before .mark-after .ensures, a .before .before .before .before .mark-of .ensures) (refl, refl)
+    let is = sym (g .gather .ensures .0) ∙ f .before .if1 .taken in
+    let marked = rw (a .before .before .before .mark-after .ensures, a .before .before .before .before .mark-of .ensures) at (a .announce .ensures .1) in
+    rw (tick-done _ _ _ _ is (f .if2 .left)) (ap Joined (a .announce .ensures .0), marked)
 
 returns-3 : tie.Need-returns-3
 unfolding tickCalled
