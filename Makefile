@@ -1,6 +1,6 @@
-# all        the static library, the command eremothyn, and the examples
+# all        the static library, the command eremothyn, the program crontab_firings, and the examples
 # example    the same, and runs one
-# install    puts the library, the header, the command, the manual and the examples under PREFIX, below DESTDIR
+# install    puts the library, the header, the programs, the manual and the examples under PREFIX, below DESTDIR
 # uninstall  removes what install put there
 # test       the gate: every proof, every must-fail edit, every test
 # bench      the benchmarks
@@ -17,6 +17,7 @@ TEST_CALLS := target/staticlib/libtest_calls.a
 SOURCES := crates.txt $(shell find crates -name '*.rt' -o -name '*.antt')
 COMMAND := target/c/eremothyn
 COMMAND_SOURCES := $(wildcard programs/*.c)
+LISTER := target/bin/crontab_firings
 HEADER := include/eremothyn.h
 VERSION := $(shell sed -n '/EREMOTHYN_VERSION/s/.*"\(.*\)".*/\1/p' $(HEADER))
 FUNCTIONS := $(shell sed -n '/^uint64_t\|^static inline/s/.*\(eremothyn_[a-z_]*\).*/\1/p' $(HEADER))
@@ -36,10 +37,15 @@ COMPILE = mkdir -p $(@D) && $(CC) -std=c99 $(CPPFLAGS) $(CFLAGS) -Iinclude $(LDF
 
 .PHONY: all example install uninstall test bench clean
 
-all: $(LIBRARY) $(COMMAND) target/c/daemon target/c/date
+all: $(LIBRARY) $(COMMAND) $(LISTER) target/c/daemon target/c/date
 
 target/staticlib/lib%.a: $(SOURCES)
 	rt staticlib $*
+
+# A program in Rattle: it is proved and linked.
+target/bin/%: $(SOURCES) | $(LIBRARY)
+	rt check $*
+	touch $@
 
 $(COMMAND): $(COMMAND_SOURCES) $(wildcard programs/*.h) $(HEADER) $(LIBRARY)
 	$(COMPILE) $(COMMAND_SOURCES) $(LIBRARY)
@@ -58,20 +64,21 @@ $(PAGES_3): packaging/eremothyn.3 $(HEADER)
 	cp packaging/eremothyn.3 target/man/
 	for f in $(FUNCTIONS); do echo '.so man3/eremothyn.3' > target/man/$$f.3; done
 
-install: $(LIBRARY) $(COMMAND) $(PAGES_3)
+install: $(LIBRARY) $(COMMAND) $(LISTER) $(PAGES_3)
 	sed -e 's|@PREFIX@|$(PREFIX)|' -e 's|@LIBDIR@|$(LIBDIR)|' -e 's|@VERSION@|$(VERSION)|' packaging/eremothyn.pc.in > target/eremothyn.pc
 	$(INSTALL) -d "$(LIB)/pkgconfig" "$(INCLUDE)" "$(BIN)" "$(MAN)/man1" "$(MAN)/man3" "$(MAN)/man5" "$(DOC)/examples"
 	$(INSTALL) -m 644 $(LIBRARY) "$(LIB)/"
 	$(INSTALL) -m 644 target/eremothyn.pc "$(LIB)/pkgconfig/"
 	$(INSTALL) -m 644 $(HEADER) "$(INCLUDE)/"
-	$(INSTALL) -m 755 $(COMMAND) "$(BIN)/"
+	$(INSTALL) -m 755 $(COMMAND) $(LISTER) "$(BIN)/"
 	$(INSTALL) -m 644 $(PAGES_1) "$(MAN)/man1/"
 	$(INSTALL) -m 644 $(PAGES_3) "$(MAN)/man3/"
 	$(INSTALL) -m 644 $(PAGES_5) "$(MAN)/man5/"
 	$(INSTALL) -m 644 $(EXAMPLES:%=examples/%) "$(DOC)/examples/"
 
 uninstall:
-	rm -f "$(LIB)/liberemothyn.a" "$(LIB)/pkgconfig/eremothyn.pc" "$(INCLUDE)/eremothyn.h" "$(BIN)/eremothyn"
+	rm -f "$(LIB)/liberemothyn.a" "$(LIB)/pkgconfig/eremothyn.pc" "$(INCLUDE)/eremothyn.h"
+	rm -f "$(BIN)/eremothyn" "$(BIN)/crontab_firings"
 	for page in $(notdir $(PAGES_1)); do rm -f "$(MAN)/man1/$$page"; done
 	for page in $(notdir $(PAGES_3)); do rm -f "$(MAN)/man3/$$page"; done
 	for page in $(notdir $(PAGES_5)); do rm -f "$(MAN)/man5/$$page"; done
@@ -80,7 +87,7 @@ uninstall:
 test:
 	.ci/run
 
-bench: $(LIBRARY) $(TEST_CALLS)
+bench: $(LIBRARY) $(TEST_CALLS) $(LISTER)
 	cargo run --offline --release --manifest-path tests/Cargo.toml -p bench
 
 clean:

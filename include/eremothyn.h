@@ -8,11 +8,13 @@
  * ahead of UTC, as +05:30 or -03:00. An entry fires by its own clock, and before the first CRON_TZ that is UTC. There are no
  * named time zones and there is no daylight saving.
  *
- * A run of bytes is a pointer to them and their number; every other parameter and every answer is a uint64_t. Any values
- * and any bytes may be passed: what has no answer is refused. A refusal is EREMOTHYN_REFUSED plus its number; no other
- * answer is above EREMOTHYN_REFUSED. A refused call changes no byte. A table's bytes are never changed. Runs of bytes that
- * are lent to one call must not overlap. A pointer may be NULL where its length is 0. No call keeps a pointer or takes memory
- * from the heap; some 12 KB of stack are enough. Threads may share a table; a buffer or a room is lent to one call at a time.
+ * A run of bytes is a pointer to them and how many they are, and so is a run of 32-bit or 16-bit numbers; every other
+ * parameter and every answer is a uint64_t. Any values and any bytes may be passed: what has no answer is refused. A refusal
+ * is EREMOTHYN_REFUSED plus its number; EREMOTHYN_IS_REFUSED tells it from every other answer. A refused call changes nothing
+ * that it is lent, and a table's bytes are never changed. Runs that are lent to one call must not overlap, and numbers are
+ * aligned as in any array of them. A pointer may be NULL where its length is 0. No call keeps a pointer or takes memory from
+ * the heap; some 12 KB of stack are enough, and for eremothyn_merged_firings, which keeps all entries at once, some 84 KB.
+ * Threads may share a table; a buffer, a run or a room is lent to one call at a time.
  *
  *     uint64_t minute = eremothyn_minute_of_date(2000, 2, 29, 0, 0);
  *     if (EREMOTHYN_IS_REFUSED(minute))
@@ -29,7 +31,7 @@ extern "C" {
 #endif
 
 /* The middle number counts the change requests that have landed. */
-#define EREMOTHYN_VERSION "1.11.0"
+#define EREMOTHYN_VERSION "1.12.0"
 
 /* The last minute of the calendar, 9999-12-31 23:59. */
 #define EREMOTHYN_LAST_MINUTE UINT64_C(4223371679)
@@ -53,9 +55,16 @@ extern "C" {
 /* A refusal is this plus its number. */
 #define EREMOTHYN_REFUSED UINT64_C(4294967296)
 
+/* In the two calls that list firings, this is added to the count where more remain. */
+#define EREMOTHYN_MORE UINT64_C(8589934592)
+
 /* Whether an answer is a refusal, and the number of one that is. */
-#define EREMOTHYN_IS_REFUSED(answer) ((answer) > EREMOTHYN_REFUSED)
+#define EREMOTHYN_IS_REFUSED(answer) ((answer) % EREMOTHYN_MORE > EREMOTHYN_REFUSED)
 #define EREMOTHYN_REFUSAL(answer) ((answer) - EREMOTHYN_REFUSED)
+
+/* Of a list that isn't refused: how many firings were filled in, and whether more remain. */
+#define EREMOTHYN_FILLED(answer) ((answer) % EREMOTHYN_MORE)
+#define EREMOTHYN_HAS_MORE(answer) ((answer) >= EREMOTHYN_MORE)
 
 /* Where a request finds nothing waiting, and where a command has no standard input: no refusals. */
 #define EREMOTHYN_NOTHING_WAITS EREMOTHYN_REFUSED
@@ -86,7 +95,7 @@ extern "C" {
 /* Refusals of one entry, one minute, one setting, one normal text, records and one queue of waiting jobs. */
 #define EREMOTHYN_NO_SUCH_ENTRY UINT64_C(13)   /* no entry of that number */
 #define EREMOTHYN_NOT_ON_CALENDAR UINT64_C(14) /* the minute or the date is not on the calendar */
-#define EREMOTHYN_AT_BOOT_ONLY UINT64_C(15)    /* next firing of an @reboot entry */
+#define EREMOTHYN_AT_BOOT_ONLY UINT64_C(15)    /* next firing, or a list of them, of an @reboot entry */
 #define EREMOTHYN_NEVER UINT64_C(16)           /* no minute of the 400-year cycle matches */
 #define EREMOTHYN_PAST_THE_END UINT64_C(17)    /* would fire, but not before the calendar ends */
 #define EREMOTHYN_TOO_SHORT UINT64_C(18)       /* a lent buffer is too short for what is written */
@@ -194,6 +203,40 @@ uint64_t eremothyn_due(const uint8_t *table, uint64_t table_length, uint64_t kin
  * EREMOTHYN_NOT_ON_CALENDAR, EREMOTHYN_AT_BOOT_ONLY, EREMOTHYN_NEVER or EREMOTHYN_PAST_THE_END, the first that holds.
  */
 uint64_t eremothyn_next(const uint8_t *table, uint64_t table_length, uint64_t kind, uint64_t entry, uint64_t minute);
+
+/*
+ * Lists the firings of an entry after minute a and up to minute b: a itself is left out, b is not. They go to the front of a
+ * run, each once, rising from the first, as many as fit; the numbers behind stay. Answers how many were filled in, and where a
+ * firing up to b didn't fit, EREMOTHYN_MORE is added. If b isn't after a, or nothing fires, there are none: that an entry
+ * never fires, or not before the calendar ends, is no refusal here.
+ *
+ *     uint32_t run[100];
+ *     uint64_t answer = eremothyn_firings(table, length, EREMOTHYN_USER_TABLE, 0, a, b, run, 100);
+ *     for (uint64_t i = 0; !EREMOTHYN_IS_REFUSED(answer) && i < EREMOTHYN_FILLED(answer); i++)
+ *         printf("%lu\n", (unsigned long)run[i]);
+ *
+ * b - a places are always enough, and any number from 1 on will do: where more remain, call again with the last minute that was
+ * filled in as a. Of a run of 4,294,967,296 places or more, the first 4,294,967,295 are used.
+ *
+ * Refused with EREMOTHYN_NO_SUCH_ENTRY, EREMOTHYN_NOT_ON_CALENDAR for a, then for b, or EREMOTHYN_AT_BOOT_ONLY, the first that
+ * holds.
+ */
+uint64_t eremothyn_firings(const uint8_t *table, uint64_t table_length, uint64_t kind, uint64_t entry, uint64_t a, uint64_t b,
+                           uint32_t *run, uint64_t run_length);
+
+/*
+ * Lists the firings of all entries after minute a and up to minute b, by minute, and within a minute by entry: the minutes go
+ * to the front of one run, and the numbers of the entries to the same places of the other. If the two differ in length, the
+ * shorter counts. All else is as in eremothyn_firings. @reboot entries never appear.
+ *
+ * With one place it says which entry fires first after a, and when. For a whole list, lend at least one place more than the
+ * table has entries; EREMOTHYN_MAX_ENTRIES + 1 will do for any. Where more remain, the last minute that was filled in may lack
+ * some of its entries: leave its places out, and call again with the minute before it as a.
+ *
+ * Refused with EREMOTHYN_NOT_ON_CALENDAR for a, then for b.
+ */
+uint64_t eremothyn_merged_firings(const uint8_t *table, uint64_t table_length, uint64_t kind, uint64_t a, uint64_t b,
+                                  uint32_t *minutes, uint64_t minutes_length, uint16_t *entries, uint64_t entries_length);
 
 /*
  * Splits an entry's command: the shell line goes to the front of one buffer and the standard input to the front of the

@@ -1,6 +1,7 @@
 //! Benchmarks of the library. Without an argument all of them run, with a name that one alone.
 
 mod calendar;
+mod firings;
 mod glibc;
 mod measure;
 mod normal;
@@ -14,7 +15,7 @@ mod table;
 use std::env;
 use std::process::ExitCode;
 
-const BENCHMARKS: [(&str, fn()); 7] = [
+const BENCHMARKS: [(&str, fn()); 8] = [
     ("calendar", calendar::run),
     ("schedule", schedule::run),
     ("small", small::run),
@@ -22,6 +23,7 @@ const BENCHMARKS: [(&str, fn()); 7] = [
     ("normal", normal::run),
     ("records", records::run),
     ("queue", queue::run),
+    ("firings", firings::run),
 ];
 
 fn main() -> ExitCode {

@@ -143,3 +143,37 @@ pub fn minute_walk(sets: &Sets, start: u64) -> Option<u64> {
     let found = (first..first + CYCLE).find(|&minute| matches(sets, minute));
     found.map(u64::from)
 }
+
+/// Calls back for each minute after one and up to another, and for each entry that matches it then, in order. The date is worked out
+/// once a minute, and an entry is up to five bit tests: the minute's first, which most fail.
+#[inline(never)]
+pub fn each_minute(
+    entries: &[Option<Sets>],
+    after: u64,
+    last: u64,
+    mut found: impl FnMut(u32, u16),
+) {
+    for minute in after as u32 + 1..=last as u32 {
+        let (day, time) = (minute / 1_440, minute % 1_440);
+        let (_, month, of_month) = neri_schneider_civil(day);
+        let weekday = (day + 4) % 7;
+        let (hour, of_hour) = (time / 60, time % 60);
+        for (number, sets) in entries.iter().enumerate() {
+            let Some(sets) = sets else { continue };
+            let by_day = sets.days >> of_month;
+            let by_weekday = sets.weekdays >> weekday;
+            let by_date = if sets.both {
+                by_day & by_weekday
+            } else {
+                by_day | by_weekday
+            };
+            let matches = sets.minutes >> of_hour & 1 != 0
+                && sets.hours >> hour & 1 != 0
+                && sets.months >> month & 1 != 0
+                && by_date & 1 != 0;
+            if matches {
+                found(minute, number as u16);
+            }
+        }
+    }
+}

@@ -63,7 +63,7 @@ fn row(fields: &str, count: u64) {
     );
 }
 
-fn sets_of(schedule: &Schedule) -> Sets {
+pub fn sets_of(schedule: &Schedule) -> Sets {
     let [minutes, hours, days, months, weekdays, stars] = schedule.numbers();
     Sets {
         minutes,

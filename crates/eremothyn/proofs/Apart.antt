@@ -47,6 +47,9 @@ use Rattle.fifo.specs.declared.Ticked.the-variants as tick
 use Rattle.fifo.specs.declared.Popped.{Popped}
 use Rattle.fifo.specs.declared.Popped.the-variants as pop
 use Rattle.fifo.proofs.Theorems.{TickedWithin, PoppedWithin}
+use Rattle.firings.specs.declared.Filled.{Filled}
+use Rattle.firings.specs.declared.Filled.the-variants as list
+use Rattle.firings.specs.Rising.{Few}
 use Rattle.eremothyn.specs.declared.dates.DatePart.{DatePart}
 use Rattle.eremothyn.specs.declared.dates.DatePart.the-variants.{Year, Month, Day, Hour, Minute, Weekday}
 use Rattle.eremothyn.specs.declared.settings.Shown.{Shown}
@@ -59,7 +62,8 @@ use Rattle.eremothyn.specs.Settings.{shownIn, settingNumber}
 use Rattle.eremothyn.specs.Commands.{splitNumber, inputNumber, splitIn, splitOf, stdinIn, stdinLength}
 use Rattle.eremothyn.specs.NormalForms.{normalNumber}
 use Rattle.eremothyn.specs.Queue.{tickNumber, popNumber}
-use Rattle.eremothyn.specs.Apart.{Tells, byRefusal, byEntry, byDue, byNext, bySplit, byForm, byTick, byPop, Stays}
+use Rattle.eremothyn.specs.Lists.{filledNumber}
+use Rattle.eremothyn.specs.Apart.{Tells, TellsFilled, byRefusal, byEntry, byDue, byNext, bySplit, byForm, byTick, byPop, Stays}
 
 -- a record's answer, where its value is small unless it is refused
 answer-tells : (refusal value : ℕ) → (refusal ≡ 0 → value ≤ refusedFrom) → Tells (byRefusal refusal) (answerOf refusal value)
@@ -219,6 +223,14 @@ unfolding popNumber
 pop-tells n (pop.Entry e) few h = omega arith
 pop-tells n pop.Nothing few h = omega arith
 pop-tells n (pop.Refused number) few h = (h, refl)
+
+-- ---- lists
+
+pub list-tells : (r : Filled) → Few r → TellsFilled r (filledNumber r)
+unfolding filledNumber
+list-tells (list.All n) h = omega arith
+list-tells (list.More n) h = (omega arith, omega arith)
+list-tells (list.Refused n) h = (h .0, refl, omega (arith, h .1))
 
 -- ---- what is refused changes nothing
 

@@ -36,6 +36,8 @@ use Rattle.records.specs.Calls.{compiled, decompiled}
 use Rattle.records.proofs.Theorems.{mostRecords, compiled-told, decompiled-told, fault-told}
 use Rattle.runqueue.specs.Calls.{initTable, tickTable, popTable}
 use Rattle.runqueue.proofs.Theorems.{init-told, tick-told, pop-told, init-stays, tick-stays, pop-stays}
+use Rattle.firings.specs.Calls.{firingsIn, mergedIn}
+use Rattle.firings.proofs.Theorems.{firings-few, firings-kept, merged-few, merged-kept}
 use Rattle.crontab.specs.Computing.{reading}
 use Rattle.command.specs.Computing.{splitting}
 use Rattle.eremothyn.specs.Rules.{rulesOf}
@@ -43,7 +45,7 @@ use Rattle.eremothyn.specs.Entries.{nextNumber}
 use Rattle.eremothyn.specs.KnownDays.{KnownDays}
 use Rattle.eremothyn.specs.Apart.{ToldApart, RefusedStays}
 use Rattle.eremothyn.proofs.Apart.{part-tells, minute-tells, check-tells, setting-tells, owner-tells, due-tells, next-tells}
-use Rattle.eremothyn.proofs.Apart.{split-tells, stdin-tells, form-tells, tick-tells, pop-tells, split-stays, form-stays, tick-keeps, pop-keeps}
+use Rattle.eremothyn.proofs.Apart.{split-tells, stdin-tells, form-tells, tick-tells, pop-tells, list-tells, split-stays, form-stays, tick-keeps, pop-keeps}
 
 -- the table's first entry is timed, and its command ends a byte behind its start
 abbrev reads : List ℕ → Schedule → ℕ → ℕ → Type 0
@@ -162,6 +164,8 @@ told-apart =
       queue-pop =
           λ rules table room. let t = tableOf rules table in
           pop-tells (t .count) (popTable t room .answer) (table-sound rules table .few) (pop-told t room);
+      firings = λ rules table i a b run. list-tells (firingsIn (tableOf rules table) i a b run .answer) (firings-few rules table i a b run);
+      merged-firings = λ rules table a b minutes entries. list-tells (mergedIn (tableOf rules table) a b minutes entries .answer) (merged-few rules table a b minutes entries);
     }
 
 -- a refused call changes no byte
@@ -178,4 +182,6 @@ refused-stays =
           let s = tickTable (tableOf rules table) minute room in
           tick-keeps (s .answer) room (s .room) (λ n. tick-stays (tableOf rules table) room n minute);
       queue-pop = λ rules table room. let s = popTable (tableOf rules table) room in pop-keeps (s .answer) room (s .room) (pop-stays (tableOf rules table) room);
+      firings = firings-kept;
+      merged-firings = merged-kept;
     }

@@ -3,7 +3,7 @@
 -- proofs/Theorems.
 -- Assumes nothing.
 use mathlib.Core.Path.{_≡_}
-use Prim.Native.Nat.{ℕ, zero, suc, _+_, _≤_}
+use Prim.Native.Nat.{ℕ, zero, suc, _+_, _≤_, _<_}
 use mathlib.Core.List.{List}
 use lib.ListN.{length}
 use Rattle.calendar.specs.Dates.{dateOf, minuteOf}
@@ -29,6 +29,10 @@ use Rattle.fifo.specs.declared.Ticked.the-variants as tick
 use Rattle.fifo.specs.declared.Popped.{Popped}
 use Rattle.fifo.specs.declared.Popped.the-variants as pop
 use Rattle.runqueue.specs.Calls.{initTable, tickTable, popTable}
+use Rattle.firings.specs.declared.Filled.{Filled}
+use Rattle.firings.specs.declared.Filled.the-variants as list
+use Rattle.firings.specs.Calls.{firingsIn, mergedIn}
+use Rattle.firings.specs.Rising.{Kept}
 use Rattle.eremothyn.specs.declared.dates.DatePart.{DatePart}
 use Rattle.eremothyn.specs.declared.settings.Shown.{Shown}
 use Rattle.eremothyn.specs.Answer.{refusedFrom}
@@ -42,6 +46,7 @@ use Rattle.eremothyn.specs.Owners.{ownerNumber}
 use Rattle.eremothyn.specs.Commands.{splitNumber, splitOf, stdinLength}
 use Rattle.eremothyn.specs.NormalForms.{normalNumber}
 use Rattle.eremothyn.specs.Queue.{tickNumber, popNumber}
+use Rattle.eremothyn.specs.Lists.{moreFrom, filledNumber}
 
 -- ---- whether an answer is a refusal, and which
 
@@ -91,6 +96,12 @@ abbrev pub Tells : Outcome → ℕ → Type 0
 Tells granted number = number ≤ refusedFrom
 Tells (refused n) number = (1 ≤ n) × (number ≡ refusedFrom + n)
 
+-- ticket 2026-12: a list's number tells three things apart: a count, a count where more remain, a refusal
+abbrev pub TellsFilled : Filled → ℕ → Type 0
+TellsFilled (list.All n) number = number < refusedFrom
+TellsFilled (list.More n) number = (moreFrom ≤ number) × (number < moreFrom + refusedFrom)
+TellsFilled (list.Refused n) number = (1 ≤ n) × (number ≡ refusedFrom + n) × (number < moreFrom)
+
 -- for every call, whatever is asked and lent
 pub record ToldApart : Type 0 where
   pub year-to-weekday : (minute : ℕ) (part : DatePart) → Tells (byRefusal (dateOf minute .refusal)) (datePart minute part)
@@ -116,6 +127,10 @@ pub record ToldApart : Type 0 where
   pub queue-init : (rules : Rules) (table room : List ℕ) → let a = initTable (tableOf rules table) room .answer in Tells (byTick a) (tickNumber a)
   pub queue-tick : (rules : Rules) (table room : List ℕ) (minute : ℕ) → let a = tickTable (tableOf rules table) minute room .answer in Tells (byTick a) (tickNumber a)
   pub queue-pop : (rules : Rules) (table room : List ℕ) → let a = popTable (tableOf rules table) room .answer in Tells (byPop a) (popNumber a)
+  pub firings : (rules : Rules) (table : List ℕ) (i a b : ℕ) (run : List ℕ)
+      → let r = firingsIn (tableOf rules table) i a b run .answer in TellsFilled r (filledNumber r)
+  pub merged-firings : (rules : Rules) (table : List ℕ) (a b : ℕ) (minutes entries : List ℕ)
+      → let r = mergedIn (tableOf rules table) a b minutes entries .answer in TellsFilled r (filledNumber r)
 
 -- ---- a refused call changes no byte
 
@@ -133,3 +148,7 @@ pub record RefusedStays : Type 0 where
   pub queue-init : (rules : Rules) (table room : List ℕ) → let s = initTable (tableOf rules table) room in Stays (byTick (s .answer)) room (s .room)
   pub queue-tick : (rules : Rules) (table room : List ℕ) (minute : ℕ) → let s = tickTable (tableOf rules table) minute room in Stays (byTick (s .answer)) room (s .room)
   pub queue-pop : (rules : Rules) (table room : List ℕ) → let s = popTable (tableOf rules table) room in Stays (byPop (s .answer)) room (s .room)
+  pub firings : (rules : Rules) (table : List ℕ) (i a b : ℕ) (run : List ℕ)
+      → let s = firingsIn (tableOf rules table) i a b run in Kept (s .answer) run (s .run)
+  pub merged-firings : (rules : Rules) (table : List ℕ) (a b : ℕ) (minutes entries : List ℕ)
+      → let s = mergedIn (tableOf rules table) a b minutes entries in Kept (s .answer) minutes (s .minutes) × Kept (s .answer) entries (s .entries)

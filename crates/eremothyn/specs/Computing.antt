@@ -6,6 +6,7 @@ use Rattle.schedule.specs.Computing.{firing}
 use Rattle.crontab.specs.Computing.{reading}
 use Rattle.crontab.specs.Firings.{isBoot, isFixed, firesOn, firesAt, dueOf, told, nextOf, dueAnswer, dueIn, nextAnswer, nextIn}
 use Rattle.command.specs.Computing.{splitting}
+use Rattle.firings.specs.Computing.{listing}
 use Rattle.normal.specs.Computing.{writing}
 use Rattle.records.specs.Computing.{coding}
 use Rattle.fifo.specs.Examples.{running}
@@ -20,9 +21,10 @@ use Rattle.eremothyn.specs.Owners.{ownerNumber}
 use Rattle.eremothyn.specs.Commands.{splitNumber, inputNumber, splitIn, splitOf, stdinIn, stdinLength}
 use Rattle.eremothyn.specs.NormalForms.{normalNumber}
 use Rattle.eremothyn.specs.Queue.{tickNumber, popNumber}
+use Rattle.eremothyn.specs.Lists.{filledNumber}
 
 unfoldable pub answering : Unit {0}
 unfolding dating firing reading isBoot isFixed firesOn firesAt dueOf told nextOf dueAnswer dueIn nextAnswer nextIn splitting writing coding running jobAt jobsOf
     initTable tickTable popTable answerOf datePart dateMinute checkNumber dueNumber nextNumber settingNumber ownerNumber splitNumber inputNumber
-    splitIn splitOf stdinIn stdinLength normalNumber tickNumber popNumber
+    splitIn splitOf stdinIn stdinLength normalNumber tickNumber popNumber listing filledNumber
 answering = tt

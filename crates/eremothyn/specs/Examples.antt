@@ -15,6 +15,7 @@ use Rattle.crontab.specs.Settings.{settingIn}
 use Rattle.crontab.specs.Firings.{dueIn, nextIn}
 use Rattle.normal.specs.NormalForms.{normalForm}
 use Rattle.records.specs.Calls.{compiled, decompiled, recordFault}
+use Rattle.firings.specs.Calls.{firingsIn, mergedIn}
 use Rattle.runqueue.specs.Calls.{initTable, tickTable, popTable}
 use Rattle.eremothyn.specs.Rules.{rulesOf}
 use Rattle.eremothyn.specs.declared.dates.DatePart.the-variants.{Year, Month, Day, Hour, Minute, Weekday}
@@ -28,6 +29,7 @@ use Rattle.eremothyn.specs.Settings.{settingNumber}
 use Rattle.eremothyn.specs.Commands.{splitNumber, splitOf, stdinLength}
 use Rattle.eremothyn.specs.NormalForms.{normalNumber}
 use Rattle.eremothyn.specs.Queue.{tickNumber, popNumber}
+use Rattle.eremothyn.specs.Lists.{filledNumber}
 use Rattle.eremothyn.specs.Computing.{answering}
 
 -- ---- dates
@@ -272,6 +274,43 @@ decompiles : Hold decompileOn
     ∷ [])
 unfolding answering
 decompiles = refl
+
+-- ---- ticket 2026-12: lists of firings, in runs that hold 1, 2 and 3 at first
+
+abbrev hut : List ℕ
+hut = text "*/5 * * * * x\n@reboot y\n10 * * * * z\n"
+
+abbrev firingsOn : ℕ × ℕ × ℕ × List ℕ → ℕ × List ℕ
+firingsOn (i, a, b, room) = let s = firingsIn (tableOf (rulesOf 0) hut) i a b room in (filledNumber (s .answer), s .run)
+
+lists : Hold firingsOn
+    (((0, 5, 15, 1 ∷ 2 ∷ 3 ∷ []), (2, 10 ∷ 15 ∷ 3 ∷ []))
+    -- they fit exactly, and one is too many
+    ∷ ((0, 0, 15, 1 ∷ 2 ∷ 3 ∷ []), (3, 5 ∷ 10 ∷ 15 ∷ []))
+    ∷ ((0, 0, 20, 1 ∷ 2 ∷ 3 ∷ []), (8589934595, 5 ∷ 10 ∷ 15 ∷ []))
+    ∷ ((2, 10, 0, 1 ∷ 2 ∷ 3 ∷ []), (0, 1 ∷ 2 ∷ 3 ∷ []))
+    -- 13, 14 and 15
+    ∷ ((3, 0, 15, 1 ∷ []), (4294967309, 1 ∷ []))
+    ∷ ((1, 0, 4223371680, 1 ∷ []), (4294967310, 1 ∷ []))
+    ∷ ((1, 0, 15, 1 ∷ []), (4294967311, 1 ∷ []))
+    ∷ [])
+unfolding answering
+lists = refl
+
+abbrev mergedOn : List ℕ × ℕ × ℕ × List ℕ × List ℕ → ℕ × List ℕ × List ℕ
+mergedOn (s, a, b, minutes, entries) =
+    let m = mergedIn (tableOf (rulesOf 0) s) a b minutes entries in
+    (filledNumber (m .answer), m .minutes, m .entries)
+
+merged-lists : Hold mergedOn
+    (((hut, 5, 14, 1 ∷ 2 ∷ 3 ∷ [], 1 ∷ 2 ∷ []), (2, 10 ∷ 10 ∷ 3 ∷ [], 0 ∷ 2 ∷ []))
+    ∷ ((hut, 5, 15, 1 ∷ 2 ∷ 3 ∷ [], 1 ∷ 2 ∷ []), (8589934594, 10 ∷ 10 ∷ 3 ∷ [], 0 ∷ 2 ∷ []))
+    -- the table's refusal, and 14
+    ∷ ((text "60\n", 4223371680, 15, 1 ∷ [], 1 ∷ []), (4294967302, 1 ∷ [], 1 ∷ []))
+    ∷ ((hut, 4223371680, 15, 1 ∷ [], 1 ∷ []), (4294967310, 1 ∷ [], 1 ∷ []))
+    ∷ [])
+unfolding answering
+merged-lists = refl
 
 -- ---- the line of waiting jobs
 

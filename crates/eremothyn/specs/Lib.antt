@@ -8,6 +8,7 @@ pub mod Settings
 pub mod Owners
 pub mod NormalForms
 pub mod Queue
+pub mod Lists
 pub mod Computing
 pub mod Examples
 pub mod KnownDays

@@ -3,6 +3,7 @@ mod answer;
 pub mod commands;
 pub mod dates;
 pub mod entries;
+pub mod lists;
 pub mod normal_forms;
 pub mod owners;
 pub mod queue;

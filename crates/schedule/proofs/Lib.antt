@@ -12,6 +12,7 @@ pub mod LocalMinutes
 pub mod LocalFirings
 pub mod LocalTheorems
 pub mod Jumps
+pub mod SameDay
 pub mod MonthSets
 pub mod NextMonths
 pub mod Quick

@@ -1,14 +1,19 @@
 // The minutes of an entry under an offset from UTC, which is added before matching (ticket 2026-09). An offset is a number of minutes from
 // -720 to 840.
 ghost use mathlib.Core.Path.{_≡_};
-ghost use Prim.Native.Nat.{ℕ, _+_, _≤_};
+ghost use mathlib.Core.Bool.{true};
+ghost use Prim.Native.Nat.{ℕ, _+_, _≤_, _<_};
 ghost use Rattle.calendar.specs.Dates.{lastMinute};
-ghost use Rattle.schedule.specs.Local.{InZones, ahead, localOf, localDate, matchesLocal, firingFromIn, firingAfterIn, nextAfterIn};
+ghost use Rattle.schedule.specs.Match.{matchesAt};
+ghost use Rattle.schedule.specs.Search.{from};
+ghost use Rattle.schedule.specs.Local.{InZones, ahead, localOf, matchesIn, localDate, matchesLocal, firingFromIn, firingAfterIn, nextAfterIn};
 use crate::Next;
 use crate::Schedule;
 use crate::matches_date;
 use crate::minute_from;
 use crate::never::can_fire;
+use crate::time::time_from;
+use calendar::DAY_MINUTES;
 use calendar::Date;
 use calendar::LAST_MINUTE;
 
@@ -108,4 +113,33 @@ pub fn next_firing_in(s: Schedule, offset: i32, minute: u64) -> Next
         return firing_after_in(s, offset, minute);
     }
     Next::Never
+}
+
+// The least time of a day after `t`, or 1,440.
+fn time_after(s: Schedule, t: u64) -> u64
+    requires { ⌜ t < 1440 ⌝ }
+    ensures { λ r. ⌜ r ≡ from (matchesAt s) 1440 (t + 1) ⌝ }
+{
+    let next = t + 1;
+    if next < DAY_MINUTES {
+        return time_from(s, next);
+    }
+    next
+}
+
+// The same after a minute at which the entry fires: its local date matches, so that the rest of that day needs no calendar.
+pub fn next_after_firing(s: Schedule, offset: i32, minute: u64) -> Next
+    requires { ⌜ InZones offset × (minute ≤ lastMinute) × (matchesIn s (ahead offset) minute ≡ true) ⌝ }
+    ensures { λ r. ⌜ r ≡ nextAfterIn s (ahead offset) minute ⌝ }
+{
+    let LocalMinute::At(local) = local_minute(offset, minute) else {
+        return next_firing_in(s, offset, minute);
+    };
+    let time = local % DAY_MINUTES;
+    let later = time_after(s, time);
+    let found = minute + (later - time);
+    if (later < DAY_MINUTES) & (found <= LAST_MINUTE) {
+        return Next::At(found);
+    }
+    next_firing_in(s, offset, minute)
 }

@@ -8,12 +8,14 @@
 #include <string.h>
 #include <ucontext.h>
 
-enum { STACK = 1 << 20, PATTERN = 0xA5, ROOM = 8 * EREMOTHYN_MAX_ENTRIES + 64 };
+enum { STACK = 1 << 20, PATTERN = 0xA5, ROOM = 8 * EREMOTHYN_MAX_ENTRIES + 64, PLACES = 4096 };
 
 static uint8_t stack[STACK];
 static uint8_t room[ROOM], shell[EREMOTHYN_MAX_LINE], input[EREMOTHYN_MAX_LINE];
 static uint8_t table[EREMOTHYN_MAX_TABLE], text[EREMOTHYN_MAX_TABLE];
 static uint8_t records[EREMOTHYN_MAX_COMPILED], compiled[EREMOTHYN_MAX_COMPILED];
+static uint32_t minutes[PLACES];
+static uint16_t entries[PLACES];
 static size_t length, records_length;
 static uint64_t kind;
 
@@ -22,6 +24,12 @@ static void fault_line(void) { eremothyn_fault_line(table, length, kind); }
 static void fault_column(void) { eremothyn_fault_column(table, length, kind); }
 static void due(void) { eremothyn_due(table, length, kind, 511, 0); }
 static void next(void) { eremothyn_next(table, length, kind, 511, 0); }
+/* The minutes of a day: all entries wait for their turn, again and again. */
+static void firings(void) { eremothyn_firings(table, length, kind, 511, 0, 1440, minutes, PLACES); }
+static void merged_firings(void)
+{
+    eremothyn_merged_firings(table, length, kind, 0, 1440, minutes, PLACES, entries, PLACES);
+}
 static void stdin_length(void) { eremothyn_stdin_length(table, length, kind, 511); }
 static void split_command(void)
 {
@@ -54,6 +62,8 @@ static const struct call {
     {"fault_column", fault_column},
     {"due", due},
     {"next", next},
+    {"firings", firings},
+    {"merged_firings", merged_firings},
     {"stdin_length", stdin_length},
     {"split_command", split_command},
     {"user_offset", user_offset},

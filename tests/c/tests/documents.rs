@@ -69,16 +69,24 @@ fn the_two_sites_are_run_as_shown() {
 }
 
 #[test]
+fn crontab_firings_prints_what_is_shown() {
+    prints_what_is_shown(
+        "target/bin/crontab_firings",
+        "examples/two_sites.crontab 29912760 29913000",
+    );
+}
+
+#[test]
 fn eremothyn_format_prints_what_is_shown() {
     prints_what_is_shown("target/c/eremothyn", "format examples/observatory.crontab");
 }
 
-/// Runs a script in which `eremothyn` is the command.
+/// Runs a script in which `eremothyn` is the command, and `crontab_firings` the program.
 fn script(script: &str) -> (String, Option<i32>) {
     let _ = make(&["all"]);
     told(&run(
         "sh",
-        &["-c", &format!("PATH=target/c:$PATH; {script}")],
+        &["-c", &format!("PATH=target/c:target/bin:$PATH; {script}")],
     ))
 }
 
@@ -111,8 +119,13 @@ fn examples(page: &str) -> Vec<&str> {
 /// The examples of each page, each a command and what it prints.
 #[test]
 fn the_pages_show_what_is_printed() {
-    for name in ["format", "compile", "decompile"] {
-        let page = page(&format!("eremothyn-{name}.1"));
+    for name in [
+        "eremothyn-format",
+        "eremothyn-compile",
+        "eremothyn-decompile",
+        "crontab_firings",
+    ] {
+        let page = page(&format!("{name}.1"));
         let examples = examples(&page)[0];
         let examples = examples.strip_prefix("$ ").expect("a command");
         for example in examples.split("\n$ ") {

@@ -111,6 +111,11 @@ fn the_installed_command_runs_and_the_version_is_told() {
         told(&run(&command, &["check", &two_sites])),
         (line, Some(0))
     );
+    let lister = format!("{}{PREFIX}/bin/crontab_firings", word(&folder));
+    assert_eq!(
+        told(&run(&lister, &[&two_sites, "29912760", "29912820"])),
+        ("29912775 5\n29912820 0\n".to_string(), Some(0))
+    );
     let header = fs::read_to_string(root().join("include/eremothyn.h")).expect("the header");
     let version = flags(&folder, &["--modversion"]);
     assert!(header.contains(&format!("EREMOTHYN_VERSION \"{}\"\n", version[0])));
@@ -137,7 +142,7 @@ fn the_manual_has_all_of_the_header() {
         names
     };
     let functions = names("eremothyn_");
-    assert_eq!(functions.len(), 32);
+    assert_eq!(functions.len(), 34);
     for function in &functions {
         assert!(page.contains(&format!("{function}(")), "{function}");
         let found = fs::read_to_string(format!("{manual}/man3/{function}.3"))
@@ -158,8 +163,8 @@ fn the_pages_are_well_formed() {
     let folder = scratch("install-pages");
     install(&folder);
     let manual = format!("{}{PREFIX}/share/man", word(&folder));
-    let (pages, _) = told(&run("find", &[&manual, "-name", "eremothyn*"]));
-    let pages = pages.lines().filter(|page| !page.contains('_'));
+    let (pages, _) = told(&run("find", &[&manual, "-type", "f"]));
+    let pages = pages.lines().filter(|page| !page.contains("/eremothyn_"));
     let mut count = 0;
     for page in pages {
         let output = run("groff", &["-t", "-man", "-ww", "-z", "-Tutf8", page]);
@@ -167,7 +172,7 @@ fn the_pages_are_well_formed() {
         assert!(output.status.success() && silent, "{page}: {output:?}");
         count += 1;
     }
-    assert!(count >= 8, "{count} pages");
+    assert!(count >= 9, "{count} pages");
 }
 
 #[test]

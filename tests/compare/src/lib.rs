@@ -4,5 +4,6 @@ pub mod calendar;
 pub mod queue;
 pub mod records;
 pub mod samples;
+pub mod spans;
 pub mod table;
 mod writing;

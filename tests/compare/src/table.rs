@@ -2,8 +2,10 @@
 //! program's answer. The lent bytes end at guard pages, and the table's are read-only.
 
 mod compiled;
+mod firings;
 mod normal;
 
+use crate::spans;
 use eremothyn::{Answer, Table, SYSTEM_TABLE, USER_TABLE};
 use guard::{filled, Guarded};
 use second::random::Random;
@@ -199,6 +201,9 @@ impl<'a> Compared<'a> {
         let high = 1 << (15 + random.below(49));
         let _ = self.setting(high + random.below(lines + 1));
 
+        let span = spans::near(random);
+        let rooms = [(); 2].map(|_| random.below(20) as usize);
+        let _ = self.merged_firings(span, rooms);
         self.normal_form_into_all();
         self.compile_into_all();
     }
@@ -215,6 +220,9 @@ impl<'a> Compared<'a> {
                 let _ = self.next(entry, firing);
             }
         }
+        let span = spans::near(random);
+        let room = random.below(20) as usize;
+        let _ = self.firings(entry, span, room);
         let _ = self.user_column(entry);
         let _ = self.stdin_length(entry);
         self.split_into_all(entry);
@@ -225,6 +233,7 @@ impl<'a> Compared<'a> {
         let minute = samples::start(random);
         assert!(self.due(entry, minute).is_err());
         assert!(self.next(entry, minute).is_err());
+        assert!(self.firings(entry, [minute, minute], 2).is_err());
         assert!(self.user_column(entry).is_err());
         assert!(self.stdin_length(entry).is_err());
         assert!(self.split_command(entry, [20, 20]).is_err());

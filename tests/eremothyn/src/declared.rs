@@ -64,7 +64,7 @@ macro_rules! function_of_a_table {
             fn $name(table: *const u8, table_length: u64, $($number: u64,)* $($parameter: $type),*) -> u64;
         }
 
-        /// Nothing is required of bytes or numbers; the pointers have as many bytes as the lengths beside them say.
+        /// Nothing is required of bytes or numbers; the pointers have as many bytes or numbers as the lengths beside them say.
         impl Table<'_> {
             #[inline]
             pub(crate) unsafe fn $name(self, $($parameter: $type),*) -> u64 {
@@ -81,6 +81,15 @@ functions_of_a_table! {
     eremothyn_fault_column();
     eremothyn_due(entry: u64, minute: u64);
     eremothyn_next(entry: u64, minute: u64);
+    eremothyn_firings(entry: u64, a: u64, b: u64, run: *mut u32, run_length: u64);
+    eremothyn_merged_firings(
+        a: u64,
+        b: u64,
+        minutes: *mut u32,
+        minutes_length: u64,
+        entries: *mut u16,
+        entries_length: u64
+    );
     eremothyn_split_command(
         entry: u64, shell: *mut u8, shell_length: u64, input: *mut u8, input_length: u64
     );

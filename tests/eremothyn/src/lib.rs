@@ -2,6 +2,7 @@
 
 mod calendar;
 mod declared;
+mod firings;
 mod queue;
 mod records;
 mod run;
@@ -13,4 +14,4 @@ pub use calendar::{
 pub use declared::{Table, SYSTEM_TABLE, USER_TABLE};
 pub use records::Records;
 pub use run::Run;
-pub use second::answer::{Answer, REFUSED};
+pub use second::answer::{Answer, Filled, MORE, REFUSED};

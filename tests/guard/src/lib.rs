@@ -11,6 +11,7 @@ pub use vast::{Vast, VAST};
 use mapping::Access;
 use pages::Pages;
 use std::ops::Deref;
+use std::slice;
 use std::sync::OnceLock;
 
 /// What stands in front of the bytes, again and again up to the start of their first page; another guard page is before
@@ -46,6 +47,17 @@ impl Guarded {
         answer
     }
 
+    /// The same with numbers.
+    pub fn lend_numbers<N: Number, T>(numbers: &mut [N], call: impl FnOnce(&mut [N]) -> T) -> T {
+        let (count, size) = (numbers.len(), size_of_val(numbers));
+        // SAFETY: the same place as bytes, and any bytes are numbers.
+        let bytes = unsafe { slice::from_raw_parts_mut(numbers.as_mut_ptr().cast::<u8>(), size) };
+        Guarded::lend(bytes, |bytes| {
+            // SAFETY: as many numbers as were given; they end where a page does, so the first is aligned.
+            call(unsafe { slice::from_raw_parts_mut(bytes.as_mut_ptr().cast::<N>(), count) })
+        })
+    }
+
     fn writable(bytes: &[u8]) -> Guarded {
         let length = bytes.len();
         let mut guarded = Guarded {
@@ -72,6 +84,15 @@ impl Deref for Guarded {
         &self.pages.bytes()[self.start()..]
     }
 }
+
+/// Numbers of which any bytes are some.
+///
+/// # Safety
+/// It is so, and their size divides a page's.
+pub unsafe trait Number {}
+
+unsafe impl Number for u16 {}
+unsafe impl Number for u32 {}
 
 /// So many bytes that a buffer holds before a call.
 pub fn filled(length: usize) -> Vec<u8> {

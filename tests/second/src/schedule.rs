@@ -80,6 +80,21 @@ impl Schedule {
         (minute.saturating_add(1)..=LAST_MINUTE).find(|&later| self.matches(later))
     }
 
+    /// All matching minutes after a minute and up to another, rising, by a local clock as `next_under` has it. Local days are
+    /// gone through, from the one before the first minute's own to the one after the last's.
+    pub fn all_under(&self, offset: i64, after: u64, last: u64) -> impl Iterator<Item = u64> {
+        let (schedule, times) = (*self, self.times());
+        let first_day = (after / MINUTES_PER_DAY).saturating_sub(1);
+        let days = first_day..DAYS.min(last / MINUTES_PER_DAY + 2);
+        let shown =
+            days.filter(move |&day| schedule.has_shown(cycle()[day as usize % DAYS_PER_CYCLE]));
+        let firings = shown.flat_map(move |day| {
+            let local = times.clone().into_iter();
+            local.filter_map(move |time| (day * MINUTES_PER_DAY + time).checked_add_signed(-offset))
+        });
+        firings.filter(move |&firing| after < firing && firing <= last)
+    }
+
     /// As C hands it over: minutes, hours, days, months, weekdays, and the stars of days and weekdays in bits 0 and 1.
     pub fn numbers(&self) -> [u64; 6] {
         [
@@ -190,5 +205,27 @@ mod tests {
                 }
             }
         }
+    }
+
+    /// A list by days is what asking every minute of the span finds, under every sort of clock.
+    #[test]
+    fn the_days_and_the_minutes_agree() {
+        let mut random = Random::seeded();
+        let mut firings = 0;
+        for _ in 0..2_000 {
+            let schedule = samples::schedule(&mut random);
+            let after = samples::start(&mut random).min(LAST_MINUTE);
+            let last = LAST_MINUTE.min(after + random.below(5_000));
+            let offset = random.below(1_561) as i64 - 720;
+            let matches = |minute: &u64| {
+                let local = minute.checked_add_signed(offset);
+                local.is_some_and(|local| schedule.matches(local))
+            };
+            let listed: Vec<u64> = schedule.all_under(offset, after, last).collect();
+            let asked: Vec<u64> = (after + 1..=last).filter(matches).collect();
+            assert_eq!(listed, asked, "{schedule:x?} {offset} {after} {last}");
+            firings += listed.len();
+        }
+        assert!(firings > 10_000, "{firings} firings");
     }
 }

@@ -3,6 +3,7 @@
 
 pub mod calls;
 pub mod documents;
+pub mod firings;
 pub mod normal;
 pub mod offset;
 pub mod records;
@@ -104,6 +105,18 @@ impl Entry<'_> {
             When::Reboot => Err(NEXT_OF_REBOOT),
             When::Times(schedule) => schedule.next_under(self.offset, minute),
         }
+    }
+
+    /// All minutes at which it fires after a minute and up to another, rising; at boot isn't one of them.
+    pub fn firings(&self, after: u64, last: u64) -> impl Iterator<Item = u64> {
+        let times = match self.when {
+            When::Reboot => None,
+            When::Times(schedule) => Some(schedule),
+        };
+        let offset = self.offset;
+        times
+            .into_iter()
+            .flat_map(move |schedule| schedule.all_under(offset, after, last))
     }
 }
 

@@ -33,6 +33,9 @@ fn any_numbers(random: &mut Random, compared: &Compared) {
         let minute = numbers::minute(random);
         let _ = compared.due(entry, minute);
         let _ = compared.next(entry, minute);
+        let span = numbers::span(random);
+        let _ = compared.firings(entry, span, random.below(6) as usize);
+        let _ = compared.merged_firings(span, [(); 2].map(|_| random.below(6) as usize));
         let _ = compared.stdin_length(entry);
         let _ = compared.user_column(entry);
         let _ = compared.setting(numbers::number(random, count));

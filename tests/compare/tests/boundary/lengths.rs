@@ -1,6 +1,8 @@
 //! Lent lengths that are 0, or little, in their low 8, 16 or 32 bits.
 
-use crate::raw::{decompiled, judged, queue_answers, split, table_answers, texts, Place, KINDS};
+use crate::raw::{
+    decompiled, fit, judged, lists, queue_answers, split, table_answers, texts, Place, KINDS,
+};
 use compare::queue::{Case, Compared as Line};
 use compare::records;
 use compare::table::Compared;
@@ -51,6 +53,7 @@ fn vast_tables() {
             assert_eq!(judged(table), (TOO_LONG, 0, 0));
             assert_eq!(table_answers(table, 0, 3), [TOO_LONG; 13]);
             assert_eq!(split(table, 0, other, Place::of(b"")), TOO_LONG);
+            assert_eq!(lists(table, 0, [other, Place::of(b"")]), [Err(1); 2]);
             assert_eq!(queue_answers(table, other), [TOO_LONG; 3]);
             assert_eq!(texts(table, [other; 2]), [TOO_LONG; 2]);
             assert_eq!(texts(table, [Place::of(b""); 2]), [TOO_LONG; 2]);
@@ -84,6 +87,38 @@ fn vast_buffers_and_rooms() {
             records.page()[..=compiled.len()],
             [&compiled[..], b"\0"].concat()
         );
+    }
+}
+
+/// Only the front of vast runs is touched, and a length that is little in its low bits isn't cut to them.
+#[test]
+fn vast_runs() {
+    for (bytes, kind) in [(TABLE, 0), (SYSTEM_TABLE, 1)] {
+        let table = Place::of(bytes).table().of_kind(kind);
+        for places in [VAST - 1, VAST, VAST + 1] {
+            let mut runs = [(); 2].map(|_| Vast::of(&[0x55; 16]));
+            let [minutes, entries] = runs.each_mut().map(|vast| Place(vast.start(), places));
+            // Entry 0 is at boot alone, entry 1 fires every minute.
+            assert_eq!(
+                lists(table, 0, [minutes, entries]),
+                [Err(15), fit(2, false)]
+            );
+            let [minutes, entries] = runs.each_mut().map(|vast| vast.page());
+            assert_eq!(minutes[..12], *b"\x01\0\0\0\x02\0\0\0\x55\x55\x55\x55");
+            assert_eq!(entries[..8], *b"\x01\0\x01\0\x55\x55\x55\x55");
+            minutes[..12].fill(0x55);
+            let [minutes, entries] = runs.each_mut().map(|vast| Place(vast.start(), places));
+            // The shorter run counts, whichever it is.
+            let one = Place(entries.0, 1);
+            assert_eq!(
+                lists(table, 1, [minutes, one]),
+                [fit(2, false), fit(1, true)]
+            );
+            let one = Place(minutes.0, 1);
+            assert_eq!(lists(table, 1, [one, entries]), [fit(1, true); 2]);
+            let [minutes, _] = runs.each_mut().map(|vast| vast.page());
+            assert_eq!(minutes[..12], *b"\x01\0\0\0\x02\0\0\0\x55\x55\x55\x55");
+        }
     }
 }
 

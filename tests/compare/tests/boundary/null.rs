@@ -1,6 +1,8 @@
 //! A null pointer with length 0 is an empty run of bytes like any other, for every pointer of every function.
 
-use crate::raw::{decompiled, judged, queue_answers, split, table_answers, texts, Place, KINDS};
+use crate::raw::{
+    decompiled, fit, judged, lists, queue_answers, split, table_answers, texts, Place, KINDS,
+};
 use compare::queue::Case;
 use eremothyn::{Answer, Table, REFUSED};
 use guard::Guarded;
@@ -31,6 +33,7 @@ fn no_table() {
                 let answers = table_answers(table, number, number);
                 assert_eq!(answers[..9], [NO_ENTRY; 9]);
                 assert_eq!(answers[9..], [NO_SETTING; 4]);
+                assert_eq!(lists(table, number, [empty; 2]), [Err(13), fit(0, false)]);
                 let mut bytes = [7];
                 for buffer in [empty, Place::of_mut(&mut bytes)] {
                     assert_eq!(split(table, number, buffer, empty), NO_ENTRY);
@@ -68,6 +71,33 @@ fn no_buffer_for(table: Table) {
             let pairs = [(empty, some), (some, empty), (empty, empty)];
             let found = pairs.map(|(shell, input)| split(table, entry, shell, input));
             assert_eq!(found, answers, "entry {entry}");
+        }
+    });
+}
+
+/// No run for the minutes, none for the entries, and neither; the other has a place.
+#[test]
+fn no_run() {
+    // Each minute, at boot, never; in both kinds.
+    let rows: [(&[u8], [Result<_, u64>; 2]); 3] = [
+        (b"* * * * * a b\n", [fit(0, true), fit(0, true)]),
+        (b"@reboot a b\n", [Err(15), fit(0, false)]),
+        (b"0 0 30 2 * a b\n", [fit(0, false), fit(0, false)]),
+    ];
+    for_each_empty(|empty| {
+        for (table, answers) in rows {
+            let table = Guarded::read_only(table);
+            for kind in KINDS {
+                let table = Place::of(&table).table().of_kind(kind);
+                assert_eq!(lists(table, 0, [empty; 2]), answers);
+                let mut minutes = [7u32];
+                let some = Place(minutes.as_mut_ptr().cast(), 1);
+                assert_eq!(lists(table, 0, [some, empty])[1], answers[1]);
+                let mut entries = [7u16];
+                let some = Place(entries.as_mut_ptr().cast(), 1);
+                assert_eq!(lists(table, 0, [empty, some]), answers);
+                assert_eq!(entries, [7]);
+            }
         }
     });
 }

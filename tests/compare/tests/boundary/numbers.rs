@@ -27,3 +27,13 @@ pub fn minute(random: &mut Random) -> u64 {
         _ => samples::start(random),
     }
 }
+
+/// Two such minutes; where both are on the calendar and far apart, the second is drawn near.
+pub fn span(random: &mut Random) -> [u64; 2] {
+    const FAR: u64 = 20_000;
+    let [a, b] = [(); 2].map(|_| minute(random));
+    match b <= LAST_MINUTE && a <= LAST_MINUTE {
+        true => [a, b.min(a + FAR)],
+        false => [a, b],
+    }
+}

@@ -1,6 +1,6 @@
 //! The C functions with any pointers and lengths, as no slice has them.
 
-use eremothyn::{Answer, Records, Run, Table};
+use eremothyn::{Answer, Filled, Records, Run, Table};
 
 /// Numbers of both kinds.
 pub const KINDS: [u64; 5] = [0, 1, 2, 1 << 32, u64::MAX];
@@ -66,6 +66,22 @@ pub fn texts(table: Table, [text, records]: [Place; 2]) -> [Answer; 2] {
 pub fn decompiled(records: Place, text: Place) -> (Answer, u64) {
     let records = records.records();
     (records.decompile(text.run()), records.fault())
+}
+
+/// The firings of an entry and of the table after minute 0 and up to 2, in runs of minutes and of entries. Their places count
+/// numbers, and not bytes.
+pub fn lists(table: Table, entry: u64, [minutes, entries]: [Place; 2]) -> [Result<Filled, u64>; 2] {
+    let run = || unsafe { Run::at(minutes.0.cast::<u32>(), minutes.1) };
+    let numbers = unsafe { Run::at(entries.0.cast::<u16>(), entries.1) };
+    [
+        table.firings(entry, [0, 2], run()),
+        table.merged_firings([0, 2], run(), numbers),
+    ]
+}
+
+/// How a list is answered of which so many fit.
+pub fn fit(count: u64, more: bool) -> Result<Filled, u64> {
+    Ok(Filled { count, more })
 }
 
 /// A fresh line, minute 0 announced, and a request.

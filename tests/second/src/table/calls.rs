@@ -6,7 +6,7 @@ use crate::calendar::LAST_MINUTE;
 use crate::command::{split, Command};
 
 const NO_ENTRY: u64 = 13;
-const NOT_ON_CALENDAR: u64 = 14;
+pub(super) const NOT_ON_CALENDAR: u64 = 14;
 pub(super) const BUFFER_TOO_SHORT: u64 = 18;
 const NO_SETTING: u64 = 19;
 
@@ -88,11 +88,11 @@ impl<'a> Calls<'a> {
         self.good()?.setting(line).ok_or(NO_SETTING)
     }
 
-    fn good(&self) -> Result<&Table<'a>, u64> {
+    pub(super) fn good(&self) -> Result<&Table<'a>, u64> {
         self.table.as_ref().map_err(|fault| fault.number)
     }
 
-    fn entry(&self, entry: u64) -> Result<&Entry<'a>, u64> {
+    pub(super) fn entry(&self, entry: u64) -> Result<&Entry<'a>, u64> {
         let entries = &self.good()?.entries;
         if entry >= entries.len() as u64 {
             return Err(NO_ENTRY);

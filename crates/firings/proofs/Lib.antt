@@ -1,0 +1,10 @@
+pub mod Passing
+pub mod Filling
+pub mod Exits
+pub mod NextFirings
+pub mod Trees
+pub mod Waiting
+pub mod Keys
+pub mod Merging
+pub mod Counts
+pub mod Theorems

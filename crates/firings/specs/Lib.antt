@@ -1,0 +1,7 @@
+pub mod Passing
+pub mod Lists
+pub mod Calls
+pub mod Keys
+pub mod Rising
+pub mod Computing
+pub mod Examples
