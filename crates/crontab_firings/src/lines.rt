@@ -1,14 +1,18 @@
 // Firings as lines of text: minute, space, entry number.
 ghost use mathlib.Core.Path.{_≡_};
-ghost use Prim.Native.Nat.{_+_, _*_, _≤_};
-ghost use lib.ListN.{length};
+ghost use mathlib.Core.List.{List};
+ghost use Prim.Native.Nat.{ℕ, _+_, _/_, _≤_, min};
+ghost use lib.ListN.{length, take};
+ghost use Rattle.bytes.specs.Laid.{Wrote};
 ghost use Rattle.io.specs.Counts.{Counts};
+ghost use Rattle.crontab_firings.specs.Lines.{Decimal, Line, Lines};
+use bytes::write;
 
 // The room of the longest line, whatever the numbers.
 pub const LINE: usize = 42;
 
 fn lesser(a: usize, b: usize) -> usize
-    ensures { λ r. ⌜ (r ≤ a) × (r ≤ b) ⌝ }
+    ensures { λ r. ⌜ r ≡ min a b ⌝ }
 {
     if a <= b {
         return a;
@@ -16,51 +20,30 @@ fn lesser(a: usize, b: usize) -> usize
     b
 }
 
-// How many digits a number has.
-fn places(n: u64) -> usize
-    ensures { λ r. ⌜ r ≤ 20 ⌝ }
-{
-    let mut rest = n / 10;
-    let mut k = 1;
-    while k < 20 {
-        if rest == 0 {
-            return k;
-        }
-        rest /= 10;
-        k += 1;
-    }
-    k
-}
-
 // A number at a place; the place behind it is answered.
 fn decimal(text: &mut [u8], at: usize, n: u64) -> usize
     requires { ⌜ at + 20 ≤ length (now text) ⌝ }
-    ensures { λ r. ⌜ (r ≤ at + 20) × (length (now (text .exit)) ≡ length (now (text .entry))) ⌝ }
+    ensures { λ r. ⌜ ((t : List ℕ) × Decimal n t × (length t ≤ 20) × Wrote at t (now (text .entry)) r (now (text .exit))) ⌝ }
 {
-    let k = places(n);
-    let mut rest = n;
-    let mut i = k;
-    while 0 < i {
-        i -= 1;
-        text[at + i] = b'0' + (rest % 10) as u8;
-        rest /= 10;
-    }
-    at + k
+    let mut digits = [0u8; 20];
+    let k = io::decimal(n, &mut digits);
+    write::copy(text, at, &digits[..k])
 }
 
 fn line(text: &mut [u8], at: usize, minute: u32, entry: u16) -> usize
     requires { ⌜ at + 42 ≤ length (now text) ⌝ }
-    ensures { λ r. ⌜ (r ≤ at + 42) × (length (now (text .exit)) ≡ length (now (text .entry))) ⌝ }
+    ensures { λ r. ⌜ ((t : List ℕ) × Line minute entry t × (length t ≤ 42) × Wrote at t (now (text .entry)) r (now (text .exit))) ⌝ }
 {
     let behind = decimal(text, at, minute as u64);
-    let next = bytes::write::byte(text, behind, b' ');
+    let next = write::byte(text, behind, b' ');
     let end = decimal(text, next, entry as u64);
-    bytes::write::byte(text, end, b'\n')
+    write::byte(text, end, b'\n')
 }
 
-// The first n firings, or as many as there are and fit; how many bytes they take is answered.
+// The first n firings, or as many as there are and have room; how many bytes they take is answered.
 pub fn write(minutes: &[u32], entries: &[u16], n: usize, text: &mut [u8]) -> usize
     ensures { λ r. ⌜ Counts r (now (text .exit)) ⌝ }
+    ensures { λ r. ⌜ Lines (now (minutes .entry)) (now (entries .entry)) (min (min n (length (now (text .entry)) / 42)) (min (length (now (minutes .entry))) (length (now (entries .entry))))) (take r (now (text .exit))) ⌝ }
 {
     let most = lesser(
         lesser(n, text.len() / LINE),

@@ -1,40 +1,28 @@
--- `crontab_firings::lines::decimal` meets its contract: a number takes at most 20 places.
+-- `crontab_firings::lines::decimal` meets its contract: the digits are those that `io` makes.
 -- Assumes nothing.
-use mathlib.Core.Path.{_≡_, refl}
-use Prim.Native.Nat.{_≤_}
-use native.Mathlib.Omega.{arith}
+use Rattle.crontab_firings.proofs.Texts.{length-digits, few-digits}
+use Rattle.io.specs.Digits.{digits}
 use borrow.Author.Needs.{needs}
-use lib.ListN.{length, length-set}
+use mathlib.Core.Path.{refl}
+use native.Mathlib.Omega.{arith}
 use Rattle.crontab_firings.proofs.lines.decimal.Statement.{statement}
 use Rattle.crontab_firings.proofs.lines.decimal.Tie as tie
 
-abbrev Inv-loop : tie.InvT-loop
-Inv-loop text₀ at n k rest₀ i₀ text rest i = (i ≤ k) × (k ≤ 20) × (length text ≡ length text₀)
+copy-requires : tie.Need-copy-requires
+copy-requires c κs =
+    let d = c .before .before .decimal in
+    omega (arith, d .ensures .0 .0, d .ensures .0 .1, few-digits (c .before .before .before .before .before .args .n) (d .result) (omega arith) (d .ensures .1 .0), c .before .before .before .before .before .pre)
 
-abbrev μ-loop : tie.MeasureT-loop
-μ-loop text₀ at n k rest₀ i₀ text rest i = i
-
-loop-holds : tie.Need-loop-holds Inv-loop μ-loop
-loop-holds c = (omega arith, c .places .ensures, refl)
-
-loop-again : tie.Need-loop-again Inv-loop μ-loop
-loop-again c = (omega arith, c .before .loop .inv .1, simp length-set (c .before .loop .inv .2))
+returns : tie.Need-returns
+returns c =
+    let d = c .before .before .before .before .before .decimal in
+    let n = c .before .before .before .before .before .before .before .before .args .n in
+    let few = length-digits 10 (d .result) n in (
+      digits 10 (d .result) n,
+      record { size = d .result; fewest = d .ensures .1 .0; is = refl },
+      omega (arith, few-digits n (d .result) (omega arith) (d .ensures .1 .0), few),
+      rw (d .ensures .1 .1) at (c .before .before .copy .ensures),
+    )
 
 pub decimal-spec : {M : Type 1} → statement M
-decimal-spec =
-    tie.close
-    (tie.spec
-    Inv-loop
-    μ-loop
-    (λ c κs. tt)
-    loop-holds
-    (λ c. omega arith)
-    (λ c. omega arith)
-    (λ c. omega arith)
-    (λ c. omega arith)
-    (λ c. omega arith)
-    (λ c. omega arith)
-    loop-again
-    (λ c. omega arith)
-    (λ c. c .before .loop .inv .2)
-    (λ c. (omega arith, c .before .loop .inv .2)))
+decimal-spec = tie.close (tie.spec (λ c κs. search needs) (λ c. search needs) (λ c. search needs) copy-requires (λ c. search needs) returns)

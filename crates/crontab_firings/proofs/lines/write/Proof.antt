@@ -1,39 +1,53 @@
--- `crontab_firings::lines::write` meets its contract: no line takes more than its room.
+-- `crontab_firings::lines::write` meets its contract: the first i firings are written, each within the room of a line.
 -- Assumes nothing.
-use mathlib.Core.Path.{_≡_, refl, sym, _∙_}
-use Prim.Native.Nat.{_-_, _*_, _≤_}
+use mathlib.Core.Path.{_≡_, sym}
+use Prim.Native.Nat.{_-_, _≤_, _/_, min}
 use native.Mathlib.Omega.{arith}
 use borrow.Author.Needs.{needs}
 use lib.ListN.{length}
 use lib.Seq.{length-take-le}
+use Rattle.crontab_firings.proofs.Texts.{Written, written-start, written-more, written-text}
 use Rattle.crontab_firings.proofs.lines.write.Statement.{statement}
 use Rattle.crontab_firings.proofs.lines.write.Tie as tie
 
 abbrev Inv-loop : tie.InvT-loop
-Inv-loop minutes entries n text₀ most at₀ i₀ text at i =
-    (at ≤ i * 42) × (i ≤ most) × (most ≤ length minutes) × (most ≤ length entries) × (most * 42 ≤ length text₀) × (length text ≡ length text₀)
+Inv-loop minutes entries n text₀ most at₀ i₀ text at i = Written minutes entries i text₀ at text × (i ≤ most)
 
 abbrev μ-loop : tie.MeasureT-loop
 μ-loop minutes entries n text₀ most at₀ i₀ text at i = most - i
 
+-- how many there are, and that they have room
+most-is : (c : tie.After-lesser3 Inv-loop μ-loop)
+    → let a = c .before .before .before .before .before .before .args in
+    c .lesser3 .result ≡ min (min (a .n) (length (a .text .now) / 42)) (min (length (a .minutes .now)) (length (a .entries .now)))
+most-is c = rw (← (c .before .before .lesser .ensures), ← (c .before .lesser2 .ensures)) (c .lesser3 .ensures)
+
 loop-holds : tie.Need-loop-holds Inv-loop μ-loop
-loop-holds c =
-    let both = c .lesser3 .ensures in
-    let first = c .before .before .lesser .ensures in
-    let second = c .before .lesser2 .ensures in
-    (omega arith, omega arith, omega (arith, both .1, second .0), omega (arith, both .1, second .1), omega (arith, both .0, first .1), refl)
+loop-holds c = (written-start _ _ _, omega arith)
+
+shared-slice-read-line : tie.Need-shared-slice-read-line Inv-loop μ-loop
+shared-slice-read-line c = omega (arith, most-is (c .before .before .before .before))
+
+shared-slice-read-line-2 : tie.Need-shared-slice-read-line-2 Inv-loop μ-loop
+shared-slice-read-line-2 c = omega (arith, most-is (c .before .before .before .before .before))
+
+line-requires : tie.Need-line-requires Inv-loop μ-loop
+line-requires c κs =
+    let w = c .before .before .before .before .loop .inv .0 in
+    omega (arith, most-is (c .before .before .before .before .before), w .small, w .wrote .size, w .wrote .place)
 
 loop-again : tie.Need-loop-again Inv-loop μ-loop
 loop-again c =
-    let inv = c .before .before .before .before .before .before .before .loop .inv in
-    let line = c .before .before .line .ensures in
-    (omega (arith, line .0, inv .0), omega arith, inv .2, inv .3, inv .4, line .1 ∙ inv .5)
+    let l = c .before .before .before .before .before .before .before in
+    (written-more _ _ _ (l .loop .inv .0) (c .before .before .line .ensures), omega arith)
 
 returns : tie.Need-returns Inv-loop μ-loop
 returns c =
-    let inv = c .before .loop .inv in
-    let h : c .before .loop .at ≤ length (c .before .loop .text) = omega (arith, inv .0, inv .1, inv .4, inv .5) in
-    (h, sym (length-take-le _ _ h))
+    let l = c .before .loop in
+    let w = l .inv .0 in
+    let all : l .i ≡ c .before .before .lesser3 .result = omega (arith, l .inv .1) in
+    let h : l .at ≤ length (l .text) = omega (arith, w .wrote .room, w .wrote .size, w .wrote .place) in
+    ((h, sym (length-take-le _ _ h)), rw (← most-is (c .before .before), ← all) (written-text _ _ _ w))
 
 pub write-spec : {M : Type 1} → statement M
 write-spec =
@@ -46,12 +60,12 @@ write-spec =
     (λ c κs. tt)
     loop-holds
     (λ c. search needs)
-    (λ c. omega arith)
+    shared-slice-read-line
     (λ c. search needs)
-    (λ c. omega arith)
-    (λ c κs. let inv = c .before .before .before .before .loop .inv in omega (arith, inv .0, inv .4, inv .5))
+    shared-slice-read-line-2
+    line-requires
     (λ c. omega arith)
     (λ c. omega arith)
     loop-again
-    (λ c. c .before .loop .inv .5)
+    (λ c. c .before .loop .inv .0 .wrote .size)
     returns)

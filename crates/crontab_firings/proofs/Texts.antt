@@ -1,0 +1,73 @@
+-- Laws of the lines of firings: how long they are, and the text as a loop writes it.
+-- Assumes nothing.
+use mathlib.Core.Path.{_≡_, refl, sym, ap, _∙_}
+use mathlib.Core.List.{List, [], _∷_, _++_}
+use Prim.Native.Nat.{ℕ, zero, suc, _+_, _*_, _-_, _/_, _%_, _^_, _≤_, _<_}
+use native.Mathlib.Numerals.{add-one}
+use native.Mathlib.Nat.{lt-of-not-le, zero-lt-suc, pow-le-pow-right}
+use native.Mathlib.Decide.{decLe}
+use native.Mathlib.Omega.{arith}
+use lib.ListN.{length, getD, take, drop, length-append}
+use lib.Seq.{take-append-seam}
+use Rattle.bytes.specs.Laid as front
+use Rattle.bytes.specs.Laid.{Wrote}
+use Rattle.bytes.proofs.Written.{written-none, written-front, wrote-next}
+use Rattle.io.specs.Digits.{glyph, digits, Fewest}
+use Rattle.crontab_firings.specs.Lines.{space, newline, Line, Lines}
+
+pub length-digits : (b k n : ℕ) → length (digits b k n) ≡ k
+length-digits b zero n = refl
+length-digits b (suc k) n = length-append (digits b k (n / b)) (glyph (n % b) ∷ []) ∙ omega (arith, length-digits b k (n / b))
+
+-- a number of 64 bits has at most 20 digits
+pub few-digits : (n k : ℕ) → n < 100000000000000000000 → Fewest 10 1 n k → k ≤ 20
+few-digits n k h f = elim (decLe k 20) [ yes p ↦ p | no p ↦ absurd (many (lt-of-not-le p)) ]
+  where
+    many : 20 < k → ⊥
+    many p =
+        let grown : 10 ^ 20 ≤ 10 ^ (k - 1) = pow-le-pow-right (zero-lt-suc 9) (let q : 20 ≤ k - 1 = omega arith in q) in
+        omega (arith, f .2 (omega arith), grown)
+
+pub length-line : (m e : List ℕ) → length (m ++ space ∷ [] ++ e ++ newline ∷ []) ≡ length m + length e + 2
+length-line m e =
+    length-append (m ++ space ∷ [] ++ e) (newline ∷ [])
+    ∙ omega (arith, length-append (m ++ space ∷ []) e, length-append m (space ∷ []))
+
+-- the first i firings stand at the front of the text
+pub record Written (minutes entries : List ℕ) (i : ℕ) (before : List ℕ) (at : ℕ) (now : List ℕ) : Type 0 where
+  pub so-far : List ℕ
+  pub lines : Lines minutes entries i so-far
+  pub small : length so-far ≤ i * 42
+  pub wrote : Wrote 0 so-far before at now
+
+module _ (minutes entries before : List ℕ) where
+  pub written-start : Written minutes entries 0 before 0 before
+  written-start =
+      record {
+        so-far = [];
+        lines = refl;
+        small = omega arith;
+        wrote = record { room = omega arith; bytes = sym (written-none 0 before); size = refl; place = refl };
+      }
+
+  pub written-more : {i at next : ℕ} {text now : List ℕ} → Written minutes entries i before at text
+      → (t : List ℕ) × Line (getD minutes i 0) (getD entries i 0) t × (length t ≤ 42) × Wrote at t text next now
+      → Written minutes entries (i + 1) before next now
+  written-more {i} w (t, is, few, more) =
+      rw (add-one i)
+      (record {
+        so-far = w .so-far ++ t;
+        lines = (w .so-far, t, w .lines, is, refl);
+        small = omega (arith, length-append (w .so-far) t, w .small);
+        wrote = wrote-next (w .wrote) more;
+      })
+
+  -- so many bytes are just the lines
+  pub written-text : {i at : ℕ} {text : List ℕ} → Written minutes entries i before at text → Lines minutes entries i (take at text)
+  unfolding front.laid
+  written-text {i} {at} {text} w =
+      let whole : text ≡ w .so-far ++ drop (length (w .so-far)) before = w .wrote .bytes ∙ written-front (w .so-far) before in
+      let place : at ≡ length (w .so-far) = omega (arith, w .wrote .place) in
+      let e : take at text ≡ w .so-far =
+      ap (λ (n : ℕ). take n text) place ∙ ap (take (length (w .so-far))) whole ∙ take-append-seam (w .so-far) (drop (length (w .so-far)) before) in
+      rw e (w .lines)

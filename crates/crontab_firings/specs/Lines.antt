@@ -1,0 +1,40 @@
+-- Ticket 2026-12: "a line each: minute, space, entry number".
+-- Assumes nothing.
+use mathlib.Core.Path.{_≡_, refl}
+use Prim.Native.Nat.{ℕ, zero, suc}
+use mathlib.Core.List.{List, [], _∷_, _++_}
+use lib.ListN.{getD}
+use Rattle.bytes.specs.Texts.{text}
+use Rattle.bytes.specs.Rows.{Hold}
+use Rattle.io.specs.Digits.{digits, Fewest}
+
+-- a number in decimal, in as few digits as it takes
+pub record Decimal (n : ℕ) (written : List ℕ) : Type 0 where
+  pub size : ℕ
+  pub fewest : Fewest 10 1 n size
+  pub is : written ≡ digits 10 size n
+
+abbrev digitsOf : ℕ × ℕ → List ℕ
+digitsOf (size, n) = digits 10 size n
+
+numbers : Hold digitsOf (((1, 0), text "0") ∷ ((3, 105), text "105") ∷ ((10, 4223371679), text "4223371679") ∷ [])
+numbers = refl
+
+abbrev pub space : ℕ
+space = 32
+
+abbrev pub newline : ℕ
+newline = 10
+
+pub record Line (minute entry : ℕ) (written : List ℕ) : Type 0 where
+  pub first : List ℕ
+  pub second : List ℕ
+  pub minute-is : Decimal minute first
+  pub entry-is : Decimal entry second
+  pub is : written ≡ first ++ space ∷ [] ++ second ++ newline ∷ []
+
+-- the first i firings
+abbrev pub Lines : List ℕ → List ℕ → ℕ → List ℕ → Type 0
+Lines minutes entries zero written = written ≡ []
+Lines minutes entries (suc i) written =
+    (before : List ℕ) × (last : List ℕ) × Lines minutes entries i before × Line (getD minutes i 0) (getD entries i 0) last × (written ≡ before ++ last)
