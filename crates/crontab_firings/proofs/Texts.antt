@@ -7,7 +7,7 @@ use native.Mathlib.Numerals.{add-one}
 use native.Mathlib.Nat.{lt-of-not-le, zero-lt-suc, pow-le-pow-right}
 use native.Mathlib.Decide.{decLe}
 use native.Mathlib.Omega.{arith}
-use lib.ListN.{length, getD, take, drop, length-append}
+use lib.ListN.{length, getD, take, drop, length-append, List·getD-eq-default}
 use lib.Seq.{take-append-seam}
 use Rattle.bytes.specs.Laid as front
 use Rattle.bytes.specs.Laid.{Wrote}
@@ -71,3 +71,18 @@ module _ (minutes entries before : List ℕ) where
       let e : take at text ≡ w .so-far =
       ap (λ (n : ℕ). take n text) place ∙ ap (take (length (w .so-far))) whole ∙ take-append-seam (w .so-far) (drop (length (w .so-far)) before) in
       rw e (w .lines)
+
+-- ---- minutes of firings
+
+-- one more of the minute, before those behind
+pub behind-more : (minutes : List ℕ) (last n k : ℕ) → ((j : ℕ) → k ≤ j → j < n → getD minutes j 0 ≡ last) → getD minutes (k - 1) 0 ≡ last
+    → (j : ℕ) → k - 1 ≤ j → j < n → getD minutes j 0 ≡ last
+behind-more minutes last n k behind here j h l = elim (decLe k j) [ yes p ↦ behind j p l | no p ↦ (let e : j ≡ k - 1 = omega (arith, lt-of-not-le p) in rw e here) ]
+
+-- counted from 1
+pub none-at : (minutes : List ℕ) (n : ℕ) → length minutes < n → getD (0 ∷ minutes) n 0 ≡ 0
+none-at minutes n h = List·getD-eq-default (0 ∷ minutes) 0 (let k : length (0 ∷ minutes) ≤ n = omega arith in k)
+
+pub one-at : (minutes : List ℕ) (n : ℕ) → (n ≡ 0 → ⊥) → getD (0 ∷ minutes) n 0 ≡ getD minutes (n - 1) 0
+one-at minutes zero h = absurd (h refl)
+one-at minutes (suc n) h = let e : suc n - 1 ≡ n = omega arith in rw e

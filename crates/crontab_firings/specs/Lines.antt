@@ -1,7 +1,7 @@
 -- Ticket 2026-12: "a line each: minute, space, entry number".
 -- Assumes nothing.
 use mathlib.Core.Path.{_≡_, refl}
-use Prim.Native.Nat.{ℕ, zero, suc}
+use Prim.Native.Nat.{ℕ, zero, suc, _-_, _≤_, _<_}
 use mathlib.Core.List.{List, [], _∷_, _++_}
 use lib.ListN.{getD}
 use Rattle.bytes.specs.Texts.{text}
@@ -38,3 +38,9 @@ abbrev pub Lines : List ℕ → List ℕ → ℕ → List ℕ → Type 0
 Lines minutes entries zero written = written ≡ []
 Lines minutes entries (suc i) written =
     (before : List ℕ) × (last : List ℕ) × Lines minutes entries i before × Line (getD minutes i 0) (getD entries i 0) last × (written ≡ before ++ last)
+
+-- k of the first n firings come before those of a minute at their end
+pub record Before (minute : ℕ) (minutes : List ℕ) (n k : ℕ) : Type 0 where
+  pub within : k ≤ n
+  pub behind : (j : ℕ) → k ≤ j → j < n → getD minutes j 0 ≡ minute
+  pub other : 0 < k → getD minutes (k - 1) 0 ≡ minute → ⊥

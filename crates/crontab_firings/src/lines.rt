@@ -1,11 +1,11 @@
 // Firings as lines of text: minute, space, entry number.
 ghost use mathlib.Core.Path.{_≡_};
-ghost use mathlib.Core.List.{List};
+ghost use mathlib.Core.List.{List, _∷_};
 ghost use Prim.Native.Nat.{ℕ, _+_, _/_, _≤_, min};
-ghost use lib.ListN.{length, take};
+ghost use lib.ListN.{length, take, getD};
 ghost use Rattle.bytes.specs.Laid.{Wrote};
 ghost use Rattle.io.specs.Counts.{Counts};
-ghost use Rattle.crontab_firings.specs.Lines.{Decimal, Line, Lines};
+ghost use Rattle.crontab_firings.specs.Lines.{Decimal, Line, Lines, Before};
 use bytes::write;
 
 // The room of the longest line, whatever the numbers.
@@ -58,8 +58,10 @@ pub fn write(minutes: &[u32], entries: &[u16], n: usize, text: &mut [u8]) -> usi
     at
 }
 
-// How many of the first n firings, of which there are no fewer, come before the last one's minute.
-pub fn before_last(minutes: &[u32], n: usize, last: u32) -> usize {
+// How many of the first n firings are left where those of the last minute, at their end, are taken away.
+pub fn before_last(minutes: &[u32], n: usize, last: u32) -> usize
+    ensures { λ r. ⌜ Before last (now (minutes .entry)) (min n (length (now (minutes .entry)))) r ⌝ }
+{
     let mut k = lesser(n, minutes.len());
     while 0 < k {
         if minutes[k - 1] != last {
@@ -71,7 +73,9 @@ pub fn before_last(minutes: &[u32], n: usize, last: u32) -> usize {
 }
 
 // The minute of firing n, counted from 1; 0 where there is none.
-pub fn minute_of(minutes: &[u32], n: usize) -> u32 {
+pub fn minute_of(minutes: &[u32], n: usize) -> u32
+    ensures { λ r. ⌜ r ≡ getD (0 ∷ now (minutes .entry)) n 0 ⌝ }
+{
     if n == 0 {
         return 0;
     }
