@@ -24,7 +24,7 @@ FUNCTIONS := $(shell sed -n '/^uint64_t\|^static inline/s/.*\(eremothyn_[a-z_]*\
 PAGES_1 := $(wildcard packaging/*.1)
 PAGES_3 := target/man/eremothyn.3 $(FUNCTIONS:%=target/man/%.3)
 PAGES_5 := $(wildcard packaging/*.5)
-EXAMPLES := daemon.c date.c table_file.h observatory.crontab system.crontab two_sites.crontab broken.crontab
+EXAMPLES := daemon.c date.c table_file.h observatory.crontab system.crontab two_sites.crontab over_midnight.crontab broken.crontab
 
 LIB := $(DESTDIR)$(LIBDIR)
 INCLUDE := $(DESTDIR)$(PREFIX)/include

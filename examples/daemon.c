@@ -2,12 +2,13 @@
  * A daemon's life with a crontab, in fast motion: each minute is announced, and so many requests take the jobs that have
  * waited longest.
  *
- *     daemon [-s] FILE PACE FROM TO [FROM TO]...
+ *     daemon [-s] [-w] FILE PACE FROM TO [FROM TO]...
  *
- * With -s the file is a system table, as /etc/crontab is one, and whom a job runs as is shown with it. PACE is how many jobs
- * may start in a minute. FROM and TO are dates in UTC such as 1970-01-01T00:00. With more than one pair the clock jumps,
- * forward or back, and the queue of waiting jobs goes on as it stands. For an entry that CRON_TZ gives a clock of its own, what
- * that clock shows stands behind the date in UTC.
+ * With -s the file is a system table, as /etc/crontab is one, and whom a job runs as is shown with it. With -w it is in the
+ * wrapping dialect, where the hours 22-3 go over midnight. PACE is how many jobs may start in a minute. FROM and TO are dates
+ * in UTC such as 1970-01-01T00:00. With more than one pair the clock jumps, forward or back, and the queue of waiting jobs
+ * goes on as it stands. For an entry that CRON_TZ gives a clock of its own, what that clock shows stands behind the date in
+ * UTC.
  *
  * A real daemon has the minute from the clock, time(NULL) / 60, which is UTC. It sleeps until the clock shows another one,
  * announces that, and starts what this one only shows. What it announces is the minute that the clock shows now, wherever the
@@ -39,10 +40,11 @@
 
 enum { DONE = 0, REFUSED = 1, FAILED = 2 };
 
-/* A crontab, its kind, how many minutes each entry's clock is ahead of UTC, and the queue of its waiting jobs. */
+/* A crontab, its kind and dialect, how many minutes each entry's clock is ahead of UTC, and the queue of its waiting jobs. */
 struct site {
     struct table_file table;
     uint64_t kind;
+    uint64_t dialect;
     int ahead[EREMOTHYN_MAX_ENTRIES];
     uint8_t queue[EREMOTHYN_ROOM(EREMOTHYN_MAX_ENTRIES)];
     uint64_t waiting;
@@ -131,7 +133,7 @@ static void set_clocks(struct site *site, struct part name, struct part value)
     while (start > 0 && table[start - 1] != '\n')
         start--;
     int minutes = 60 * two_digits(value.text + 1) + two_digits(value.text + 4);
-    uint64_t entry = answered("check", eremothyn_check(table, start, site->kind));
+    uint64_t entry = answered("check", eremothyn_check(table, start, site->kind, site->dialect));
     for (; entry < EREMOTHYN_MAX_ENTRIES; entry++)
         site->ahead[entry] = value.text[0] == '-' ? -minutes : minutes;
 }
@@ -140,18 +142,19 @@ static void set_clocks(struct site *site, struct part name, struct part value)
 static void take_settings(struct site *site)
 {
     const uint8_t *table = site->table.bytes;
-    uint64_t length = site->table.length, kind = site->kind;
+    uint64_t length = site->table.length, kind = site->kind, dialect = site->dialect;
     uint64_t lines = 1;
     for (uint64_t i = 0; i < length; i++)
         lines += table[i] == '\n';
     for (uint64_t line = 1; line <= lines; line++) {
-        uint64_t offset = eremothyn_setting_name_offset(table, length, kind, line);
+        uint64_t offset = eremothyn_setting_name_offset(table, length, kind, dialect, line);
         if (offset == EREMOTHYN_REFUSED + EREMOTHYN_NO_SETTING)
             continue;
-        struct part name = { table + answered("setting", offset),
-                             answered("setting", eremothyn_setting_name_length(table, length, kind, line)) };
-        struct part value = { table + answered("setting", eremothyn_setting_value_offset(table, length, kind, line)),
-                              answered("setting", eremothyn_setting_value_length(table, length, kind, line)) };
+        uint64_t name_length = eremothyn_setting_name_length(table, length, kind, dialect, line);
+        uint64_t value_offset = eremothyn_setting_value_offset(table, length, kind, dialect, line);
+        uint64_t value_length = eremothyn_setting_value_length(table, length, kind, dialect, line);
+        struct part name = { table + answered("setting", offset), answered("setting", name_length) };
+        struct part value = { table + answered("setting", value_offset), answered("setting", value_length) };
         fputs("setting   ", stdout);
         print_text(name.text, name.length);
         fputs(" = ", stdout);
@@ -165,7 +168,7 @@ static void take_settings(struct site *site)
 /* When an entry fires next; that it fires at boot only, never or no more is an answer, too. */
 static void print_next(const struct site *site, uint64_t entry, uint64_t minute)
 {
-    uint64_t next = eremothyn_next(site->table.bytes, site->table.length, site->kind, entry, minute);
+    uint64_t next = eremothyn_next(site->table.bytes, site->table.length, site->kind, site->dialect, entry, minute);
     printf("entry %2" PRIu64 "  ", entry);
     switch (EREMOTHYN_IS_REFUSED(next) ? EREMOTHYN_REFUSAL(next) : 0) {
     case EREMOTHYN_AT_BOOT_ONLY:
@@ -194,13 +197,13 @@ static void print_part(const struct site *site, const char *name, uint64_t offse
 static void print_user(const struct site *site, uint64_t entry)
 {
     const uint8_t *table = site->table.bytes;
-    uint64_t length = site->table.length, kind = site->kind;
-    print_part(site, "user", eremothyn_user_offset(table, length, kind, entry),
-               eremothyn_user_length(table, length, kind, entry));
-    print_part(site, "group", eremothyn_group_offset(table, length, kind, entry),
-               eremothyn_group_length(table, length, kind, entry));
-    print_part(site, "class", eremothyn_class_offset(table, length, kind, entry),
-               eremothyn_class_length(table, length, kind, entry));
+    uint64_t length = site->table.length, kind = site->kind, dialect = site->dialect;
+    print_part(site, "user", eremothyn_user_offset(table, length, kind, dialect, entry),
+               eremothyn_user_length(table, length, kind, dialect, entry));
+    print_part(site, "group", eremothyn_group_offset(table, length, kind, dialect, entry),
+               eremothyn_group_length(table, length, kind, dialect, entry));
+    print_part(site, "class", eremothyn_class_offset(table, length, kind, dialect, entry),
+               eremothyn_class_length(table, length, kind, dialect, entry));
 }
 
 /* A real daemon would become the entry's user, hand the shell line to a shell, and the input to its standard input. */
@@ -208,10 +211,11 @@ static void start(const struct site *site, uint64_t entry, uint64_t minute)
 {
     uint8_t shell[EREMOTHYN_MAX_LINE], input[EREMOTHYN_MAX_LINE];
     const uint8_t *table = site->table.bytes;
-    uint64_t length = site->table.length, kind = site->kind;
+    uint64_t length = site->table.length, kind = site->kind, dialect = site->dialect;
     uint64_t shell_length = answered(
-        "split_command", eremothyn_split_command(table, length, kind, entry, shell, sizeof shell, input, sizeof input));
-    uint64_t input_length = answered("stdin_length", eremothyn_stdin_length(table, length, kind, entry));
+        "split_command",
+        eremothyn_split_command(table, length, kind, dialect, entry, shell, sizeof shell, input, sizeof input));
+    uint64_t input_length = answered("stdin_length", eremothyn_stdin_length(table, length, kind, dialect, entry));
     print_date(minute);
     printf("  start entry %2" PRIu64 "  ", entry);
     print_text(shell, shell_length);
@@ -229,9 +233,9 @@ static void start(const struct site *site, uint64_t entry, uint64_t minute)
 static void live(struct site *site, uint64_t minute, uint64_t pace)
 {
     const uint8_t *table = site->table.bytes;
-    uint64_t length = site->table.length, kind = site->kind;
+    uint64_t length = site->table.length, kind = site->kind, dialect = site->dialect;
     uint64_t joined = answered(
-        "queue_tick", eremothyn_queue_tick(table, length, kind, site->queue, sizeof site->queue, minute));
+        "queue_tick", eremothyn_queue_tick(table, length, kind, dialect, site->queue, sizeof site->queue, minute));
     site->waiting += joined;
     if (joined != 0) {
         print_date(minute);
@@ -239,7 +243,7 @@ static void live(struct site *site, uint64_t minute, uint64_t pace)
     }
     for (uint64_t taken = 0; taken < pace; taken++) {
         uint64_t entry = answered(
-            "queue_pop", eremothyn_queue_pop(table, length, kind, site->queue, sizeof site->queue));
+            "queue_pop", eremothyn_queue_pop(table, length, kind, dialect, site->queue, sizeof site->queue));
         if (entry == EREMOTHYN_NOTHING_WAITS)
             return;
         site->waiting--;
@@ -255,18 +259,18 @@ static int boot(struct site *site, const char *name, uint64_t first)
         return FAILED;
     }
     const uint8_t *table = site->table.bytes;
-    uint64_t length = site->table.length, kind = site->kind;
-    uint64_t entries = eremothyn_check(table, length, kind);
+    uint64_t length = site->table.length, kind = site->kind, dialect = site->dialect;
+    uint64_t entries = eremothyn_check(table, length, kind, dialect);
     if (EREMOTHYN_IS_REFUSED(entries)) {
         fprintf(stderr, "%s:%" PRIu64 ":%" PRIu64 ": refused %" PRIu64 ": %s\n", name,
-                eremothyn_fault_line(table, length, kind), eremothyn_fault_column(table, length, kind),
+                eremothyn_fault_line(table, length, kind, dialect), eremothyn_fault_column(table, length, kind, dialect),
                 EREMOTHYN_REFUSAL(entries), eremothyn_words(EREMOTHYN_REFUSAL(entries)));
         return REFUSED;
     }
     take_settings(site);
     for (uint64_t entry = 0; entry < entries; entry++)
         print_next(site, entry, first);
-    site->waiting = answered("queue_init", eremothyn_queue_init(table, length, kind, site->queue, sizeof site->queue));
+    site->waiting = answered("queue_init", eremothyn_queue_init(table, length, kind, dialect, site->queue, sizeof site->queue));
     print_date(first);
     printf("  boot, %" PRIu64 " wait\n", site->waiting);
     return DONE;
@@ -308,10 +312,22 @@ static bool read_span(char **pair, uint64_t *first, uint64_t *last)
 
 static int usage(void)
 {
-    fputs("usage: daemon [-s] FILE PACE FROM TO [FROM TO]..., a PACE below 1000, dates as 1970-01-01T00:00, FROM not after "
-          "TO; -s for a system table\n",
+    fputs("usage: daemon [-s] [-w] FILE PACE FROM TO [FROM TO]..., a PACE below 1000, dates as 1970-01-01T00:00, FROM not "
+          "after TO; -s for a system table, -w for the wrapping dialect\n",
           stderr);
     return FAILED;
+}
+
+/* Takes a word that is an option. */
+static bool take_option(struct site *site, const char *word)
+{
+    bool is_kind = strcmp(word, "-s") == 0;
+    bool is_dialect = strcmp(word, "-w") == 0;
+    if (is_kind)
+        site->kind = EREMOTHYN_SYSTEM_TABLE;
+    if (is_dialect)
+        site->dialect = EREMOTHYN_WRAPPING;
+    return is_kind || is_dialect;
 }
 
 int main(int argc, char **argv)
@@ -319,11 +335,9 @@ int main(int argc, char **argv)
     static struct site site;
     uint64_t pace, first, last;
     site.kind = EREMOTHYN_USER_TABLE;
-    if (argc > 1 && strcmp(argv[1], "-s") == 0) {
-        site.kind = EREMOTHYN_SYSTEM_TABLE;
-        argc--;
+    site.dialect = EREMOTHYN_RISING;
+    for (; argc > 1 && take_option(&site, argv[1]); argc--)
         argv++;
-    }
     if (argc < 5 || argc % 2 == 0 || !read_pace(argv[2], &pace))
         return usage();
     for (int i = 3; i < argc; i += 2)

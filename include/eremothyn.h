@@ -31,7 +31,7 @@ extern "C" {
 #endif
 
 /* The middle number counts the change requests that have landed. */
-#define EREMOTHYN_VERSION "1.12.0"
+#define EREMOTHYN_VERSION "1.13.0"
 
 /* The last minute of the calendar, 9999-12-31 23:59. */
 #define EREMOTHYN_LAST_MINUTE UINT64_C(4223371679)
@@ -51,6 +51,15 @@ extern "C" {
  */
 #define EREMOTHYN_USER_TABLE UINT64_C(0)
 #define EREMOTHYN_SYSTEM_TABLE UINT64_C(1)
+
+/*
+ * Which dialect a table is in. In the rising dialect a range from high to low is refused, and weekdays are 0 to 7, of which 0
+ * and 7 are Sunday. In the wrapping dialect such a range runs to the field's last value and on from its first, the step counting
+ * on, so that the hours 22-3/2 are 22, 0 and 2; weekdays are 0 to 6, and sun is 0 at either end of a range. In all else the two
+ * are the same. Any number but 0 is the wrapping dialect.
+ */
+#define EREMOTHYN_RISING UINT64_C(0)
+#define EREMOTHYN_WRAPPING UINT64_C(1)
 
 /* A refusal is this plus its number. */
 #define EREMOTHYN_REFUSED UINT64_C(4294967296)
@@ -81,7 +90,7 @@ extern "C" {
 #define EREMOTHYN_TOO_FEW_FIELDS UINT64_C(4)    /* fewer than five fields; the column after the line's last byte */
 #define EREMOTHYN_FIELD_MALFORMED UINT64_C(5)   /* field not of the form; its first byte */
 #define EREMOTHYN_OUT_OF_LIMITS UINT64_C(6)     /* a number outside the field's limits; the element's first byte */
-#define EREMOTHYN_RANGE_REVERSED UINT64_C(7)    /* range from high to low; the same place */
+#define EREMOTHYN_RANGE_REVERSED UINT64_C(7)    /* range from high to low, in the rising dialect; the same place */
 #define EREMOTHYN_STEP_ZERO UINT64_C(8)         /* step 0; the same place */
 #define EREMOTHYN_NO_COMMAND UINT64_C(9)        /* no command; the column after the line's last byte */
 #define EREMOTHYN_UNKNOWN_WORD UINT64_C(10)     /* unknown @ word; the @ */
@@ -117,8 +126,9 @@ static inline const char *eremothyn_words(uint64_t refusal)
     case EREMOTHYN_FIELD_MALFORMED:
         return "not a time field: *, */step, or a list of n, n-m and n-m/step, with names for months and weekdays";
     case EREMOTHYN_OUT_OF_LIMITS:
-        return "a number outside its limits: minute 0-59, hour 0-23, day 1-31, month 1-12, weekday 0-7";
-    case EREMOTHYN_RANGE_REVERSED: return "a range from high to low";
+        return "a number outside its limits: minute 0-59, hour 0-23, day 1-31, month 1-12, weekday 0-7, or 0-6 in the "
+               "wrapping dialect";
+    case EREMOTHYN_RANGE_REVERSED: return "a range from high to low, which only the wrapping dialect has";
     case EREMOTHYN_STEP_ZERO: return "a step of 0";
     case EREMOTHYN_NO_COMMAND: return "no command after the time, or in a system table after the user";
     case EREMOTHYN_UNKNOWN_WORD:
@@ -178,31 +188,34 @@ uint64_t eremothyn_minute_of_hour(uint64_t minute);
 uint64_t eremothyn_weekday(uint64_t minute);
 
 /*
- * Tables. A table is the bytes of a crontab, and the number of its kind stands behind them: EREMOTHYN_USER_TABLE or
- * EREMOTHYN_SYSTEM_TABLE. (eremothyn_normal_form and eremothyn_compile take no kind.) Its entries have the numbers 0, 1
- * and on, in file order. Every call that takes a table reads it anew, and all but the two that say where a fault is refuse
- * a bad one as eremothyn_check does, before anything else.
+ * Tables. A table is the bytes of a crontab, and two numbers behind them say how they are read: its kind,
+ * EREMOTHYN_USER_TABLE or EREMOTHYN_SYSTEM_TABLE, and its dialect, EREMOTHYN_RISING or EREMOTHYN_WRAPPING.
+ * (eremothyn_normal_form and eremothyn_compile take no kind.) Its entries have the numbers 0, 1 and on, in file order. Every
+ * call that takes a table reads it anew, and all but the two that say where a fault is refuse a bad one as eremothyn_check
+ * does, before anything else.
  */
 
 /* How many entries the table has. */
-uint64_t eremothyn_check(const uint8_t *table, uint64_t table_length, uint64_t kind);
+uint64_t eremothyn_check(const uint8_t *table, uint64_t table_length, uint64_t kind, uint64_t dialect);
 
 /* The line and the column of the table's fault; 0 where it is good, and for EREMOTHYN_TABLE_TOO_LONG. */
-uint64_t eremothyn_fault_line(const uint8_t *table, uint64_t table_length, uint64_t kind);
-uint64_t eremothyn_fault_column(const uint8_t *table, uint64_t table_length, uint64_t kind);
+uint64_t eremothyn_fault_line(const uint8_t *table, uint64_t table_length, uint64_t kind, uint64_t dialect);
+uint64_t eremothyn_fault_column(const uint8_t *table, uint64_t table_length, uint64_t kind, uint64_t dialect);
 
 /*
  * Whether an entry is due at a minute: 1 or 0, and 0 for an @reboot entry. It is 0, too, while the entry's own clock shows a
  * minute off the calendar, which can be so for some hours at the calendar's ends. Refused with EREMOTHYN_NO_SUCH_ENTRY, then
  * EREMOTHYN_NOT_ON_CALENDAR.
  */
-uint64_t eremothyn_due(const uint8_t *table, uint64_t table_length, uint64_t kind, uint64_t entry, uint64_t minute);
+uint64_t eremothyn_due(const uint8_t *table, uint64_t table_length, uint64_t kind, uint64_t dialect, uint64_t entry,
+                       uint64_t minute);
 
 /*
  * The minute at which an entry fires next, strictly after a minute. Refused with EREMOTHYN_NO_SUCH_ENTRY,
  * EREMOTHYN_NOT_ON_CALENDAR, EREMOTHYN_AT_BOOT_ONLY, EREMOTHYN_NEVER or EREMOTHYN_PAST_THE_END, the first that holds.
  */
-uint64_t eremothyn_next(const uint8_t *table, uint64_t table_length, uint64_t kind, uint64_t entry, uint64_t minute);
+uint64_t eremothyn_next(const uint8_t *table, uint64_t table_length, uint64_t kind, uint64_t dialect, uint64_t entry,
+                        uint64_t minute);
 
 /*
  * Lists the firings of an entry after minute a and up to minute b: a itself is left out, b is not. They go to the front of a
@@ -211,7 +224,7 @@ uint64_t eremothyn_next(const uint8_t *table, uint64_t table_length, uint64_t ki
  * never fires, or not before the calendar ends, is no refusal here.
  *
  *     uint32_t run[100];
- *     uint64_t answer = eremothyn_firings(table, length, EREMOTHYN_USER_TABLE, 0, a, b, run, 100);
+ *     uint64_t answer = eremothyn_firings(table, length, EREMOTHYN_USER_TABLE, EREMOTHYN_RISING, 0, a, b, run, 100);
  *     for (uint64_t i = 0; !EREMOTHYN_IS_REFUSED(answer) && i < EREMOTHYN_FILLED(answer); i++)
  *         printf("%lu\n", (unsigned long)run[i]);
  *
@@ -221,8 +234,8 @@ uint64_t eremothyn_next(const uint8_t *table, uint64_t table_length, uint64_t ki
  * Refused with EREMOTHYN_NO_SUCH_ENTRY, EREMOTHYN_NOT_ON_CALENDAR for a, then for b, or EREMOTHYN_AT_BOOT_ONLY, the first that
  * holds.
  */
-uint64_t eremothyn_firings(const uint8_t *table, uint64_t table_length, uint64_t kind, uint64_t entry, uint64_t a, uint64_t b,
-                           uint32_t *run, uint64_t run_length);
+uint64_t eremothyn_firings(const uint8_t *table, uint64_t table_length, uint64_t kind, uint64_t dialect, uint64_t entry,
+                           uint64_t a, uint64_t b, uint32_t *run, uint64_t run_length);
 
 /*
  * Lists the firings of all entries after minute a and up to minute b, by minute, and within a minute by entry: the minutes go
@@ -235,8 +248,9 @@ uint64_t eremothyn_firings(const uint8_t *table, uint64_t table_length, uint64_t
  *
  * Refused with EREMOTHYN_NOT_ON_CALENDAR for a, then for b.
  */
-uint64_t eremothyn_merged_firings(const uint8_t *table, uint64_t table_length, uint64_t kind, uint64_t a, uint64_t b,
-                                  uint32_t *minutes, uint64_t minutes_length, uint16_t *entries, uint64_t entries_length);
+uint64_t eremothyn_merged_firings(const uint8_t *table, uint64_t table_length, uint64_t kind, uint64_t dialect, uint64_t a,
+                                  uint64_t b, uint32_t *minutes, uint64_t minutes_length, uint16_t *entries,
+                                  uint64_t entries_length);
 
 /*
  * Splits an entry's command: the shell line goes to the front of one buffer and the standard input to the front of the
@@ -244,40 +258,52 @@ uint64_t eremothyn_merged_firings(const uint8_t *table, uint64_t table_length, u
  * EREMOTHYN_TOO_SHORT if either buffer is too short. A command's length is always room enough for both; where there is no
  * input, none is needed. eremothyn_stdin_length answers how long the input is.
  */
-uint64_t eremothyn_split_command(const uint8_t *table, uint64_t table_length, uint64_t kind, uint64_t entry, uint8_t *shell,
-                                 uint64_t shell_length, uint8_t *input, uint64_t input_length);
+uint64_t eremothyn_split_command(const uint8_t *table, uint64_t table_length, uint64_t kind, uint64_t dialect,
+                                 uint64_t entry, uint8_t *shell, uint64_t shell_length, uint8_t *input,
+                                 uint64_t input_length);
 
 /*
  * The length of an entry's standard input, or EREMOTHYN_NO_INPUT if its command has none; empty input is 0. Refused with
  * EREMOTHYN_NO_SUCH_ENTRY.
  */
-uint64_t eremothyn_stdin_length(const uint8_t *table, uint64_t table_length, uint64_t kind, uint64_t entry);
+uint64_t eremothyn_stdin_length(const uint8_t *table, uint64_t table_length, uint64_t kind, uint64_t dialect,
+                                uint64_t entry);
 
 /*
  * The user, the group and the class of an entry's user column, as parts of the table: where each starts, counted from 0,
  * and its length, at most EREMOTHYN_MAX_NAME. Both are 0 where a part is absent, and in a user table all three are absent.
  * Refused with EREMOTHYN_NO_SUCH_ENTRY.
  */
-uint64_t eremothyn_user_offset(const uint8_t *table, uint64_t table_length, uint64_t kind, uint64_t entry);
-uint64_t eremothyn_user_length(const uint8_t *table, uint64_t table_length, uint64_t kind, uint64_t entry);
-uint64_t eremothyn_group_offset(const uint8_t *table, uint64_t table_length, uint64_t kind, uint64_t entry);
-uint64_t eremothyn_group_length(const uint8_t *table, uint64_t table_length, uint64_t kind, uint64_t entry);
-uint64_t eremothyn_class_offset(const uint8_t *table, uint64_t table_length, uint64_t kind, uint64_t entry);
-uint64_t eremothyn_class_length(const uint8_t *table, uint64_t table_length, uint64_t kind, uint64_t entry);
+uint64_t eremothyn_user_offset(const uint8_t *table, uint64_t table_length, uint64_t kind, uint64_t dialect,
+                               uint64_t entry);
+uint64_t eremothyn_user_length(const uint8_t *table, uint64_t table_length, uint64_t kind, uint64_t dialect,
+                               uint64_t entry);
+uint64_t eremothyn_group_offset(const uint8_t *table, uint64_t table_length, uint64_t kind, uint64_t dialect,
+                                uint64_t entry);
+uint64_t eremothyn_group_length(const uint8_t *table, uint64_t table_length, uint64_t kind, uint64_t dialect,
+                                uint64_t entry);
+uint64_t eremothyn_class_offset(const uint8_t *table, uint64_t table_length, uint64_t kind, uint64_t dialect,
+                                uint64_t entry);
+uint64_t eremothyn_class_length(const uint8_t *table, uint64_t table_length, uint64_t kind, uint64_t dialect,
+                                uint64_t entry);
 
 /*
  * The name and the value of the setting on a line, counted from 1, as parts of the table: where each starts, counted from 0,
  * and its length, without quotes. Refused with EREMOTHYN_NO_SETTING if the line is none, or isn't there: a good table has
  * as many lines as newlines.
  */
-uint64_t eremothyn_setting_name_offset(const uint8_t *table, uint64_t table_length, uint64_t kind, uint64_t line);
-uint64_t eremothyn_setting_name_length(const uint8_t *table, uint64_t table_length, uint64_t kind, uint64_t line);
-uint64_t eremothyn_setting_value_offset(const uint8_t *table, uint64_t table_length, uint64_t kind, uint64_t line);
-uint64_t eremothyn_setting_value_length(const uint8_t *table, uint64_t table_length, uint64_t kind, uint64_t line);
+uint64_t eremothyn_setting_name_offset(const uint8_t *table, uint64_t table_length, uint64_t kind, uint64_t dialect,
+                                       uint64_t line);
+uint64_t eremothyn_setting_name_length(const uint8_t *table, uint64_t table_length, uint64_t kind, uint64_t dialect,
+                                       uint64_t line);
+uint64_t eremothyn_setting_value_offset(const uint8_t *table, uint64_t table_length, uint64_t kind, uint64_t dialect,
+                                        uint64_t line);
+uint64_t eremothyn_setting_value_length(const uint8_t *table, uint64_t table_length, uint64_t kind, uint64_t dialect,
+                                        uint64_t line);
 
 /*
  * Writes a user table back in its normal form, to the front of a buffer; the bytes behind stay. Answers the length of the
- * text. There is no kind: the bytes are always read as a user table's.
+ * text. There is no kind: the bytes are always read as a user table's. The text reads the same in either dialect.
  *
  * The text has a line for each setting and each entry, in order, and no other. A setting is name=value; either stands in
  * quotes only where it would be read otherwise without them, and in double ones if it has none itself. An entry is its five
@@ -292,7 +318,8 @@ uint64_t eremothyn_setting_value_length(const uint8_t *table, uint64_t table_len
  * newline, or all of it more than EREMOTHYN_MAX_TABLE; then with EREMOTHYN_TOO_SHORT if the buffer is too short. So
  * EREMOTHYN_MAX_TABLE bytes are always room enough.
  */
-uint64_t eremothyn_normal_form(const uint8_t *table, uint64_t table_length, uint8_t *text, uint64_t text_length);
+uint64_t eremothyn_normal_form(const uint8_t *table, uint64_t table_length, uint64_t dialect, uint8_t *text,
+                               uint64_t text_length);
 
 /*
  * Records: a user table compiled for a narrow link, and read back at its other end. A record is a length of two bytes, a
@@ -302,12 +329,14 @@ uint64_t eremothyn_normal_form(const uint8_t *table, uint64_t table_length, uint
 
 /*
  * Compiles a user table to records, at the front of a buffer; the bytes behind stay. Answers the length of the records.
- * There is no kind: the bytes are always read as a user table's. Tables that mean the same have the same records.
+ * There is no kind: the bytes are always read as a user table's. Tables that mean the same have the same records, whichever
+ * dialects they are in.
  *
  * Refused with EREMOTHYN_TEXT_TOO_LONG where eremothyn_normal_form is; then with EREMOTHYN_TOO_SHORT if the buffer is too
  * short. So EREMOTHYN_MAX_COMPILED bytes are always room enough.
  */
-uint64_t eremothyn_compile(const uint8_t *table, uint64_t table_length, uint8_t *records, uint64_t records_length);
+uint64_t eremothyn_compile(const uint8_t *table, uint64_t table_length, uint64_t dialect, uint8_t *records,
+                           uint64_t records_length);
 
 /*
  * Writes the normal text of the table that records mean, to the front of a buffer; the bytes behind stay. Answers the
@@ -338,7 +367,7 @@ uint64_t eremothyn_record_fault(const uint8_t *records, uint64_t records_length)
 #define EREMOTHYN_ROOM(entries) (8 * (entries) + 64)
 
 /* Makes a fresh queue, whatever the room held: the @reboot entries in file order, and no mark. Answers how many wait. */
-uint64_t eremothyn_queue_init(const uint8_t *table, uint64_t table_length, uint64_t kind, uint8_t *room,
+uint64_t eremothyn_queue_init(const uint8_t *table, uint64_t table_length, uint64_t kind, uint64_t dialect, uint8_t *room,
                               uint64_t room_length);
 
 /*
@@ -354,14 +383,14 @@ uint64_t eremothyn_queue_init(const uint8_t *table, uint64_t table_length, uint6
  * Refused with EREMOTHYN_NOT_A_QUEUE for bytes that are no queue, as zeros are none, or one that names an entry which the table
  * doesn't have, or one twice, or has a mark off the calendar; then with EREMOTHYN_NOT_ON_CALENDAR.
  */
-uint64_t eremothyn_queue_tick(const uint8_t *table, uint64_t table_length, uint64_t kind, uint8_t *room,
+uint64_t eremothyn_queue_tick(const uint8_t *table, uint64_t table_length, uint64_t kind, uint64_t dialect, uint8_t *room,
                               uint64_t room_length, uint64_t minute);
 
 /*
  * Requests the next job: removes the front entry and answers its number, or EREMOTHYN_NOTHING_WAITS. Refused with
  * EREMOTHYN_NOT_A_QUEUE as eremothyn_queue_tick is.
  */
-uint64_t eremothyn_queue_pop(const uint8_t *table, uint64_t table_length, uint64_t kind, uint8_t *room,
+uint64_t eremothyn_queue_pop(const uint8_t *table, uint64_t table_length, uint64_t kind, uint64_t dialect, uint8_t *room,
                              uint64_t room_length);
 
 #ifdef __cplusplus

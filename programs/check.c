@@ -1,4 +1,4 @@
-/* eremothyn check [-s] FILE...: whether each file is a crontab that the engine takes, a line for each. */
+/* eremothyn check [-s] [--dialect NAME] FILE...: whether each file is a crontab that the engine takes, a line for each. */
 
 #include <inttypes.h>
 #include <stdio.h>
@@ -13,13 +13,13 @@ static const struct option OPTIONS[] = {
     NO_OPTION,
 };
 
-static int check(const char *name, unsigned given)
+static int check(const char *name, const struct arguments *arguments)
 {
     static struct file table;
-    if (!read_file(name, &table))
+    if (!read_file(name, arguments->dialect, &table))
         return fail(name);
-    uint64_t kind = given & SYSTEM ? EREMOTHYN_SYSTEM_TABLE : EREMOTHYN_USER_TABLE;
-    uint64_t entries = eremothyn_check(table.bytes, table.length, kind);
+    uint64_t kind = arguments->given & SYSTEM ? EREMOTHYN_SYSTEM_TABLE : EREMOTHYN_USER_TABLE;
+    uint64_t entries = eremothyn_check(table.bytes, table.length, kind, table.dialect);
     if (!EREMOTHYN_IS_REFUSED(entries)) {
         printf("%s: %" PRIu64 " entries\n", name, entries);
         return written(DONE);
@@ -43,6 +43,7 @@ const struct command check_command = {
     "  NAME: N entries\n"
     "  NAME:LINE:COLUMN: refused NUMBER: what is wrong\n"
     "The exit status is 0 if every file is taken, 1 if one is refused, 2 if one can't be read.\n",
+    true,
     OPTIONS,
     run,
 };

@@ -1,4 +1,4 @@
-/* eremothyn compile [-f] [FILE]: a user table as records, for a narrow link. */
+/* eremothyn compile [-f] [--dialect NAME] [FILE]: a user table as records, for a narrow link. */
 
 #define _XOPEN_SOURCE 700
 
@@ -16,13 +16,13 @@ static const struct option OPTIONS[] = {
     NO_OPTION,
 };
 
-static int compile(const char *name)
+static int compile(const char *name, const struct arguments *arguments)
 {
     static struct file table;
     static uint8_t records[EREMOTHYN_MAX_COMPILED];
-    if (!read_file(name, &table))
+    if (!read_file(name, arguments->dialect, &table))
         return fail(name);
-    uint64_t length = eremothyn_compile(table.bytes, table.length, records, sizeof records);
+    uint64_t length = eremothyn_compile(table.bytes, table.length, table.dialect, records, sizeof records);
     if (EREMOTHYN_IS_REFUSED(length))
         return refuse_text(name, &table, EREMOTHYN_REFUSAL(length));
     fwrite(records, 1, length, stdout);
@@ -45,6 +45,7 @@ const struct command compile_command = {
     "  NAME:LINE:COLUMN: refused NUMBER: what is wrong\n"
     "The exit status is 0 if the file is taken, 1 if it is refused, 2 if it can't be read or standard\n"
     "output can't be written or is a terminal.\n",
+    true,
     OPTIONS,
     run,
 };

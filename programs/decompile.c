@@ -22,8 +22,9 @@ static int refuse(const char *name, uint64_t record, uint64_t refusal)
     return REFUSED;
 }
 
-static int decompile(const char *name)
+static int decompile(const char *name, const struct arguments *arguments)
 {
+    (void)arguments; /* There are no options. */
     static uint8_t records[MOST + 1];
     static uint8_t text[EREMOTHYN_MAX_TABLE];
     struct run read = { records, sizeof records, 0 };
@@ -56,6 +57,7 @@ const struct command decompile_command = {
     "  NAME: refused NUMBER: what is wrong\n"
     "The exit status is 0 if the records are taken, 1 if they are refused, 2 if they can't be read, have\n"
     "more than 16 MiB, or standard output can't be written.\n",
+    false,
     OPTIONS,
     run,
 };

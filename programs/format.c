@@ -1,4 +1,4 @@
-/* eremothyn format [-l] [-w] [-d] [FILE...]: user tables in their normal form. */
+/* eremothyn format [-l] [-w] [-d] [--dialect NAME] [FILE...]: user tables in their normal form. */
 
 #include <stdio.h>
 #include <string.h>
@@ -38,20 +38,20 @@ static int handle(const char *name, const struct file *table, const struct file 
     return written(DONE);
 }
 
-static int format(const char *name, unsigned given)
+static int format(const char *name, const struct arguments *arguments)
 {
     static struct file table, text;
-    if (!read_file(name, &table))
+    if (!read_file(name, arguments->dialect, &table))
         return fail(name);
-    uint64_t length = eremothyn_normal_form(table.bytes, table.length, text.bytes, sizeof text.bytes);
+    uint64_t length = eremothyn_normal_form(table.bytes, table.length, table.dialect, text.bytes, sizeof text.bytes);
     if (EREMOTHYN_IS_REFUSED(length))
         return refuse_text(name, &table, EREMOTHYN_REFUSAL(length));
     text.length = length;
-    if (given == 0) {
+    if (arguments->given == 0) {
         fwrite(text.bytes, 1, text.length, stdout);
         return written(DONE);
     }
-    return is_same(&table, &text) ? DONE : handle(name, &table, &text, given);
+    return is_same(&table, &text) ? DONE : handle(name, &table, &text, arguments->given);
 }
 
 static bool names_input(const struct arguments *arguments)
@@ -75,11 +75,12 @@ const struct command format_command = {
     "[FILE...]",
     "write a user's crontab in its normal form",
     "Prints the normal text of each FILE, or of standard input where none is named. It has no comments.\n"
-    "With an option it does what that says instead. A FILE that is refused stays as it is, and standard\n"
+    "With -l, -w or -d it does what that says instead. A FILE that is refused stays as it is, and standard\n"
     "error says:\n"
     "  NAME:LINE:COLUMN: refused NUMBER: what is wrong\n"
     "The exit status is 0 if every file is taken, whether it differs or not, 1 if one is refused, 2 if\n"
     "one can't be read or written.\n",
+    true,
     OPTIONS,
     run,
 };

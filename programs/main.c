@@ -43,6 +43,8 @@ static int print_help(const struct command *command)
     printf("%s: %s.\n%s\n", command->name, command->purpose, command->details);
     for (const struct option *option = command->options; option->name != NULL; option++)
         printf("  -%c, --%-12s%s\n", option->letter, option->name, option->meaning);
+    if (command->reads_crontabs)
+        print_dialects();
     puts("  -h, --help        print this\n"
          "  --                end the options: what follows are names\n"
          "\n"
@@ -64,7 +66,7 @@ static int run(const struct command *command, int count, char **words)
 {
     struct arguments arguments;
     speak_for(command);
-    switch (take_options(command->options, count, words, &arguments)) {
+    switch (take_options(command, count, words, &arguments)) {
     case HELP_WANTED: return print_help(command);
     case MISUSED: return FAILED;
     default: return command->run(&arguments);

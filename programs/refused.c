@@ -13,7 +13,7 @@ static struct place too_long_at(const struct file *table)
     uint64_t place = 0;
     while (place < table->length) {
         struct part line = line_at(table, place);
-        if (eremothyn_normal_form(line.start, line.length, NULL, 0) == too_long)
+        if (eremothyn_normal_form(line.start, line.length, table->dialect, NULL, 0) == too_long)
             return (struct place){ number, 1 };
         number++;
         place += line.length;

@@ -60,6 +60,39 @@ int written(int status)
     return FAILED;
 }
 
+/* The names of the dialects, each at the place of its number. */
+static const char *const DIALECTS[] = { [EREMOTHYN_RISING] = "rising", [EREMOTHYN_WRAPPING] = "wrapping" };
+
+void print_dialects(void)
+{
+    printf("  --dialect NAME    %s, where ranges go from low to high, or %s, where 22-3 goes over midnight\n",
+           DIALECTS[EREMOTHYN_RISING], DIALECTS[EREMOTHYN_WRAPPING]);
+}
+
+/* Takes the dialect of a name, NULL where none stands there; another name is a misuse. */
+static bool take_dialect(const char *name, uint64_t *dialect)
+{
+    for (uint64_t i = 0; name != NULL && i < sizeof DIALECTS / sizeof *DIALECTS; i++) {
+        if (strcmp(name, DIALECTS[i]) == 0) {
+            *dialect = i;
+            return true;
+        }
+    }
+    if (name == NULL)
+        misuse("no dialect is named: it is %s or %s", DIALECTS[0], DIALECTS[1]);
+    else
+        misuse("unknown dialect '%s': it is %s or %s", name, DIALECTS[0], DIALECTS[1]);
+    return false;
+}
+
+/* What stands behind an option's name in a word: "" or "=" and a value; NULL in another word. */
+static const char *behind(const char *option, const char *word)
+{
+    size_t length = strlen(option);
+    bool is_it = strncmp(word, option, length) == 0 && (word[length] == '\0' || word[length] == '=');
+    return is_it ? word + length : NULL;
+}
+
 /* Whether a word is an option, by its letter or by its name. */
 static bool is_option(const char *word, char letter, const char *name)
 {
@@ -77,35 +110,48 @@ static int option_of(const struct option *options, const char *word)
     return number;
 }
 
-enum taken take_options(const struct option *options, int count, char **words, struct arguments *arguments)
+/* Takes an option that has no value. */
+static bool take_option(const struct option *options, const char *word, unsigned *given)
+{
+    int number = option_of(options, word);
+    if (options[number].name == NULL) {
+        misuse("unknown option '%s'", word);
+        return false;
+    }
+    *given |= 1u << number;
+    return true;
+}
+
+enum taken take_options(const struct command *command, int count, char **words, struct arguments *arguments)
 {
     bool ended = false;
-    *arguments = (struct arguments){ 0, words, 0 };
+    *arguments = (struct arguments){ 0, words, 0, EREMOTHYN_RISING };
     for (int i = 0; i < count; i++) {
         char *word = words[i];
+        const char *named = command->reads_crontabs ? behind("--dialect", word) : NULL;
         if (ended || word[0] != '-' || word[1] == '\0') {
             words[arguments->count++] = word;
         } else if (strcmp(word, "--") == 0) {
             ended = true;
         } else if (is_option(word, 'h', "help")) {
             return HELP_WANTED;
-        } else {
-            int number = option_of(options, word);
-            if (options[number].name == NULL) {
-                misuse("unknown option '%s'", word);
+        } else if (named != NULL) {
+            const char *next = i + 1 < count ? words[i + 1] : NULL;
+            if (!take_dialect(named[0] == '=' ? named + 1 : next, &arguments->dialect))
                 return MISUSED;
-            }
-            arguments->given |= 1u << number;
+            i += named[0] != '=';
+        } else if (!take_option(command->options, word, &arguments->given)) {
+            return MISUSED;
         }
     }
     return TAKEN;
 }
 
-int each_file(const struct arguments *arguments, int (*work)(const char *name, unsigned given))
+int each_file(const struct arguments *arguments, work_on *work)
 {
     int worst = DONE;
     for (int i = 0; i < arguments->count; i++) {
-        int status = work(arguments->operands[i], arguments->given);
+        int status = work(arguments->operands[i], arguments);
         if (worst < status)
             worst = status;
     }
@@ -124,11 +170,11 @@ struct arguments or_input(const struct arguments *arguments)
     return files;
 }
 
-int one_file(const struct arguments *arguments, int (*work)(const char *name))
+int one_file(const struct arguments *arguments, work_on *work)
 {
     if (arguments->count > 1)
         return misuse("more than one file is named");
-    return work(or_input(arguments).operands[0]);
+    return work(or_input(arguments).operands[0], arguments);
 }
 
 bool read_run(const char *name, struct run *run)
@@ -147,11 +193,12 @@ bool read_run(const char *name, struct run *run)
     return whole;
 }
 
-bool read_file(const char *name, struct file *file)
+bool read_file(const char *name, uint64_t dialect, struct file *file)
 {
     struct run run = { file->bytes, sizeof file->bytes, 0 };
     bool whole = read_run(name, &run);
     file->length = run.length;
+    file->dialect = dialect;
     return whole;
 }
 
@@ -166,8 +213,8 @@ struct part line_at(const struct file *file, uint64_t place)
 struct place fault_of(const struct file *table, uint64_t kind)
 {
     return (struct place){
-        eremothyn_fault_line(table->bytes, table->length, kind),
-        eremothyn_fault_column(table->bytes, table->length, kind),
+        eremothyn_fault_line(table->bytes, table->length, kind, table->dialect),
+        eremothyn_fault_column(table->bytes, table->length, kind, table->dialect),
     };
 }
 

@@ -20,11 +20,12 @@ struct option {
 };
 #define NO_OPTION { 0, 0, 0 }
 
-/* What stands behind a subcommand. Bit n of `given` is the n-th of its options. */
+/* What stands behind a subcommand. Bit n of `given` is the n-th of its options; --dialect isn't one of them. */
 struct arguments {
     int count;
     char **operands;
     unsigned given;
+    uint64_t dialect;
 };
 
 struct command {
@@ -32,9 +33,13 @@ struct command {
     const char *operands; /* as the usage line has them */
     const char *purpose;  /* for the list of subcommands */
     const char *details;  /* for its own help, in whole lines */
+    bool reads_crontabs;  /* then it takes --dialect */
     const struct option *options;
     int (*run)(const struct arguments *arguments);
 };
+
+/* The help for --dialect. */
+void print_dialects(void);
 
 /* From now on messages are this subcommand's; at first they are the whole program's. */
 void speak_for(const struct command *command);
@@ -53,19 +58,22 @@ int written(int status);
 
 /*
  * Takes the options out of the words behind a subcommand, wherever they stand. "-" is an operand, and so is every word
- * behind "--".
+ * behind "--". A dialect is named behind --dialect or --dialect=, and where it is named more than once, the last counts.
  */
 enum taken { TAKEN, HELP_WANTED, MISUSED };
-enum taken take_options(const struct option *options, int count, char **words, struct arguments *arguments);
+enum taken take_options(const struct command *command, int count, char **words, struct arguments *arguments);
+
+/* What is done with a file that is named. */
+typedef int work_on(const char *name, const struct arguments *arguments);
 
 /* Does something with each file that is named, in order; answers the highest of the statuses. */
-int each_file(const struct arguments *arguments, int (*work)(const char *name, unsigned given));
+int each_file(const struct arguments *arguments, work_on *work);
 
 /* The same arguments, where no file is named with standard input as the only one. */
 struct arguments or_input(const struct arguments *arguments);
 
 /* Does something with the one file that is named, or with standard input where none is; more are a misuse. */
-int one_file(const struct arguments *arguments, int (*work)(const char *name));
+int one_file(const struct arguments *arguments, work_on *work);
 
 /* Bytes that are read, as many as there is room for. */
 struct run {
@@ -77,14 +85,18 @@ struct run {
 /* Reads a file, or standard input by the name "-". If that fails, errno has the reason. */
 bool read_run(const char *name, struct run *run);
 
-/* A file's bytes. There is room for one more than a table may have: the library refuses a longer file, and it isn't cut. */
+/*
+ * A table's bytes, and the dialect that it is in. There is room for one more than a table may have: the library refuses a
+ * longer file, and it isn't cut.
+ */
 struct file {
     uint8_t bytes[EREMOTHYN_MAX_TABLE + 1];
     uint64_t length;
+    uint64_t dialect;
 };
 
 /* The same for a table's file. */
-bool read_file(const char *name, struct file *file);
+bool read_file(const char *name, uint64_t dialect, struct file *file);
 
 /* Some of a file's bytes. */
 struct part {

@@ -1,10 +1,10 @@
 //! Reading a full table, of 49,152 bytes and 512 entries, as the library and the second program do it: the same bytes,
 //! the same count of entries. A system table stands beside the same entries as a user table, and a table of a quarter of both
-//! limits beside the full one: a byte of either should cost the same.
+//! limits beside the full one: a byte of either should cost the same. So should a table in either dialect.
 
 use crate::measure::{in_turn, nanoseconds, print_pair, print_pair_head, round};
 use eremothyn::Table;
-use second::table::{self, Kind, ENTRIES, TABLE_BYTES};
+use second::table::{self, Dialect, Kind, Rules, ENTRIES, TABLE_BYTES};
 
 const READS: usize = 500;
 
@@ -33,6 +33,19 @@ pub fn run() {
     by_the_byte("as people write it", &WRITTEN);
     by_the_byte("lists in every field", &LISTS);
     println!("times as long a byte as the quarter; goal: at most 1");
+
+    let title = "table, a full one in the second dialect and in the first, ns a byte";
+    print_pair_head(title, "first");
+    by_the_dialect("as people write it", &full(&WRITTEN));
+    println!("times as long as in the first");
+}
+
+fn by_the_dialect(which: &str, table: &[u8]) {
+    let inputs = vec![table; READS];
+    let [first, second] = Dialect::BOTH.map(|dialect| move |bytes: &[u8]| library(bytes, dialect));
+    let times = in_turn(&[&|| round(&inputs, second), &|| round(&inputs, first)]);
+    let [second, first] = [times[0], times[1]].map(|time| time / table.len() as f64);
+    print_pair(which, [second, first], second / first);
 }
 
 fn by_the_byte(which: &str, lines: &[&str]) {
@@ -60,8 +73,8 @@ fn compare(which: &str, bytes: &[u8], kind: Kind) {
     print_pair(which, [library, second].map(speed), library / second);
 }
 
-fn library(bytes: &[u8], kind: Kind) -> u64 {
-    let table = Table::of(bytes).of_kind(kind.number());
+fn library(bytes: &[u8], rules: impl Into<Rules>) -> u64 {
+    let table = Table::of(bytes).under(rules.into());
     table.check().expect("a good table")
 }
 

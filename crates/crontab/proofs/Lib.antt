@@ -14,4 +14,6 @@ pub mod Tables
 pub mod Walks
 pub mod Firings
 pub mod Choices
+pub mod Reversed
+pub mod FirstDialect
 pub mod Theorems

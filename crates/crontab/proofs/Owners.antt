@@ -10,6 +10,7 @@ use lib.ListN.{length, getD}
 use lib.Dec.{eqb, leb}
 use Rattle.bytes.specs.declared.class.Class.the-variants.{Blank, Solid}
 use Rattle.bytes.specs.Runs.{skipped, between}
+use Rattle.field.specs.declared.Dialect.{Dialect}
 use Rattle.field.specs.declared.Limits.{Limits}
 use Rattle.field.specs.declared.Answer.{Answer}
 use Rattle.field.specs.declared.Answer.the-variants as answer
@@ -73,17 +74,17 @@ module _ (s : List ℕ) where
       go (field.Read v) e = h v (field-next l at e)
       go (field.Refused fault) e = refused-ends end fault
 
-  fields-ends : (at : ℕ) → Ends (behind 5 s at) (fieldsAt s at)
+  fields-ends : (d : Dialect) (at : ℕ) → Ends (behind 5 s at) (fieldsAt d s at)
   unfolding fieldsAt behind onward
-  fields-ends at =
+  fields-ends d at =
       after-ends _ at _ _ (λ minute a. after-ends _ (minute .next) _ _ (λ hour b. after-ends _ (hour .next) _ _ (λ day c.
       after-ends _ (day .next) _ _ (λ month d. after-ends _ (month .next) _ _ (λ weekday e when next q. rw (← a, ← b, ← c, ← d, ← e) (cc))))))
 
   -- behind the runs of a time that is read stands what follows it
-  pub behind-time : (at : ℕ) → Ends (behind (timeRuns s at) s at) (timeAt s at)
+  pub behind-time : (d : Dialect) (at : ℕ) → Ends (behind (timeRuns s at) s at) (timeAt d s at)
   unfolding timeRuns timeAt behind onward
-  behind-time at = go (eqb (getD s at 0) atSign)
+  behind-time d at = go (eqb (getD s at 0) atSign)
     where
-      go : (t : Bool) → Ends (behind (cond t 1 5) s at) (cond t (wordAt s at) (fieldsAt s at))
+      go : (t : Bool) → Ends (behind (cond t 1 5) s at) (cond t (wordAt s at) (fieldsAt d s at))
       go true = word-ends at
-      go false = fields-ends at
+      go false = fields-ends d at

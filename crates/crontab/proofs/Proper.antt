@@ -13,6 +13,7 @@ use borrow.Author.Tests.{ltb-true, ltb-false, leb-false, eqb-true}
 use Rattle.bytes.specs.declared.class.Class.the-variants.{Blank, Solid, Not, InLine}
 use Rattle.bytes.specs.Runs.{skipped, between}
 use Rattle.bytes.proofs.Runs.{skipped-from, skipped-within, byte-within}
+use Rattle.field.specs.declared.Dialect.{Dialect}
 use Rattle.field.specs.declared.Limits.{Limits}
 use Rattle.field.specs.declared.Answer.{Answer}
 use Rattle.field.specs.declared.Answer.the-variants as answer
@@ -108,9 +109,9 @@ module _ (s : List ℕ) where
   after-fault (field.Read v) later h k = k v
   after-fault (field.Refused fault) later h k = h
 
-  fields-fault : (at : ℕ) → TimeFault (fieldsAt s at)
+  fields-fault : (d : Dialect) (at : ℕ) → TimeFault (fieldsAt d s at)
   unfolding fieldsAt
-  fields-fault at =
+  fields-fault d at =
       after-fault _ _ (field-fault _ at)
       (λ minute. after-fault _ _ (field-fault _ (minute .next))
       (λ hour. after-fault _ _ (field-fault _ (hour .next))
@@ -125,13 +126,13 @@ module _ (s : List ℕ) where
       go Unknown = record { from = omega arith; to = omega arith; inside = omega arith }
       go (Known when) = tt
 
-  time-fault : (at : ℕ) → at ≤ length s → TimeFault (timeAt s at)
+  time-fault : (d : Dialect) (at : ℕ) → at ≤ length s → TimeFault (timeAt d s at)
   unfolding timeAt
-  time-fault at h = go (eqb (getD s at 0) 64)
+  time-fault d at h = go (eqb (getD s at 0) 64)
     where
-      go : (t : Bool) → TimeFault (cond t (wordAt s at) (fieldsAt s at))
+      go : (t : Bool) → TimeFault (cond t (wordAt s at) (fieldsAt d s at))
       go true = word-fault at h
-      go false = fields-fault at
+      go false = fields-fault d at
 
 -- ---- a line that is short enough
 
@@ -224,7 +225,7 @@ module _ (s : List ℕ) (short : length s ≤ maxLine) where
     where
       go : (a b : Bool) → Proper (length s) (cond a line.Ignored (cond b (entryAt rules s at) (settingAt s at)))
       go true b = short
-      go false true = time-proper rules _ (time-fault s at h)
+      go false true = time-proper rules _ (time-fault s (rules .dialect) at h)
       go false false = name-proper at _ h (name-inside s at h)
 
   content-proper : (rules : Rules) → Proper (length s) (contentOf rules s)

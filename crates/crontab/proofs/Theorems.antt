@@ -9,6 +9,11 @@
 --   due-told, next-told: what is said of an entry, refused or not
 --   next-in-gap: a next firing that is told is at most 21,036,960 minutes ahead, and 720 more from before 1970 locally
 --   next-in-gap-on: no more from minute 720 on, where no offset leads before 1970
+-- Ticket 2026-13, each sentence with its theorem. "Refusal 7 is never given in this dialect":
+--   never-reversed, verdict-never-reversed: never for a table in the second dialect, whatever its bytes
+-- "In the first dialect nothing changes":
+--   first-dialect-same: a table is in it what it was before there was a second, entry by entry and fault by fault
+-- "Matching, next firing and the line are proved once over both": all the others here hold of any rules, whatever their dialect.
 -- Assumes nothing.
 use mathlib.Core.Path.{_≡_, refl, sym, _∙_}
 use mathlib.Core.Bool.{Bool, true, false, cond}
@@ -61,6 +66,8 @@ use Rattle.crontab.proofs.Sound.{Sound, SoundItems, items-sound}
 use Rattle.crontab.proofs.Tables.{entryFrom, table-entry}
 pub use Rattle.crontab.proofs.Cuts.{cut-refused}
 pub use Rattle.crontab.proofs.Owners.{behind-time}
+pub use Rattle.crontab.proofs.Reversed.{never-reversed, verdict-never-reversed}
+pub use Rattle.crontab.proofs.FirstDialect.{first-dialect-same}
 pub use Rattle.crontab.proofs.Zones.{zoned-is, setting-says}
 
 -- ---- a table

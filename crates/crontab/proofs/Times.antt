@@ -9,11 +9,13 @@ use lib.ListN.{length}
 use lib.Dec.{leb}
 use Rattle.bytes.specs.declared.class.Class.the-variants.{Blank, Solid}
 use Rattle.bytes.specs.Runs.{skipped, between}
+use Rattle.field.specs.declared.Dialect.{Dialect}
 use Rattle.field.specs.declared.Limits.{Limits}
 use Rattle.field.specs.declared.Answer.{Answer}
 use Rattle.field.specs.declared.Answer.the-variants as answer
 use Rattle.field.specs.Fields.{readField}
-use Rattle.field.proofs.Theorems.{set-fits}
+use Rattle.field.specs.Limits.{inDialect}
+use Rattle.field.proofs.Theorems.{Usual, dialect-usual, dialect-bits, set-fits}
 use Rattle.crontab.specs.declared.time.Values.{Values}
 use Rattle.crontab.specs.declared.time.Field.the-variants.{Read, Refused}
 use Rattle.crontab.specs.Times.{answered, fieldAt}
@@ -41,5 +43,5 @@ field-values l s at {v} e = go (leb (length s) at) e
     go false e = answered-values _ _ e
 
 -- the width of its set
-pub field-fits : (l : Limits) → l .last < l .bits + l .bits → (s : List ℕ) (at : ℕ) {v : Values} → fieldAt l s at ≡ Read v → v .set < 2 ^ (l .bits)
-field-fits l enough s at e = set-fits l enough _ _ (field-values l s at e)
+pub field-fits : (l : Limits) → Usual l → (d : Dialect) (s : List ℕ) (at : ℕ) {v : Values} → fieldAt (inDialect d l) s at ≡ Read v → v .set < 2 ^ (l .bits)
+field-fits l u d s at e = rw (dialect-bits l d) at (set-fits (inDialect d l) (dialect-usual l u d) _ _ (field-values (inDialect d l) s at e))

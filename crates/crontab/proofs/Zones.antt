@@ -123,10 +123,10 @@ module _ (s : List ℕ) where
       first : ℕ
       first = getD s at 0
 
-      go : (a b c : Bool) → Says (cond a line.Ignored (cond b line.Ignored (cond c (afterTime rules s (timeAt s at)) (afterName s at (nameAt s at)))))
+      go : (a b c : Bool) → Says (cond a line.Ignored (cond b line.Ignored (cond c (afterTime rules s (timeAt (rules .dialect) s at)) (afterName s at (nameAt s at)))))
       go true b c = tt
       go false true c = tt
-      go false false true = time-says rules (timeAt s at)
+      go false false true = time-says rules (timeAt (rules .dialect) s at)
       go false false false = name-says at (nameAt s at)
 
   line-says : (rules : Rules) → Says (readLine rules s)

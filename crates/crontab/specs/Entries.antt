@@ -8,6 +8,7 @@ use lib.ListN.{length, getD}
 use lib.Dec.{eqb, ltb}
 use Rattle.bytes.specs.declared.class.Class.the-variants.{Blank}
 use Rattle.bytes.specs.Runs.{skipped}
+use Rattle.field.specs.declared.Dialect.{Dialect}
 use Rattle.crontab.specs.declared.Kind.{Kind}
 use Rattle.crontab.specs.declared.Kind.the-variants.{User, System}
 use Rattle.crontab.specs.declared.Rules.{Rules}
@@ -28,8 +29,8 @@ abbrev pub atSign : ℕ
 atSign = 64
 
 -- the time that starts at a place
-unfoldable pub timeAt : List ℕ → ℕ → Time
-timeAt s at = cond (eqb (getD s at 0) atSign) (wordAt s at) (fieldsAt s at)
+unfoldable pub timeAt : Dialect → List ℕ → ℕ → Time
+timeAt d s at = cond (eqb (getD s at 0) atSign) (wordAt s at) (fieldsAt d s at)
 
 -- the command from a place to the line's end
 unfoldable pub withCommand : List ℕ → When → ℕ → Line
@@ -54,4 +55,4 @@ afterTime rules s (time.Refused fault) = Refused fault
 afterTime rules s (time.Read when next) = byKind (rules .kind) (withCommand s when next) (withUser s when next)
 
 unfoldable pub entryAt : Rules → List ℕ → ℕ → Line
-entryAt rules s at = afterTime rules s (timeAt s at)
+entryAt rules s at = afterTime rules s (timeAt (rules .dialect) s at)

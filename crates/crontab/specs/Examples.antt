@@ -12,6 +12,7 @@ use Rattle.calendar.specs.Dates.{lastMinute}
 use Rattle.bytes.specs.Sets.{setOf, upTo}
 use Rattle.crontab.specs.declared.Part.{Part}
 use Rattle.crontab.specs.declared.Rules.{Rules}
+use Rattle.field.specs.declared.Dialect.the-variants.{Rising, Wrapping}
 use Rattle.crontab.specs.declared.Kind.the-variants.{User, System}
 use Rattle.crontab.specs.declared.time.When.{When}
 use Rattle.crontab.specs.declared.time.When.the-variants.{Reboot, Timed}
@@ -41,10 +42,10 @@ use Rattle.crontab.specs.Computing.{reading, zoning}
 -- ---- lines of a user's table
 
 abbrev ofUser : Rules
-ofUser = record { kind = User }
+ofUser = record { kind = User; dialect = Rising }
 
 abbrev ofSystem : Rules
-ofSystem = record { kind = System }
+ofSystem = record { kind = System; dialect = Rising }
 
 -- at midnight; whether the last three fields begin with `*`
 abbrev midnight : List ℕ → List ℕ → List ℕ → Bool → Bool → Bool → When
@@ -408,3 +409,65 @@ next-ahead = refl
 next-behind : Hold (nextAt (text "CRON_TZ=-03:30\n* * * * * x\n")) ((0, next.At 210) ∷ (209, next.At 210) ∷ (210, next.At 211) ∷ [])
 unfolding nextAt zoning told nextOf nextAnswer nextIn nextAfterIn firingAfterIn firingFromIn canFire
 next-behind = refl
+
+-- ---- ticket 2026-13: lines and tables in the second dialect
+
+abbrev inSecond : Rules
+inSecond = record { kind = User; dialect = Wrapping }
+
+-- in both dialects, the first in front
+abbrev both : List ℕ → Line × Line
+both s = (readLine ofUser s, readLine inSecond s)
+
+-- at the minute 0 of hours, on days of some weekdays
+abbrev onHours : List ℕ → List ℕ → Bool → When
+onHours hours weekdays weekday =
+    Timed
+    (record {
+      minutes = setOf (0 ∷ []);
+      hours = setOf hours;
+      days = setOf (upTo 1 31);
+      months = setOf (upTo 1 12);
+      weekdays = setOf weekdays;
+      stars = record { minutes = false; hours = false; days = true; months = true; weekdays = weekday };
+    })
+
+wrapped-lines : Hold both
+    -- source 001, over midnight
+    ((text "0 8-18/3,19-7 * * * x", (Refused (record { number = 7; column = 10 }), Entry (onHours (8 ∷ 11 ∷ 14 ∷ 17 ∷ upTo 19 23 ++ upTo 0 7) (upTo 0 6) true) 20))
+    ∷ (text "0 22-3/2 * * * x", (Refused (record { number = 7; column = 3 }), Entry (onHours (22 ∷ 0 ∷ 2 ∷ []) (upTo 0 6) true) 15))
+    -- weekdays: 7 is refused there at its own column, and `sun` is 0
+    ∷ (text "0 0 * * 7 x", (Entry (onHours (0 ∷ []) (0 ∷ []) false) 10, Refused (record { number = 6; column = 9 })))
+    ∷ (text "0 0 * * 1,0-7 x", (Entry (onHours (0 ∷ []) (1 ∷ upTo 0 6) false) 14, Refused (record { number = 6; column = 11 })))
+    ∷ (text "0 0 * * 0-sun x", (Entry (onHours (0 ∷ []) (upTo 0 6) false) 14, Entry (onHours (0 ∷ []) (0 ∷ []) false) 14))
+    ∷ (text "0 0 * * fri-sun x", (Entry (onHours (0 ∷ []) (5 ∷ 6 ∷ 0 ∷ []) false) 16, Entry (onHours (0 ∷ []) (5 ∷ 6 ∷ 0 ∷ []) false) 16))
+    -- each of the five fields
+    ∷ (text "0 0 1 1 sat-mon x", (Refused (record { number = 7; column = 9 }), Entry (midnight (1 ∷ []) (1 ∷ []) (6 ∷ 0 ∷ 1 ∷ []) false false false) 16))
+    ∷ (text "0 0 31-1 dec-jan * x", (Refused (record { number = 7; column = 5 }), Entry (midnight (31 ∷ 1 ∷ []) (12 ∷ 1 ∷ []) (upTo 0 6) false false true) 19))
+    -- words mean the same in both
+    ∷ (text "@weekly x", (Entry (midnight (upTo 1 31) (upTo 1 12) (0 ∷ []) true true false) 8, Entry (midnight (upTo 1 31) (upTo 1 12) (0 ∷ []) true true false) 8))
+    ∷ [])
+unfolding reading
+wrapped-lines = refl
+
+-- a minute field that wraps, in a user's table and in the system's
+abbrev overHour : When
+overHour =
+    Timed
+    (record {
+      minutes = setOf (59 ∷ 0 ∷ []);
+      hours = setOf (upTo 0 23);
+      days = setOf (upTo 1 31);
+      months = setOf (upTo 1 12);
+      weekdays = setOf (upTo 0 6);
+      stars = record { minutes = false; hours = true; days = true; months = true; weekdays = true };
+    })
+
+wrapped-minutes : Hold (λ (rules : Rules). readLine rules (text "59-0 * * * * x y"))
+    ((ofUser, Refused (record { number = 7; column = 1 }))
+    ∷ (ofSystem, Refused (record { number = 7; column = 1 }))
+    ∷ (inSecond, Entry overHour 13)
+    ∷ (record { kind = System; dialect = Wrapping }, Entry overHour 15)
+    ∷ [])
+unfolding reading
+wrapped-minutes = refl

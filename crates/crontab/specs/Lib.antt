@@ -9,6 +9,7 @@ pub mod Entries
 pub mod Lines
 pub mod Items
 pub mod Tables
+pub mod FirstDialect
 pub mod Owners
 pub mod Settings
 pub mod Firings

@@ -1,5 +1,5 @@
 -- Paper 01, "Entry": five fields, each a run of non-blank bytes with blanks after it, each judged wholly before the next. Places count
--- from 0 in the line, columns from 1.
+-- from 0 in the line, columns from 1. Ticket 2026-13: in a dialect.
 -- Assumes nothing.
 use Prim.Native.Nat.{ℕ, _+_}
 use mathlib.Core.Bool.{cond}
@@ -8,10 +8,11 @@ use lib.ListN.{length}
 use lib.Dec.{leb}
 use Rattle.bytes.specs.declared.class.Class.the-variants.{Blank, Solid}
 use Rattle.bytes.specs.Runs.{skipped, between}
+use Rattle.field.specs.declared.Dialect.{Dialect}
 use Rattle.field.specs.declared.Limits.{Limits}
 use Rattle.field.specs.declared.Answer.{Answer}
 use Rattle.field.specs.declared.Answer.the-variants as answer
-use Rattle.field.specs.Limits.{minuteLimits, hourLimits, dayLimits, monthLimits, weekdayLimits}
+use Rattle.field.specs.Limits.{minuteLimits, hourLimits, dayLimits, monthLimits, weekdayLimits, inDialect}
 use Rattle.field.specs.Fields.{readField}
 use Rattle.schedule.specs.declared.Schedule.{Schedule}
 use Rattle.crontab.specs.declared.time.When.the-variants.{Timed}
@@ -54,11 +55,11 @@ after (field.Refused fault) later = Refused fault
 after (field.Read values) later = later values
 
 -- the five fields of which the first starts at a place
-unfoldable pub fieldsAt : List ℕ → ℕ → Time
-fieldsAt s at =
-    after (fieldAt minuteLimits s at)
-    (λ minute. after (fieldAt hourLimits s (minute .next))
-    (λ hour. after (fieldAt dayLimits s (hour .next))
-    (λ day. after (fieldAt monthLimits s (day .next))
-    (λ month. after (fieldAt weekdayLimits s (month .next))
+unfoldable pub fieldsAt : Dialect → List ℕ → ℕ → Time
+fieldsAt d s at =
+    after (fieldAt (inDialect d minuteLimits) s at)
+    (λ minute. after (fieldAt (inDialect d hourLimits) s (minute .next))
+    (λ hour. after (fieldAt (inDialect d dayLimits) s (hour .next))
+    (λ day. after (fieldAt (inDialect d monthLimits) s (day .next))
+    (λ month. after (fieldAt (inDialect d weekdayLimits) s (month .next))
     (λ weekday. Read (Timed (scheduleOf minute hour day month weekday)) (weekday .next))))))

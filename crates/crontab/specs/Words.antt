@@ -13,6 +13,7 @@ use Rattle.crontab.specs.declared.time.Time.the-variants.{Read, Refused}
 use Rattle.crontab.specs.declared.word.Word.{Word}
 use Rattle.crontab.specs.declared.word.Word.the-variants.{Known, Unknown}
 use Rattle.crontab.specs.Refusals.{unknownWord}
+use Rattle.field.specs.declared.Dialect.the-variants.{Rising}
 use Rattle.crontab.specs.Times.{fieldsAt}
 
 unfoldable pub same : List ℕ → List ℕ → Bool
@@ -44,14 +45,14 @@ meanings =
     ∷ record { word = text "@hourly"; meaning = fields (text "0 * * * *") }
     ∷ []
 
--- five fields mean what they are read to
+-- five fields mean what they are read to in the first dialect: a word means the same in both
 unfoldable pub known : Time → Word
 known (Read when next) = Known when
 known (Refused fault) = Unknown
 
 unfoldable pub wordFor : Meaning → Word
 wordFor reboot = Known Reboot
-wordFor (fields s) = known (fieldsAt s 0)
+wordFor (fields s) = known (fieldsAt Rising s 0)
 
 -- the word of a meaning if it is the one, otherwise another
 unfoldable pub chosen : Bool → Meaning → Word → Word

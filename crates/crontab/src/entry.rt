@@ -19,6 +19,7 @@ use crate::word;
 use bytes::class::Class;
 use bytes::run::byte_at;
 use bytes::run::skip;
+use field::Dialect;
 
 // An entry: the number of its line, where that line starts, the bytes of its command, from `start` to before `end`, and the offset from UTC
 // that its time is under.
@@ -32,14 +33,14 @@ pub struct Entry {
 }
 
 // The time that starts at a place.
-fn time(s: &[u8], at: usize) -> Time
+fn time(s: &[u8], dialect: Dialect, at: usize) -> Time
     requires { ⌜ length (now s) ≤ maxLine ⌝ }
-    ensures { λ r. ⌜ r ≡ timeAt (now (s .entry)) at ⌝ }
+    ensures { λ r. ⌜ r ≡ timeAt dialect (now (s .entry)) at ⌝ }
 {
     if byte_at(s, at) == b'@' {
         return word::read(s, at);
     }
-    time::read(s, at)
+    time::read(s, dialect, at)
 }
 
 // The command from a place to the line's end.
@@ -88,7 +89,8 @@ pub(crate) fn read(s: &[u8], rules: Rules, at: usize) -> Line
     requires { ⌜ length (now s) ≤ maxLine ⌝ }
     ensures { λ r. ⌜ r ≡ entryAt rules (now (s .entry)) at ⌝ }
 {
-    match time(s, at) {
+    let dialect = rules.dialect;
+    match time(s, dialect, at) {
         Time::Read { when, next } => after_time(s, rules, when, next),
         Time::Refused(fault) => Line::Refused(fault),
     }

@@ -13,6 +13,8 @@ pub mod time;
 pub mod user;
 pub mod word;
 
+use field::Dialect;
+
 pub const MAX_TABLE: usize = 49152;
 
 pub const MAX_LINE: usize = 1000;
@@ -62,6 +64,7 @@ pub enum Kind {
 // How a table is read.
 pub struct Rules {
     pub kind: Kind,
+    pub dialect: Dialect,
 }
 
 // The bytes from `start` to before `end`.

@@ -1,7 +1,8 @@
 // The five time fields of an entry, left to right.
 ghost use mathlib.Core.Path.{_≡_};
-ghost use Prim.Native.Nat.{_≤_};
+ghost use Prim.Native.Nat.{_≤_, _<_};
 ghost use lib.ListN.{length};
+ghost use Rattle.field.specs.Limits.{inDialect};
 ghost use Rattle.crontab.specs.Limits.{maxLine};
 ghost use Rattle.crontab.specs.Times.{fieldAt, fieldsAt};
 use crate::TOO_FEW_FIELDS;
@@ -9,7 +10,9 @@ use crate::line::Fault;
 use bytes::class::Class;
 use bytes::run::skip;
 use field::Answer;
+use field::Dialect;
 use field::Limits;
+use field::in_dialect;
 use schedule::Schedule;
 use schedule::Stars;
 
@@ -38,9 +41,9 @@ pub enum Time {
 }
 
 // The field that starts at a place.
-fn field_at(s: &[u8], at: usize, limits: Limits) -> Field
-    requires { ⌜ length (now s) ≤ maxLine ⌝ }
-    ensures { λ r. ⌜ r ≡ fieldAt limits (now (s .entry)) at ⌝ }
+fn field_at(s: &[u8], at: usize, limits: Limits, dialect: Dialect) -> Field
+    requires { ⌜ (length (now s) ≤ maxLine) × (0 < limits .bits) ⌝ }
+    ensures { λ r. ⌜ r ≡ fieldAt (inDialect dialect limits) (now (s .entry)) at ⌝ }
 {
     if s.len() <= at {
         return Field::Refused(Fault {
@@ -49,6 +52,7 @@ fn field_at(s: &[u8], at: usize, limits: Limits) -> Field
         });
     }
     let end = skip(s, at, Class::Solid);
+    let limits = in_dialect(limits, dialect);
     let answer = field::read(&s[at..end], (at + 1) as u32, limits);
     match answer {
         Answer::Values { set, star } => Field::Read(Values {
@@ -64,27 +68,27 @@ fn field_at(s: &[u8], at: usize, limits: Limits) -> Field
 }
 
 // The five fields of which the first starts at a place.
-pub(crate) fn read(s: &[u8], at: usize) -> Time
+pub(crate) fn read(s: &[u8], dialect: Dialect, at: usize) -> Time
     requires { ⌜ length (now s) ≤ maxLine ⌝ }
-    ensures { λ r. ⌜ r ≡ fieldsAt (now (s .entry)) at ⌝ }
+    ensures { λ r. ⌜ r ≡ fieldsAt dialect (now (s .entry)) at ⌝ }
 {
-    let minute = match field_at(s, at, field::MINUTE) {
+    let minute = match field_at(s, at, field::MINUTE, dialect) {
         Field::Read(values) => values,
         Field::Refused(fault) => return Time::Refused(fault),
     };
-    let hour = match field_at(s, minute.next, field::HOUR) {
+    let hour = match field_at(s, minute.next, field::HOUR, dialect) {
         Field::Read(values) => values,
         Field::Refused(fault) => return Time::Refused(fault),
     };
-    let day = match field_at(s, hour.next, field::DAY) {
+    let day = match field_at(s, hour.next, field::DAY, dialect) {
         Field::Read(values) => values,
         Field::Refused(fault) => return Time::Refused(fault),
     };
-    let month = match field_at(s, day.next, field::MONTH) {
+    let month = match field_at(s, day.next, field::MONTH, dialect) {
         Field::Read(values) => values,
         Field::Refused(fault) => return Time::Refused(fault),
     };
-    let weekday = match field_at(s, month.next, field::WEEKDAY) {
+    let weekday = match field_at(s, month.next, field::WEEKDAY, dialect) {
         Field::Read(values) => values,
         Field::Refused(fault) => return Time::Refused(fault),
     };

@@ -6,6 +6,7 @@ mod number;
 use crontab::Kind;
 use crontab::MAX_TABLE;
 use crontab::Rules;
+use field::Dialect;
 use firings::Filled;
 use libc::STDOUT_FILENO;
 use number::Number;
@@ -43,8 +44,10 @@ fn print_full(minutes: &[u32], entries: &[u16], n: usize) -> u64 {
 fn print_piece(table: &[u8], a: u64, b: u64) -> u64 {
     let mut minutes = [0u32; PLACES];
     let mut entries = [0u16; PLACES];
-    let kind = Kind::User;
-    let rules = Rules { kind };
+    let rules = Rules {
+        kind: Kind::User,
+        dialect: Dialect::Rising,
+    };
     match firings::merged(table, rules, a, b, &mut minutes, &mut entries) {
         Filled::All(n) => {
             print(&minutes, &entries, n);

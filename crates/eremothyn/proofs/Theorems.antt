@@ -2,12 +2,13 @@
 --   known-days: paper 01's known days
 --   local-days: next firings under an offset, around the ends of the local calendar
 --   gap-reached, february-30: the gap exactly reached, and a day that never comes
+--   never-reversed: a check in the second dialect never answers refusal 7 (ticket 2026-13)
 --   told-apart: every number tells whether the call was refused
 --   refused-stays: and then no byte was changed
 -- Assumes nothing.
 use mathlib.Core.Path.{_≡_, refl, ap, _∙_}
 use mathlib.Core.List.{List}
-use Prim.Native.Nat.{ℕ, _≤_}
+use Prim.Native.Nat.{ℕ, zero, suc, _≤_}
 use native.Mathlib.Omega.{arith}
 use borrow.Author.Tests.{le-leb}
 use lib.Dec.{lit≤}
@@ -26,10 +27,11 @@ use Rattle.schedule.proofs.KnownDays as firings
 use Rattle.field.specs.Computing as field
 use Rattle.crontab.specs.declared.time.When.the-variants.{Timed}
 use Rattle.crontab.specs.declared.table.EntryAnswer.the-variants.{Found}
-use Rattle.crontab.specs.Limits.{maxTable}
+use Rattle.crontab.specs.Limits.{maxTable, maxEntries}
 use Rattle.crontab.specs.Tables.{tableOf, entryIn}
 use Rattle.crontab.specs.Firings.{told, nextOf, nextAnswer, nextIn, dueIn}
 use Rattle.crontab.proofs.Theorems.{table-sound, due-told, next-told}
+use Rattle.crontab.proofs.Theorems as tables
 use Rattle.normal.specs.NormalForms.{normalForm}
 use Rattle.normal.proofs.Theorems.{form-told}
 use Rattle.records.specs.Calls.{compiled, decompiled}
@@ -41,6 +43,8 @@ use Rattle.firings.proofs.Theorems.{firings-few, firings-kept, merged-few, merg
 use Rattle.crontab.specs.Computing.{reading}
 use Rattle.command.specs.Computing.{splitting}
 use Rattle.eremothyn.specs.Rules.{rulesOf}
+use Rattle.eremothyn.specs.Answer.{answerOf}
+use Rattle.eremothyn.specs.Tables.{checkNumber}
 use Rattle.eremothyn.specs.Entries.{nextNumber}
 use Rattle.eremothyn.specs.KnownDays.{KnownDays}
 use Rattle.eremothyn.specs.Apart.{ToldApart, RefusedStays}
@@ -49,17 +53,17 @@ use Rattle.eremothyn.proofs.Apart.{split-tells, stdin-tells, form-tells
 
 -- the table's first entry is timed, and its command ends a byte behind its start
 abbrev reads : List ℕ → Schedule → ℕ → ℕ → Type 0
-reads s times start end = entryIn (tableOf (rulesOf 0) s) 0 ≡ Found (record { when = Timed times; line = 1; at = 0; start = start; end = end; offset = utc })
+reads s times start end = entryIn (tableOf (rulesOf 0 0) s) 0 ≡ Found (record { when = Timed times; line = 1; at = 0; start = start; end = end; offset = utc })
 
 -- the next firing of a table's first entry, by its schedule's
 firing : (s : List ℕ) (times : Schedule) (start end m : ℕ) → reads s times start end → m ≤ lastMinute
-    → nextIn (tableOf (rulesOf 0) s) 0 m ≡ told (nextAfter times m)
+    → nextIn (tableOf (rulesOf 0 0) s) 0 m ≡ told (nextAfter times m)
 unfolding nextIn nextAnswer nextOf
 firing s times start end m e h = rw (e, le-leb m lastMinute h, utc-next times m)
 
 -- ticket 2026-09: next firings around the ends of the local calendar, by table bytes
-zoned : (s : List ℕ) (e : Entry) (times : Schedule) (m : ℕ) → e .when ≡ Timed times → entryIn (tableOf (rulesOf 0) s) 0 ≡ Found e → m ≤ lastMinute
-    → nextIn (tableOf (rulesOf 0) s) 0 m ≡ told (nextAfterIn times (ahead (e .offset)) m)
+zoned : (s : List ℕ) (e : Entry) (times : Schedule) (m : ℕ) → e .when ≡ Timed times → entryIn (tableOf (rulesOf 0 0) s) 0 ≡ Found e → m ≤ lastMinute
+    → nextIn (tableOf (rulesOf 0 0) s) 0 m ≡ told (nextAfterIn times (ahead (e .offset)) m)
 unfolding nextIn nextAnswer nextOf
 zoned s e times m w f h = rw (f, le-leb m lastMinute h, w)
 
@@ -74,17 +78,17 @@ abbrev east : List ℕ
 east = text "CRON_TZ=+14:00\n* * * * * a\n"
 
 zoned-entries :
-    (entryIn (tableOf (rulesOf 0) west) 0 ≡ Found (second evenings 26 27 (negsuc 719)))
-    × (entryIn (tableOf (rulesOf 0) east) 0 ≡ Found (second everyMinute 25 26 (pos 840)))
+    (entryIn (tableOf (rulesOf 0 0) west) 0 ≡ Found (second evenings 26 27 (negsuc 719)))
+    × (entryIn (tableOf (rulesOf 0 0) east) 0 ≡ Found (second everyMinute 25 26 (pos 840)))
 unfolding schedules reading
 zoned-entries = (refl, refl)
 
 pub local-days :
     -- 18:00 at -12:00, after minute 0: 30 hours later in UTC
-    (nextNumber (nextIn (tableOf (rulesOf 0) (text "CRON_TZ=-12:00\n0 18 * * * a\n")) 0 0) ≡ 1800)
+    (nextNumber (nextIn (tableOf (rulesOf 0 0) (text "CRON_TZ=-12:00\n0 18 * * * a\n")) 0 0) ≡ 1800)
     -- the last minute of the local calendar at +14:00, and 17 behind it
-    × (nextNumber (nextIn (tableOf (rulesOf 0) (text "CRON_TZ=+14:00\n* * * * * a\n")) 0 4223370838) ≡ 4223370839)
-    × (nextNumber (nextIn (tableOf (rulesOf 0) (text "CRON_TZ=+14:00\n* * * * * a\n")) 0 4223370839) ≡ 4294967313)
+    × (nextNumber (nextIn (tableOf (rulesOf 0 0) (text "CRON_TZ=+14:00\n* * * * * a\n")) 0 4223370838) ≡ 4223370839)
+    × (nextNumber (nextIn (tableOf (rulesOf 0 0) (text "CRON_TZ=+14:00\n* * * * * a\n")) 0 4223370839) ≡ 4294967313)
 unfolding nextNumber told
 local-days = (
   ap nextNumber (zoned west (second evenings 26 27 (negsuc 719)) evenings 0 refl (zoned-entries .0) (lit≤ tt) ∙ ap told (known-days-in .3)),
@@ -127,14 +131,27 @@ known-days = (
 )
 
 -- `0 0 29 2 */7` after 62,147,520 (2088-02-29): 83,184,480 (2128-02-29)
-pub gap-reached : nextNumber (nextIn (tableOf (rulesOf 0) (text "0 0 29 2 */7 a\n")) 0 62147520) ≡ 83184480
+pub gap-reached : nextNumber (nextIn (tableOf (rulesOf 0 0) (text "0 0 29 2 */7 a\n")) 0 62147520) ≡ 83184480
 unfolding nextNumber told
 gap-reached = ap nextNumber (firing _ leapSundays 13 14 _ (entries .5) (lit≤ tt) ∙ ap told firings.gap-reached)
 
 -- `0 0 30 2 *` is never due: 16 after every minute of the calendar
-pub february-30 : (m : ℕ) → m ≤ lastMinute → nextNumber (nextIn (tableOf (rulesOf 0) (text "0 0 30 2 * a\n")) 0 m) ≡ 4294967312
+pub february-30 : (m : ℕ) → m ≤ lastMinute → nextNumber (nextIn (tableOf (rulesOf 0 0) (text "0 0 30 2 * a\n")) 0 m) ≡ 4294967312
 unfolding nextNumber told schedules firings.ever
 february-30 m h = ap nextNumber (firing _ february30 11 12 m (entries .2) h ∙ ap told (firings.never february30 m refl))
+
+answer-other : (refusal count : ℕ) → (refusal ≡ 7 → ⊥) → count ≤ maxEntries → answerOf refusal count ≡ 4294967303 → ⊥
+unfolding answerOf
+answer-other zero count h few e = omega (arith, few, e)
+answer-other (suc n) count h few e = h (omega (arith, e))
+
+-- ticket 2026-13, "refusal 7 is never given in this dialect": a check in the second dialect never answers 4,294,967,296 + 7
+pub never-reversed : (kind dialect : ℕ) (table : List ℕ) → (dialect ≡ 0 → ⊥) → checkNumber (tableOf (rulesOf kind dialect) table) ≡ 4294967303 → ⊥
+unfolding checkNumber
+never-reversed kind zero table second = absurd (second refl)
+never-reversed kind (suc n) table second =
+    answer-other (tableOf (rulesOf kind (suc n)) table .refusal) (tableOf (rulesOf kind (suc n)) table .count)
+    (tables.never-reversed (rulesOf kind (suc n)) refl table) (table-sound (rulesOf kind (suc n)) table .few)
 
 -- a refusal is 4,294,967,296 plus its number, and no other answer is above 4,294,967,296
 pub told-apart : ToldApart
@@ -151,8 +168,8 @@ told-apart =
       owner = owner-tells;
       split-command = split-tells;
       stdin-length = stdin-tells;
-      normal-form = λ table text. form-tells maxTable text (normalForm table text) (omega arith) (form-told table text);
-      compile = λ table records. form-tells mostRecords records (compiled table records) (omega arith) (compiled-told table records);
+      normal-form = λ d table text. form-tells maxTable text (normalForm d table text) (omega arith) (form-told d table text);
+      compile = λ d table records. form-tells mostRecords records (compiled d table records) (omega arith) (compiled-told d table records);
       decompile = λ records text. form-tells maxTable text (decompiled records text) (omega arith) (decompiled-told records text);
       record-fault = λ records h. omega (arith, fault-told records);
       queue-init =
@@ -173,8 +190,8 @@ pub refused-stays : RefusedStays
 refused-stays =
     record {
       split-command = split-stays;
-      normal-form = λ table text. form-stays maxTable text (normalForm table text) (form-told table text);
-      compile = λ table records. form-stays mostRecords records (compiled table records) (compiled-told table records);
+      normal-form = λ d table text. form-stays maxTable text (normalForm d table text) (form-told d table text);
+      compile = λ d table records. form-stays mostRecords records (compiled d table records) (compiled-told d table records);
       decompile = λ records text. form-stays maxTable text (decompiled records text) (decompiled-told records text);
       queue-init = λ rules table room. let s = initTable (tableOf rules table) room in tick-keeps (s .answer) room (s .room) (init-stays (tableOf rules table) room);
       queue-tick =

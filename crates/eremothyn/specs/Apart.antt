@@ -7,6 +7,7 @@ use Prim.Native.Nat.{ℕ, zero, suc, _+_, _≤_, _<_}
 use mathlib.Core.List.{List}
 use lib.ListN.{length}
 use Rattle.calendar.specs.Dates.{dateOf, minuteOf}
+use Rattle.field.specs.declared.Dialect.{Dialect}
 use Rattle.crontab.specs.declared.Rules.{Rules}
 use Rattle.crontab.specs.declared.table.EntryAnswer.{EntryAnswer}
 use Rattle.crontab.specs.declared.table.EntryAnswer.the-variants as entry
@@ -119,8 +120,8 @@ pub record ToldApart : Type 0 where
   pub split-command : (rules : Rules) (table : List ℕ) (i : ℕ) (shell input : List ℕ)
       → let a = splitOf rules table i shell input .answer in Tells (bySplit a) (splitNumber a)
   pub stdin-length : (rules : Rules) (table : List ℕ) (i : ℕ) → Tells (byEntry (entryIn (tableOf rules table) i)) (stdinLength rules table i)
-  pub normal-form : (table text : List ℕ) → let a = normalForm table text .answer in Tells (byForm a) (normalNumber a)
-  pub compile : (table records : List ℕ) → let a = compiled table records .answer in Tells (byForm a) (normalNumber a)
+  pub normal-form : (d : Dialect) (table text : List ℕ) → let a = normalForm d table text .answer in Tells (byForm a) (normalNumber a)
+  pub compile : (d : Dialect) (table records : List ℕ) → let a = compiled d table records .answer in Tells (byForm a) (normalNumber a)
   pub decompile : (records text : List ℕ) → let a = decompiled records text .answer in Tells (byForm a) (normalNumber a)
   -- of bytes that a number of 32 bits can count
   pub record-fault : (records : List ℕ) → length records ≤ refusedFrom → Tells granted (recordFault records)
@@ -142,8 +143,8 @@ Stays (refused n) before after = after ≡ before
 pub record RefusedStays : Type 0 where
   pub split-command : (rules : Rules) (table : List ℕ) (i : ℕ) (shell input : List ℕ)
       → let s = splitOf rules table i shell input in Stays (bySplit (s .answer)) shell (s .shell) × Stays (bySplit (s .answer)) input (s .input)
-  pub normal-form : (table text : List ℕ) → let f = normalForm table text in Stays (byForm (f .answer)) text (f .buffer)
-  pub compile : (table records : List ℕ) → let f = compiled table records in Stays (byForm (f .answer)) records (f .buffer)
+  pub normal-form : (d : Dialect) (table text : List ℕ) → let f = normalForm d table text in Stays (byForm (f .answer)) text (f .buffer)
+  pub compile : (d : Dialect) (table records : List ℕ) → let f = compiled d table records in Stays (byForm (f .answer)) records (f .buffer)
   pub decompile : (records text : List ℕ) → let f = decompiled records text in Stays (byForm (f .answer)) text (f .buffer)
   pub queue-init : (rules : Rules) (table room : List ℕ) → let s = initTable (tableOf rules table) room in Stays (byTick (s .answer)) room (s .room)
   pub queue-tick : (rules : Rules) (table room : List ℕ) (minute : ℕ) → let s = tickTable (tableOf rules table) minute room in Stays (byTick (s .answer)) room (s .room)

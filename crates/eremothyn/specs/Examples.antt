@@ -17,7 +17,7 @@ use Rattle.normal.specs.NormalForms.{normalForm}
 use Rattle.records.specs.Calls.{compiled, decompiled, recordFault}
 use Rattle.firings.specs.Calls.{firingsIn, mergedIn}
 use Rattle.runqueue.specs.Calls.{initTable, tickTable, popTable}
-use Rattle.eremothyn.specs.Rules.{rulesOf}
+use Rattle.eremothyn.specs.Rules.{dialectOf, rulesOf}
 use Rattle.eremothyn.specs.declared.dates.DatePart.the-variants.{Year, Month, Day, Hour, Minute, Weekday}
 use Rattle.eremothyn.specs.declared.settings.Shown.the-variants.{NameOffset, NameLength, ValueOffset, ValueLength}
 use Rattle.eremothyn.specs.declared.owners.Owned.the-variants.{UserOffset, UserLength, GroupOffset, GroupLength, ClassOffset, ClassLength}
@@ -62,7 +62,7 @@ minutes = refl
 -- ---- tables: the answer of a check, and the line and the column of its fault
 
 abbrev checked : List ℕ → List ℕ
-checked s = let t = tableOf (rulesOf 0) s in checkNumber t ∷ t .line ∷ t .column ∷ []
+checked s = let t = tableOf (rulesOf 0 0) s in checkNumber t ∷ t .line ∷ t .column ∷ []
 
 tables : Hold checked
     ((text "@reboot x\n0 * * * * y\n", 2 ∷ 0 ∷ 0 ∷ [])
@@ -88,7 +88,7 @@ watch = text "A=b\n@reboot u:gh x\n0 * * * * v/c y\n"
 
 abbrev owned : ℕ × ℕ → List ℕ
 owned (kind, i) =
-    let a = ownerIn (rulesOf kind) watch i in
+    let a = ownerIn (rulesOf kind 0) watch i in
     ownerNumber a UserOffset ∷ ownerNumber a UserLength ∷ ownerNumber a GroupOffset ∷ ownerNumber a GroupLength ∷ ownerNumber a ClassOffset
     ∷ ownerNumber a ClassLength ∷ []
 
@@ -104,7 +104,7 @@ owners = refl
 
 -- the check of a table by its kind, and the line and the column of its fault
 abbrev checkedAs : ℕ × List ℕ → List ℕ
-checkedAs (kind, s) = let t = tableOf (rulesOf kind) s in checkNumber t ∷ t .line ∷ t .column ∷ []
+checkedAs (kind, s) = let t = tableOf (rulesOf kind 0) s in checkNumber t ∷ t .line ∷ t .column ∷ []
 
 kinds : Hold checkedAs
     -- 20 at the user, 9 behind it; a user's table has neither
@@ -119,6 +119,28 @@ kinds : Hold checkedAs
 unfolding answering
 kinds = refl
 
+-- ---- ticket 2026-13: a table is in the first dialect where that is 0, else in the second
+
+-- the check of a table by its kind and dialect, and the line and the column of its fault
+abbrev checkedIn : ℕ × (ℕ × List ℕ) → List ℕ
+checkedIn (kind, (dialect, s)) = let t = tableOf (rulesOf kind dialect) s in checkNumber t ∷ t .line ∷ t .column ∷ []
+
+dialects : Hold checkedIn
+    -- from high to low: 7, or over midnight
+    (((0, (0, text "0 22-3 * * * x\n")), 4294967303 ∷ 1 ∷ 3 ∷ [])
+    ∷ ((0, (1, text "0 22-3 * * * x\n")), 1 ∷ 0 ∷ 0 ∷ [])
+    ∷ ((0, (18446744073709551615, text "0 22-3 * * * x\n")), 1 ∷ 0 ∷ 0 ∷ [])
+    -- with a user between, in either
+    ∷ ((1, (0, text "0 22-3 * * * u x\n")), 4294967303 ∷ 1 ∷ 3 ∷ [])
+    ∷ ((1, (1, text "0 22-3 * * * u x\n")), 1 ∷ 0 ∷ 0 ∷ [])
+    ∷ ((1, (1, text "0 22-3 * * * u\n")), 4294967305 ∷ 1 ∷ 15 ∷ [])
+    -- a weekday 7: Sunday, or 6
+    ∷ ((0, (0, text "0 0 * * 7 x\n")), 1 ∷ 0 ∷ 0 ∷ [])
+    ∷ ((0, (1, text "0 0 * * 7 x\n")), 4294967302 ∷ 1 ∷ 9 ∷ [])
+    ∷ [])
+unfolding answering
+dialects = refl
+
 -- ---- entries: one at boot, and one at the hour
 
 abbrev pair : List ℕ
@@ -129,7 +151,7 @@ abbrev clocks : List ℕ
 clocks = text "CRON_TZ=-12:00\n* * * * * a\nCRON_TZ='+14:00'\n* * * * * b\n0 0 * * * c\nCRON_TZ=-00:00\n0 0 * * * d\n"
 
 abbrev dueOn : List ℕ × ℕ × ℕ → ℕ
-dueOn (s, i, m) = dueNumber (dueIn (tableOf (rulesOf 0) s) i m)
+dueOn (s, i, m) = dueNumber (dueIn (tableOf (rulesOf 0 0) s) i m)
 
 due : Hold dueOn
     -- at minute 60, not at 61, and a boot job never
@@ -159,7 +181,7 @@ unfolding answering
 due = refl
 
 abbrev nextOn : List ℕ × ℕ × ℕ → ℕ
-nextOn (s, i, m) = nextNumber (nextIn (tableOf (rulesOf 0) s) i m)
+nextOn (s, i, m) = nextNumber (nextIn (tableOf (rulesOf 0 0) s) i m)
 
 next : Hold nextOn
     -- 15 of a boot job; 14 comes before it, 13 before 14, and a refused table before all
@@ -177,7 +199,7 @@ next = refl
 
 abbrev shown : List ℕ × ℕ → List ℕ
 shown (s, n) =
-    let found = settingIn (itemsOf (rulesOf 0) s) n in
+    let found = settingIn (itemsOf (rulesOf 0 0) s) n in
     settingNumber found NameOffset ∷ settingNumber found NameLength ∷ settingNumber found ValueOffset ∷ settingNumber found ValueLength ∷ []
 
 settings : Hold shown
@@ -208,8 +230,8 @@ input = text "===="
 
 abbrev splitAt : ℕ → ℕ × List ℕ × List ℕ × ℕ
 splitAt i =
-    let r = splitOf (rulesOf 0) commands i shell input in
-    (splitNumber (r .answer), r .shell, r .input, stdinLength (rulesOf 0) commands i)
+    let r = splitOf (rulesOf 0 0) commands i shell input in
+    (splitNumber (r .answer), r .shell, r .input, stdinLength (rulesOf 0 0) commands i)
 
 splits : Hold splitAt
     -- on line 2, with an input
@@ -227,7 +249,7 @@ splits = refl
 -- ---- ticket 2026-06: a table and a buffer, and the normal text's length with the buffer as it is then
 
 abbrev formOn : List ℕ × List ℕ → ℕ × List ℕ
-formOn (s, buffer) = let f = normalForm s buffer in (normalNumber (f .answer), f .buffer)
+formOn (s, buffer) = let f = normalForm (dialectOf 0) s buffer in (normalNumber (f .answer), f .buffer)
 
 -- a line of so many bytes, which are written in 165 more
 abbrev growing : ℕ → List ℕ
@@ -249,7 +271,7 @@ forms = refl
 -- ---- ticket 2026-08: a table and a buffer, and the records' length with the buffer as it is then; and back, with the first bad record
 
 abbrev compileOn : List ℕ × List ℕ → ℕ × List ℕ
-compileOn (s, buffer) = let f = compiled s buffer in (normalNumber (f .answer), f .buffer)
+compileOn (s, buffer) = let f = compiled (dialectOf 0) s buffer in (normalNumber (f .answer), f .buffer)
 
 compiles : Hold compileOn
     (((text "# a\n@reboot  b c\n", text "--------"), (7, 5 ∷ 0 ∷ 2 ∷ 0 ∷ text "b c-"))
@@ -281,7 +303,7 @@ abbrev hut : List ℕ
 hut = text "*/5 * * * * x\n@reboot y\n10 * * * * z\n"
 
 abbrev firingsOn : ℕ × ℕ × ℕ × List ℕ → ℕ × List ℕ
-firingsOn (i, a, b, room) = let s = firingsIn (tableOf (rulesOf 0) hut) i a b room in (filledNumber (s .answer), s .run)
+firingsOn (i, a, b, room) = let s = firingsIn (tableOf (rulesOf 0 0) hut) i a b room in (filledNumber (s .answer), s .run)
 
 lists : Hold firingsOn
     (((0, 5, 15, 1 ∷ 2 ∷ 3 ∷ []), (2, 10 ∷ 15 ∷ 3 ∷ []))
@@ -299,7 +321,7 @@ lists = refl
 
 abbrev mergedOn : List ℕ × ℕ × ℕ × List ℕ × List ℕ → ℕ × List ℕ × List ℕ
 mergedOn (s, a, b, minutes, entries) =
-    let m = mergedIn (tableOf (rulesOf 0) s) a b minutes entries in
+    let m = mergedIn (tableOf (rulesOf 0 0) s) a b minutes entries in
     (filledNumber (m .answer), m .minutes, m .entries)
 
 merged-lists : Hold mergedOn
@@ -323,9 +345,9 @@ data Ask : Type 0 where
 -- one after the other, each with the room that the last one left
 run : List ℕ → List ℕ → List Ask → List ℕ
 run table room [] = []
-run table room (init ∷ asks) = let s = initTable (tableOf (rulesOf 0) table) room in tickNumber (s .answer) ∷ run table (s .room) asks
-run table room (tick minute ∷ asks) = let s = tickTable (tableOf (rulesOf 0) table) minute room in tickNumber (s .answer) ∷ run table (s .room) asks
-run table room (pop ∷ asks) = let s = popTable (tableOf (rulesOf 0) table) room in popNumber (s .answer) ∷ run table (s .room) asks
+run table room (init ∷ asks) = let s = initTable (tableOf (rulesOf 0 0) table) room in tickNumber (s .answer) ∷ run table (s .room) asks
+run table room (tick minute ∷ asks) = let s = tickTable (tableOf (rulesOf 0 0) table) minute room in tickNumber (s .answer) ∷ run table (s .room) asks
+run table room (pop ∷ asks) = let s = popTable (tableOf (rulesOf 0 0) table) room in popNumber (s .answer) ∷ run table (s .room) asks
 
 -- "Whole run: table `* * * * * a`, `@reboot b`, `0 * * * * c`. Request: entry 1. Announce 59: 1 joined. Announce 60: 1 joined. Requests:
 -- entry 0, entry 2, nothing."

@@ -26,17 +26,17 @@ KnownDays =
     -- 2100-02-29: 14
     × (minuteOf 2100 2 29 0 0 .refusal ≡ 14)
     -- `0 0 29 2 *` after 66,355,200
-    × (nextNumber (nextIn (tableOf (rulesOf 0) (text "0 0 29 2 * a\n")) 0 66355200) ≡ 70561440)
+    × (nextNumber (nextIn (tableOf (rulesOf 0 0) (text "0 0 29 2 * a\n")) 0 66355200) ≡ 70561440)
     -- `30 4 1,15 * 5` after 0
-    × (nextNumber (nextIn (tableOf (rulesOf 0) (text "30 4 1,15 * 5 a\n")) 0 0) ≡ 270)
+    × (nextNumber (nextIn (tableOf (rulesOf 0 0) (text "30 4 1,15 * 5 a\n")) 0 0) ≡ 270)
     -- `30 4 1,15 * 5` after 270
-    × (nextNumber (nextIn (tableOf (rulesOf 0) (text "30 4 1,15 * 5 a\n")) 0 270) ≡ 1710)
+    × (nextNumber (nextIn (tableOf (rulesOf 0 0) (text "30 4 1,15 * 5 a\n")) 0 270) ≡ 1710)
     -- `0 0 30 2 *`, never: 16
-    × (nextNumber (nextIn (tableOf (rulesOf 0) (text "0 0 30 2 * a\n")) 0 0) ≡ 4294967312)
+    × (nextNumber (nextIn (tableOf (rulesOf 0 0) (text "0 0 30 2 * a\n")) 0 0) ≡ 4294967312)
     -- `0 0 30 2 1` after 0
-    × (nextNumber (nextIn (tableOf (rulesOf 0) (text "0 0 30 2 1 a\n")) 0 0) ≡ 46080)
+    × (nextNumber (nextIn (tableOf (rulesOf 0 0) (text "0 0 30 2 1 a\n")) 0 0) ≡ 46080)
     -- `0 0 31 12 *` after 4,223,371,679, past the end: 17
-    × (nextNumber (nextIn (tableOf (rulesOf 0) (text "0 0 31 12 * a\n")) 0 4223371679) ≡ 4294967313)
+    × (nextNumber (nextIn (tableOf (rulesOf 0 0) (text "0 0 31 12 * a\n")) 0 4223371679) ≡ 4294967313)
     -- `*/2` as month: 1, 3, 5, 7, 9, 11; it begins with a star
     × (readField monthLimits 1 (text "*/2") ≡ Values (setOf (1 ∷ 3 ∷ 5 ∷ 7 ∷ 9 ∷ 11 ∷ [])) true)
     -- `10-10` is 10; `10-9` is 7; `5/2` and `*,5` are 5

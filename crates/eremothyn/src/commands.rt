@@ -32,15 +32,16 @@ fn input_number(input: Input) -> u64
 pub extern "C" fn eremothyn_split_command(
     table: &[u8],
     kind: u64,
+    dialect: u64,
     entry: u64,
     shell: &mut [u8],
     input: &mut [u8],
 ) -> u64
-    ensures answer { λ r. ⌜ r ≡ splitNumber (splitOf (rulesOf kind) (now (table .entry)) entry (now (shell .entry)) (now (input .entry)) .answer) ⌝ }
-    ensures shell { λ _. ⌜ now (shell .exit) ≡ splitOf (rulesOf kind) (now (table .entry)) entry (now (shell .entry)) (now (input .entry)) .shell ⌝ }
-    ensures input { λ _. ⌜ now (input .exit) ≡ splitOf (rulesOf kind) (now (table .entry)) entry (now (shell .entry)) (now (input .entry)) .input ⌝ }
+    ensures answer { λ r. ⌜ r ≡ splitNumber (splitOf (rulesOf kind dialect) (now (table .entry)) entry (now (shell .entry)) (now (input .entry)) .answer) ⌝ }
+    ensures shell { λ _. ⌜ now (shell .exit) ≡ splitOf (rulesOf kind dialect) (now (table .entry)) entry (now (shell .entry)) (now (input .entry)) .shell ⌝ }
+    ensures input { λ _. ⌜ now (input .exit) ≡ splitOf (rulesOf kind dialect) (now (table .entry)) entry (now (shell .entry)) (now (input .entry)) .input ⌝ }
 {
-    match crontab::table::find_entry(table, rules_of(kind), entry) {
+    match crontab::table::find_entry(table, rules_of(kind, dialect), entry) {
         EntryAnswer::Found(found) => {
             let start = found.start as usize;
             let end = found.end as usize;
@@ -51,10 +52,10 @@ pub extern "C" fn eremothyn_split_command(
 }
 
 #[no_mangle]
-pub extern "C" fn eremothyn_stdin_length(table: &[u8], kind: u64, entry: u64) -> u64
-    ensures { λ r. ⌜ r ≡ stdinLength (rulesOf kind) (now (table .entry)) entry ⌝ }
+pub extern "C" fn eremothyn_stdin_length(table: &[u8], kind: u64, dialect: u64, entry: u64) -> u64
+    ensures { λ r. ⌜ r ≡ stdinLength (rulesOf kind dialect) (now (table .entry)) entry ⌝ }
 {
-    match crontab::table::find_entry(table, rules_of(kind), entry) {
+    match crontab::table::find_entry(table, rules_of(kind, dialect), entry) {
         EntryAnswer::Found(found) => {
             let start = found.start as usize;
             let end = found.end as usize;

@@ -11,10 +11,16 @@ use crontab::firing::DueAnswer;
 use crontab::firing::NextAnswer;
 
 #[no_mangle]
-pub extern "C" fn eremothyn_due(table: &[u8], kind: u64, entry: u64, minute: u64) -> u64
-    ensures { λ r. ⌜ r ≡ dueNumber (dueIn (tableOf (rulesOf kind) (now (table .entry))) entry minute) ⌝ }
+pub extern "C" fn eremothyn_due(
+    table: &[u8],
+    kind: u64,
+    dialect: u64,
+    entry: u64,
+    minute: u64,
+) -> u64
+    ensures { λ r. ⌜ r ≡ dueNumber (dueIn (tableOf (rulesOf kind dialect) (now (table .entry))) entry minute) ⌝ }
 {
-    match firing::due(table, rules_of(kind), entry, minute) {
+    match firing::due(table, rules_of(kind, dialect), entry, minute) {
         DueAnswer::Yes => 1,
         DueAnswer::No => 0,
         DueAnswer::Refused(number) => REFUSED + number as u64,
@@ -22,10 +28,16 @@ pub extern "C" fn eremothyn_due(table: &[u8], kind: u64, entry: u64, minute: u64
 }
 
 #[no_mangle]
-pub extern "C" fn eremothyn_next(table: &[u8], kind: u64, entry: u64, minute: u64) -> u64
-    ensures { λ r. ⌜ r ≡ nextNumber (nextIn (tableOf (rulesOf kind) (now (table .entry))) entry minute) ⌝ }
+pub extern "C" fn eremothyn_next(
+    table: &[u8],
+    kind: u64,
+    dialect: u64,
+    entry: u64,
+    minute: u64,
+) -> u64
+    ensures { λ r. ⌜ r ≡ nextNumber (nextIn (tableOf (rulesOf kind dialect) (now (table .entry))) entry minute) ⌝ }
 {
-    match firing::next(table, rules_of(kind), entry, minute) {
+    match firing::next(table, rules_of(kind, dialect), entry, minute) {
         NextAnswer::At(m) => m,
         NextAnswer::Refused(number) => REFUSED + number as u64,
     }

@@ -28,29 +28,31 @@ fn filled_number(filled: Filled) -> u64
 pub extern "C" fn eremothyn_firings(
     table: &[u8],
     kind: u64,
+    dialect: u64,
     entry: u64,
     a: u64,
     b: u64,
     run: &mut [u32],
 ) -> u64
-    ensures answer { λ r. ⌜ r ≡ filledNumber (firingsIn (tableOf (rulesOf kind) (now (table .entry))) entry a b (now (run .entry)) .answer) ⌝ }
-    ensures run { λ _. ⌜ now (run .exit) ≡ firingsIn (tableOf (rulesOf kind) (now (table .entry))) entry a b (now (run .entry)) .run ⌝ }
+    ensures answer { λ r. ⌜ r ≡ filledNumber (firingsIn (tableOf (rulesOf kind dialect) (now (table .entry))) entry a b (now (run .entry)) .answer) ⌝ }
+    ensures run { λ _. ⌜ now (run .exit) ≡ firingsIn (tableOf (rulesOf kind dialect) (now (table .entry))) entry a b (now (run .entry)) .run ⌝ }
 {
-    filled_number(firings::of_entry(table, rules_of(kind), entry, a, b, run))
+    filled_number(firings::of_entry(table, rules_of(kind, dialect), entry, a, b, run))
 }
 
 #[no_mangle]
 pub extern "C" fn eremothyn_merged_firings(
     table: &[u8],
     kind: u64,
+    dialect: u64,
     a: u64,
     b: u64,
     minutes: &mut [u32],
     entries: &mut [u16],
 ) -> u64
-    ensures answer { λ r. ⌜ r ≡ filledNumber (mergedIn (tableOf (rulesOf kind) (now (table .entry))) a b (now (minutes .entry)) (now (entries .entry)) .answer) ⌝ }
-    ensures minutes { λ _. ⌜ now (minutes .exit) ≡ mergedIn (tableOf (rulesOf kind) (now (table .entry))) a b (now (minutes .entry)) (now (entries .entry)) .minutes ⌝ }
-    ensures entries { λ _. ⌜ now (entries .exit) ≡ mergedIn (tableOf (rulesOf kind) (now (table .entry))) a b (now (minutes .entry)) (now (entries .entry)) .entries ⌝ }
+    ensures answer { λ r. ⌜ r ≡ filledNumber (mergedIn (tableOf (rulesOf kind dialect) (now (table .entry))) a b (now (minutes .entry)) (now (entries .entry)) .answer) ⌝ }
+    ensures minutes { λ _. ⌜ now (minutes .exit) ≡ mergedIn (tableOf (rulesOf kind dialect) (now (table .entry))) a b (now (minutes .entry)) (now (entries .entry)) .minutes ⌝ }
+    ensures entries { λ _. ⌜ now (entries .exit) ≡ mergedIn (tableOf (rulesOf kind dialect) (now (table .entry))) a b (now (minutes .entry)) (now (entries .entry)) .entries ⌝ }
 {
-    filled_number(firings::merged(table, rules_of(kind), a, b, minutes, entries))
+    filled_number(firings::merged(table, rules_of(kind, dialect), a, b, minutes, entries))
 }

@@ -1,8 +1,10 @@
 // A user's table, written in its normal form to the buffer that the caller lends.
 ghost use mathlib.Core.Path.{_≡_};
 ghost use Rattle.normal.specs.NormalForms.{normalForm};
+ghost use Rattle.eremothyn.specs.Rules.{dialectOf};
 ghost use Rattle.eremothyn.specs.NormalForms.{normalNumber};
 use crate::answer::REFUSED;
+use crate::rules::dialect_of;
 use normal::NormalAnswer;
 
 // The length of the text, or the refusal.
@@ -16,9 +18,9 @@ pub(crate) fn normal_number(answer: NormalAnswer) -> u64
 }
 
 #[no_mangle]
-pub extern "C" fn eremothyn_normal_form(table: &[u8], text: &mut [u8]) -> u64
-    ensures answer { λ r. ⌜ r ≡ normalNumber (normalForm (now (table .entry)) (now (text .entry)) .answer) ⌝ }
-    ensures text { λ _. ⌜ now (text .exit) ≡ normalForm (now (table .entry)) (now (text .entry)) .buffer ⌝ }
+pub extern "C" fn eremothyn_normal_form(table: &[u8], dialect: u64, text: &mut [u8]) -> u64
+    ensures answer { λ r. ⌜ r ≡ normalNumber (normalForm (dialectOf dialect) (now (table .entry)) (now (text .entry)) .answer) ⌝ }
+    ensures text { λ _. ⌜ now (text .exit) ≡ normalForm (dialectOf dialect) (now (table .entry)) (now (text .entry)) .buffer ⌝ }
 {
-    normal_number(normal::normal_form(table, text))
+    normal_number(normal::normal_form(table, dialect_of(dialect), text))
 }

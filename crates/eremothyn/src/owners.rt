@@ -36,52 +36,52 @@ fn owned_in(owner: Owner, what: Owned) -> u64
     }
 }
 
-fn owner_number(table: &[u8], kind: u64, entry: u64, what: Owned) -> u64
-    ensures { λ r. ⌜ r ≡ ownerNumber (ownerIn (rulesOf kind) (now (table .entry)) entry) what ⌝ }
+fn owner_number(table: &[u8], kind: u64, dialect: u64, entry: u64, what: Owned) -> u64
+    ensures { λ r. ⌜ r ≡ ownerNumber (ownerIn (rulesOf kind dialect) (now (table .entry)) entry) what ⌝ }
 {
-    let found = owner::read(table, rules_of(kind), entry);
+    let found = owner::read(table, rules_of(kind, dialect), entry);
     let owner = found.owner;
     answer(found.refusal, owned_in(owner, what))
 }
 
 #[no_mangle]
-pub extern "C" fn eremothyn_user_offset(table: &[u8], kind: u64, entry: u64) -> u64
-    ensures { λ r. ⌜ r ≡ ownerNumber (ownerIn (rulesOf kind) (now (table .entry)) entry) Owned.UserOffset ⌝ }
+pub extern "C" fn eremothyn_user_offset(table: &[u8], kind: u64, dialect: u64, entry: u64) -> u64
+    ensures { λ r. ⌜ r ≡ ownerNumber (ownerIn (rulesOf kind dialect) (now (table .entry)) entry) Owned.UserOffset ⌝ }
 {
-    owner_number(table, kind, entry, Owned::UserOffset)
+    owner_number(table, kind, dialect, entry, Owned::UserOffset)
 }
 
 #[no_mangle]
-pub extern "C" fn eremothyn_user_length(table: &[u8], kind: u64, entry: u64) -> u64
-    ensures { λ r. ⌜ r ≡ ownerNumber (ownerIn (rulesOf kind) (now (table .entry)) entry) Owned.UserLength ⌝ }
+pub extern "C" fn eremothyn_user_length(table: &[u8], kind: u64, dialect: u64, entry: u64) -> u64
+    ensures { λ r. ⌜ r ≡ ownerNumber (ownerIn (rulesOf kind dialect) (now (table .entry)) entry) Owned.UserLength ⌝ }
 {
-    owner_number(table, kind, entry, Owned::UserLength)
+    owner_number(table, kind, dialect, entry, Owned::UserLength)
 }
 
 #[no_mangle]
-pub extern "C" fn eremothyn_group_offset(table: &[u8], kind: u64, entry: u64) -> u64
-    ensures { λ r. ⌜ r ≡ ownerNumber (ownerIn (rulesOf kind) (now (table .entry)) entry) Owned.GroupOffset ⌝ }
+pub extern "C" fn eremothyn_group_offset(table: &[u8], kind: u64, dialect: u64, entry: u64) -> u64
+    ensures { λ r. ⌜ r ≡ ownerNumber (ownerIn (rulesOf kind dialect) (now (table .entry)) entry) Owned.GroupOffset ⌝ }
 {
-    owner_number(table, kind, entry, Owned::GroupOffset)
+    owner_number(table, kind, dialect, entry, Owned::GroupOffset)
 }
 
 #[no_mangle]
-pub extern "C" fn eremothyn_group_length(table: &[u8], kind: u64, entry: u64) -> u64
-    ensures { λ r. ⌜ r ≡ ownerNumber (ownerIn (rulesOf kind) (now (table .entry)) entry) Owned.GroupLength ⌝ }
+pub extern "C" fn eremothyn_group_length(table: &[u8], kind: u64, dialect: u64, entry: u64) -> u64
+    ensures { λ r. ⌜ r ≡ ownerNumber (ownerIn (rulesOf kind dialect) (now (table .entry)) entry) Owned.GroupLength ⌝ }
 {
-    owner_number(table, kind, entry, Owned::GroupLength)
+    owner_number(table, kind, dialect, entry, Owned::GroupLength)
 }
 
 #[no_mangle]
-pub extern "C" fn eremothyn_class_offset(table: &[u8], kind: u64, entry: u64) -> u64
-    ensures { λ r. ⌜ r ≡ ownerNumber (ownerIn (rulesOf kind) (now (table .entry)) entry) Owned.ClassOffset ⌝ }
+pub extern "C" fn eremothyn_class_offset(table: &[u8], kind: u64, dialect: u64, entry: u64) -> u64
+    ensures { λ r. ⌜ r ≡ ownerNumber (ownerIn (rulesOf kind dialect) (now (table .entry)) entry) Owned.ClassOffset ⌝ }
 {
-    owner_number(table, kind, entry, Owned::ClassOffset)
+    owner_number(table, kind, dialect, entry, Owned::ClassOffset)
 }
 
 #[no_mangle]
-pub extern "C" fn eremothyn_class_length(table: &[u8], kind: u64, entry: u64) -> u64
-    ensures { λ r. ⌜ r ≡ ownerNumber (ownerIn (rulesOf kind) (now (table .entry)) entry) Owned.ClassLength ⌝ }
+pub extern "C" fn eremothyn_class_length(table: &[u8], kind: u64, dialect: u64, entry: u64) -> u64
+    ensures { λ r. ⌜ r ≡ ownerNumber (ownerIn (rulesOf kind dialect) (now (table .entry)) entry) Owned.ClassLength ⌝ }
 {
-    owner_number(table, kind, entry, Owned::ClassLength)
+    owner_number(table, kind, dialect, entry, Owned::ClassLength)
 }

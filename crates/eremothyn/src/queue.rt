@@ -31,25 +31,36 @@ fn popped_number(popped: Popped) -> u64
 }
 
 #[no_mangle]
-pub extern "C" fn eremothyn_queue_init(table: &[u8], kind: u64, room: &mut [u8]) -> u64
-    ensures answer { λ r. ⌜ r ≡ tickNumber (initTable (tableOf (rulesOf kind) (now (table .entry))) (now (room .entry)) .answer) ⌝ }
-    ensures room { λ _. ⌜ now (room .exit) ≡ initTable (tableOf (rulesOf kind) (now (table .entry))) (now (room .entry)) .room ⌝ }
+pub extern "C" fn eremothyn_queue_init(
+    table: &[u8],
+    kind: u64,
+    dialect: u64,
+    room: &mut [u8],
+) -> u64
+    ensures answer { λ r. ⌜ r ≡ tickNumber (initTable (tableOf (rulesOf kind dialect) (now (table .entry))) (now (room .entry)) .answer) ⌝ }
+    ensures room { λ _. ⌜ now (room .exit) ≡ initTable (tableOf (rulesOf kind dialect) (now (table .entry))) (now (room .entry)) .room ⌝ }
 {
-    ticked_number(runqueue::init(table, rules_of(kind), room))
+    ticked_number(runqueue::init(table, rules_of(kind, dialect), room))
 }
 
 #[no_mangle]
-pub extern "C" fn eremothyn_queue_tick(table: &[u8], kind: u64, room: &mut [u8], minute: u64) -> u64
-    ensures answer { λ r. ⌜ r ≡ tickNumber (tickTable (tableOf (rulesOf kind) (now (table .entry))) minute (now (room .entry)) .answer) ⌝ }
-    ensures room { λ _. ⌜ now (room .exit) ≡ tickTable (tableOf (rulesOf kind) (now (table .entry))) minute (now (room .entry)) .room ⌝ }
+pub extern "C" fn eremothyn_queue_tick(
+    table: &[u8],
+    kind: u64,
+    dialect: u64,
+    room: &mut [u8],
+    minute: u64,
+) -> u64
+    ensures answer { λ r. ⌜ r ≡ tickNumber (tickTable (tableOf (rulesOf kind dialect) (now (table .entry))) minute (now (room .entry)) .answer) ⌝ }
+    ensures room { λ _. ⌜ now (room .exit) ≡ tickTable (tableOf (rulesOf kind dialect) (now (table .entry))) minute (now (room .entry)) .room ⌝ }
 {
-    ticked_number(runqueue::tick(table, rules_of(kind), room, minute))
+    ticked_number(runqueue::tick(table, rules_of(kind, dialect), room, minute))
 }
 
 #[no_mangle]
-pub extern "C" fn eremothyn_queue_pop(table: &[u8], kind: u64, room: &mut [u8]) -> u64
-    ensures answer { λ r. ⌜ r ≡ popNumber (popTable (tableOf (rulesOf kind) (now (table .entry))) (now (room .entry)) .answer) ⌝ }
-    ensures room { λ _. ⌜ now (room .exit) ≡ popTable (tableOf (rulesOf kind) (now (table .entry))) (now (room .entry)) .room ⌝ }
+pub extern "C" fn eremothyn_queue_pop(table: &[u8], kind: u64, dialect: u64, room: &mut [u8]) -> u64
+    ensures answer { λ r. ⌜ r ≡ popNumber (popTable (tableOf (rulesOf kind dialect) (now (table .entry))) (now (room .entry)) .answer) ⌝ }
+    ensures room { λ _. ⌜ now (room .exit) ≡ popTable (tableOf (rulesOf kind dialect) (now (table .entry))) (now (room .entry)) .room ⌝ }
 {
-    popped_number(runqueue::pop(table, rules_of(kind), room))
+    popped_number(runqueue::pop(table, rules_of(kind, dialect), room))
 }

@@ -32,37 +32,57 @@ fn shown_in(found: SettingAnswer, what: Shown) -> u64
     }
 }
 
-fn setting_number(table: &[u8], kind: u64, line: u64, what: Shown) -> u64
-    ensures { λ r. ⌜ r ≡ settingNumber (settingIn (itemsOf (rulesOf kind) (now (table .entry))) line) what ⌝ }
+fn setting_number(table: &[u8], kind: u64, dialect: u64, line: u64, what: Shown) -> u64
+    ensures { λ r. ⌜ r ≡ settingNumber (settingIn (itemsOf (rulesOf kind dialect) (now (table .entry))) line) what ⌝ }
 {
-    let found = setting::read(table, rules_of(kind), line);
+    let found = setting::read(table, rules_of(kind, dialect), line);
     answer(found.refusal, shown_in(found, what))
 }
 
 #[no_mangle]
-pub extern "C" fn eremothyn_setting_name_offset(table: &[u8], kind: u64, line: u64) -> u64
-    ensures { λ r. ⌜ r ≡ settingNumber (settingIn (itemsOf (rulesOf kind) (now (table .entry))) line) Shown.NameOffset ⌝ }
+pub extern "C" fn eremothyn_setting_name_offset(
+    table: &[u8],
+    kind: u64,
+    dialect: u64,
+    line: u64,
+) -> u64
+    ensures { λ r. ⌜ r ≡ settingNumber (settingIn (itemsOf (rulesOf kind dialect) (now (table .entry))) line) Shown.NameOffset ⌝ }
 {
-    setting_number(table, kind, line, Shown::NameOffset)
+    setting_number(table, kind, dialect, line, Shown::NameOffset)
 }
 
 #[no_mangle]
-pub extern "C" fn eremothyn_setting_name_length(table: &[u8], kind: u64, line: u64) -> u64
-    ensures { λ r. ⌜ r ≡ settingNumber (settingIn (itemsOf (rulesOf kind) (now (table .entry))) line) Shown.NameLength ⌝ }
+pub extern "C" fn eremothyn_setting_name_length(
+    table: &[u8],
+    kind: u64,
+    dialect: u64,
+    line: u64,
+) -> u64
+    ensures { λ r. ⌜ r ≡ settingNumber (settingIn (itemsOf (rulesOf kind dialect) (now (table .entry))) line) Shown.NameLength ⌝ }
 {
-    setting_number(table, kind, line, Shown::NameLength)
+    setting_number(table, kind, dialect, line, Shown::NameLength)
 }
 
 #[no_mangle]
-pub extern "C" fn eremothyn_setting_value_offset(table: &[u8], kind: u64, line: u64) -> u64
-    ensures { λ r. ⌜ r ≡ settingNumber (settingIn (itemsOf (rulesOf kind) (now (table .entry))) line) Shown.ValueOffset ⌝ }
+pub extern "C" fn eremothyn_setting_value_offset(
+    table: &[u8],
+    kind: u64,
+    dialect: u64,
+    line: u64,
+) -> u64
+    ensures { λ r. ⌜ r ≡ settingNumber (settingIn (itemsOf (rulesOf kind dialect) (now (table .entry))) line) Shown.ValueOffset ⌝ }
 {
-    setting_number(table, kind, line, Shown::ValueOffset)
+    setting_number(table, kind, dialect, line, Shown::ValueOffset)
 }
 
 #[no_mangle]
-pub extern "C" fn eremothyn_setting_value_length(table: &[u8], kind: u64, line: u64) -> u64
-    ensures { λ r. ⌜ r ≡ settingNumber (settingIn (itemsOf (rulesOf kind) (now (table .entry))) line) Shown.ValueLength ⌝ }
+pub extern "C" fn eremothyn_setting_value_length(
+    table: &[u8],
+    kind: u64,
+    dialect: u64,
+    line: u64,
+) -> u64
+    ensures { λ r. ⌜ r ≡ settingNumber (settingIn (itemsOf (rulesOf kind dialect) (now (table .entry))) line) Shown.ValueLength ⌝ }
 {
-    setting_number(table, kind, line, Shown::ValueLength)
+    setting_number(table, kind, dialect, line, Shown::ValueLength)
 }

@@ -13,7 +13,6 @@ use Rattle.bytes.specs.declared.class.Class.the-variants.{Not}
 use Rattle.bytes.specs.Classes.{ofClass}
 use Rattle.bytes.specs.Runs.{run}
 use Rattle.field.specs.declared.Limits.{Limits}
-use Rattle.field.specs.declared.Names.{Names}
 use Rattle.field.specs.declared.Answer.the-variants.{Values}
 use Rattle.field.specs.declared.number.Number.the-variants.{Value, Malformed}
 use Rattle.field.specs.declared.element.Element.the-variants.{Range}
@@ -55,11 +54,11 @@ module _ (b : ℕ) (other : isDigit b ≡ false) where
     digits-split = split-first b s ∙ rw (digits-whole, digits-run s digits, take-all (length s) s (omega arith))
 
 module _ (s : List ℕ) {n : ℕ} (number : numberOf s ≡ Value n) where
-  alone-element : (names : Names) → elementOf names s ≡ Range n n 1
+  alone-element : (l : Limits) → elementOf l s ≡ Range n n 1
   unfolding elementOf endOf numberOr ranging isDigit
-  alone-element names = rw (digits-whole 45 refl s (number-digits s number), number)
+  alone-element l = rw (digits-whole 45 refl s (number-digits s number), number)
 
   -- a field that is a number is that value
   pub number-alone : (l : Limits) (column : ℕ) → listField l column s ≡ judged l column (Values 0 false) (Range n n 1)
   unfolding listField areElements judgedAll isElement isDigit
-  number-alone l column = rw (digits-split 44 refl s (number-digits s number), alone-element (l .names))
+  number-alone l column = rw (digits-split 44 refl s (number-digits s number), alone-element l)

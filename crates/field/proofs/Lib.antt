@@ -12,10 +12,13 @@ pub mod Fields
 pub mod Refusals
 pub mod Accepted
 pub mod Members
+pub mod Ranges
 pub mod SetBounds
 pub mod StarTexts
 pub mod ListTexts
 pub mod RoundTrip
+pub mod Dialects
+pub mod FirstDialect
 pub mod FieldTests
 pub mod TextBytes
 pub mod Writing

@@ -22,7 +22,7 @@ use Rattle.field.specs.declared.element.Element.{Element}
 use Rattle.field.specs.declared.element.Element.the-variants.{Range, Malformed}
 use Rattle.field.specs.Parts.{split}
 use Rattle.field.specs.Elements.{isElement, elementOf}
-use Rattle.field.specs.Values.{everyStep, valuesOf, bitOf, including}
+use Rattle.field.specs.Values.{everyStep, valuesOf, lastOf, rangeOf, bitOf, including}
 use Rattle.field.specs.Judgement.{outside, judged}
 use Rattle.field.specs.Fields.{areElements, judgedAll, listField, starElement, readField}
 use Rattle.field.specs.Members.{isIn, elementsOf, elementBits, bitsOf}
@@ -98,7 +98,7 @@ module _ (l : Limits) (u : Usual l) where
   small vs h = each-so _ _ (λ v i. omega (arith, i .1, u .word, u .within)) vs h
 
   judged-one : (column set v : ℕ) → l .first ≤ v → v < l .bits → judged l column (Values set false) (Range v v 1) ≡ Values (put set (bitOf l v)) false
-  unfolding judged outside valuesOf everyStep including
+  unfolding judged outside lastOf valuesOf everyStep including rangeOf
   judged-one column set v h k =
       rw (le-ltb v (l .first) h, le-ltb (l .last) v (omega (arith, u .within)), le-ltb v v (omega arith), sub-self v)
 
@@ -107,13 +107,13 @@ module _ (l : Limits) (u : Usual l) where
   judged-list column set [] h = refl
   judged-list column set (v ∷ vs) h =
       ap (λ (a : _). judgedAll l (column + length (numberText v) + 1) a (map numberText vs))
-      (ap (judged l column (Values set false)) (element-back (l .names) v (omega (arith, h .0 .1, u .word, u .within))) ∙ judged-one column set v (h .0 .0) (h .0 .1))
+      (ap (judged l column (Values set false)) (element-back l v (omega (arith, h .0 .1, u .word, u .within))) ∙ judged-one column set v (h .0 .0) (h .0 .1))
       ∙ judged-list (column + length (numberText v) + 1) (put set (bitOf l v)) vs (h .1)
 
-  are-elements : (vs : List ℕ) → Inside l vs → areElements (l .names) (map numberText vs) ≡ true
+  are-elements : (vs : List ℕ) → Inside l vs → areElements l (map numberText vs) ≡ true
   unfolding areElements isElement
   are-elements [] h = refl
-  are-elements (v ∷ vs) h = rw (element-back (l .names) v (omega (arith, h .0 .1, u .word, u .within))) (are-elements vs (h .1))
+  are-elements (v ∷ vs) h = rw (element-back l v (omega (arith, h .0 .1, u .word, u .within))) (are-elements vs (h .1))
 
   -- a text that begins with a digit is a list
   from-digit : (column : ℕ) (t s : List ℕ) → 1 ≤ length t → Each (λ (b : ℕ). (48 ≤ b) × (b ≤ 57)) t → readField l column (t ++ s) ≡ listField l column (t ++ s)
@@ -135,18 +135,18 @@ module _ (l : Limits) (u : Usual l) where
 
   -- the first value of the first element
   occupied : (es : List Element) → 1 ≤ length es → accepted.Each l es → (v : ℕ) × (l .first ≤ v) × (v ≤ l .last) × (isIn (bitOf l v) (bitsOf l es) ≡ true)
-  unfolding bitsOf elementBits valuesOf everyStep isIn
+  unfolding bitsOf elementBits valuesOf everyStep isIn rangeOf
   occupied [] h k = absurd (omega arith)
   occupied (Malformed ∷ es) h k = absurd (k .0)
   occupied (Range low high step ∷ es) h k =
-      (low, k .0 .from, omega (arith, k .0 .order, k .0 .to), rw (eq-eqb (bitOf l low) (bitOf l low) refl))
+      (low, k .0 .from, k .0 .below, rw (eq-eqb (bitOf l low) (bitOf l low) refl))
 
   elements-some : (column : ℕ) (s : List ℕ) {set : ℕ} {star : Bool} → readField l column s ≡ Values set star → 1 ≤ length (elementsOf l s)
   unfolding elementsOf readField split
   elements-some column [] e = absurd (accepted.clash e)
   elements-some column (b ∷ s) e = go (eqb b 42)
     where
-      go : (t : Bool) → 1 ≤ length (cond t (starElement l s ∷ []) (map (elementOf (l .names)) (split 44 (b ∷ s))))
+      go : (t : Bool) → 1 ≤ length (cond t (starElement l s ∷ []) (map (elementOf l) (split 44 (b ∷ s))))
       go true = omega arith
       go false = omega arith
 
@@ -161,21 +161,21 @@ module _ (l : Limits) (u : Usual l) where
       where
         go : (t : Bool) → hasBit set n ≡ t → (isIn n (fromOn (l .first) (l .bits - l .first)) && t) ≡ t
         go true e =
-            let w = set-within l n (omega (arith, u .word, u .within)) column s q e in
-            let b = bit-value l u (w .value) (w .from) (w .to) in
+            let w = set-within l u n (omega (arith, u .word, u .within)) column s q e in
+            let b = bit-value l (w .value) (w .from) (omega (arith, w .to, u .enough, u .some)) in
             rw (from-has n (l .first) (l .bits - l .first) (omega (arith, b .0, w .bit)) (omega arith))
         go false e = and-false (isIn n (fromOn (l .first) (l .bits - l .first)))
 
     pub members-build : including l 0 (members l set) ≡ set
     members-build =
         same-bits (l .bits)
-        (including-fits l (u .enough) 0 (members l set) (pow-pos (l .bits)) (λ v e. let i = inside-in l (members l set) v (members-inside l set) e in omega (arith, i .1, u .within)))
-        (set-fits l (u .enough) column s q)
+        (including-fits l 0 (members l set) (pow-pos (l .bits)) (λ v e. let i = inside-in l (members l set) v (members-inside l set) e in (i .0, omega (arith, i .1, u .some))))
+        (set-fits l u column s q)
         bit-kept
 
     pub set-some : set ≡ 0 → ⊥
     set-some z =
         let o = occupied (elementsOf l s) (elements-some column s q) (read-values l column s q .accepted) in
-        let b = bit-value l u (o .0) (o .1) (o .2) in
+        let b = bit-value l (o .0) (o .1) (omega (arith, o .2, u .enough, u .some)) in
         let k : bitOf l (o .0) < 64 = omega (arith, b .1, u .word, u .within) in
         false≢true (sym (ap (λ (x : ℕ). hasBit x (bitOf l (o .0))) z ∙ none-has (bitOf l (o .0))) ∙ set-members (bitOf l (o .0)) k l column s q ∙ o .3)

@@ -23,14 +23,14 @@ use Rattle.field.proofs.Parts.{split-first}
 
 -- the answer once every part is known to be an element, and otherwise
 whole : Limits → ℕ → Answer → List (List ℕ) → Answer → Answer
-whole l column answer parts other = cond (areElements (l .names) parts) (judgedAll l column answer parts) other
+whole l column answer parts other = cond (areElements l parts) (judgedAll l column answer parts) other
 
-whole-next : (l : Limits) (column : ℕ) (answer : Answer) (p : List ℕ) (ps : List (List ℕ)) (other : Answer) → isElement (elementOf (l .names) p) ≡ true
-    → whole l column answer (p ∷ ps) other ≡ whole l (column + length p + 1) (judged l column answer (elementOf (l .names) p)) ps other
+whole-next : (l : Limits) (column : ℕ) (answer : Answer) (p : List ℕ) (ps : List (List ℕ)) (other : Answer) → isElement (elementOf l p) ≡ true
+    → whole l column answer (p ∷ ps) other ≡ whole l (column + length p + 1) (judged l column answer (elementOf l p)) ps other
 unfolding whole areElements judgedAll
 whole-next l column answer p ps other e = rw e
 
-whole-other : (l : Limits) (column : ℕ) (answer : Answer) (p : List ℕ) (ps : List (List ℕ)) (other : Answer) → isElement (elementOf (l .names) p) ≡ false
+whole-other : (l : Limits) (column : ℕ) (answer : Answer) (p : List ℕ) (ps : List (List ℕ)) (other : Answer) → isElement (elementOf l p) ≡ false
     → whole l column answer (p ∷ ps) other ≡ other
 unfolding whole areElements
 whole-other l column answer p ps other e = rw e
@@ -63,18 +63,18 @@ module _ (l : Limits) (column : ℕ) (s : List ℕ) where
     parts : split 44 (drop at s) ≡ part ∷ cond (contains 44 (drop at s)) (split 44 (after 44 (drop at s))) []
     parts = split-first 44 (drop at s) ∙ rw here
 
-    pub reading-other : isElement (elementOf (l .names) part) ≡ false → reading at answer ≡ Refused malformed column
+    pub reading-other : isElement (elementOf l part) ≡ false → reading at answer ≡ Refused malformed column
     unfolding reading
     reading-other e = rw parts (whole-other _ _ _ _ _ _ e)
 
-    module _ (e : isElement (elementOf (l .names) part) ≡ true) where
-      pub reading-last : end ≡ length s → reading at answer ≡ judged l (column + at) answer (elementOf (l .names) part)
+    module _ (e : isElement (elementOf l part) ≡ true) where
+      pub reading-last : end ≡ length s → reading at answer ≡ judged l (column + at) answer (elementOf l part)
       unfolding reading contains skipped
       reading-last k =
           rw (parts, le-ltb (run (Not 44) (drop at s)) (length (drop at s)) (omega (arith, length-drop at s)))
           (whole-next _ _ _ _ _ _ e ∙ whole-none _ _ _ _)
 
-      pub reading-next : end < length s → reading at answer ≡ reading (end + 1) (judged l (column + at) answer (elementOf (l .names) part))
+      pub reading-next : end < length s → reading at answer ≡ reading (end + 1) (judged l (column + at) answer (elementOf l part))
       unfolding reading contains after skipped
       reading-next k =
           let p : length part ≡ end - at = length-take-le (end - at) (drop at s) (omega (arith, length-drop at s)) in

@@ -1,5 +1,5 @@
 -- What a field's set has. `set-members`: a bit is set exactly if it is the bit of a value of one of the field's elements.
--- `values-members`: an element's values are those in its range that are a multiple of its step after its first value.
+-- `steps-members`: the values from low to high are those that are a multiple of the step after low.
 -- Assumes nothing.
 use mathlib.Core.Path.{_≡_, refl, sym, ap, _∙_}
 use mathlib.Core.Bool.{Bool, true, false, cond, _||_, false≢true, and-false, or-false, or-true, or-assoc}
@@ -16,7 +16,7 @@ use Rattle.field.specs.declared.Limits.{Limits}
 use Rattle.field.specs.declared.Answer.the-variants.{Values}
 use Rattle.field.specs.declared.element.Element.{Element}
 use Rattle.field.specs.declared.element.Element.the-variants.{Range, Malformed}
-use Rattle.field.specs.Values.{valuesOf, bitOf, including}
+use Rattle.field.specs.Values.{valuesOf, rangeOf, bitOf, including}
 use Rattle.field.specs.Fields.{readField}
 use Rattle.field.specs.Members.{isIn, isStep, elementsOf, elementBits, bitsOf}
 use Rattle.field.proofs.Steps.{remaining, remaining-first, remaining-next, remaining-end}
@@ -72,8 +72,8 @@ module _ (high step : ℕ) (p : 0 < step) where
       more : u ≤ high → isIn v (remaining high step (u + step)) ≡ isStep (u + step) high step v → isIn v (remaining high step u) ≡ isStep u high step v
       more j e = rw (remaining-next high step u p j, e) (next u v j)
 
-pub values-members : (low high step v : ℕ) → low ≤ high → 0 < step → isIn v (valuesOf low high step) ≡ isStep low high step v
-values-members low high step v h p =
+pub steps-members : (low high step v : ℕ) → low ≤ high → 0 < step → isIn v (valuesOf low high step) ≡ isStep low high step v
+steps-members low high step v h p =
     rw (← remaining-first high step low p h) (in-remaining high step p (suc high) low v (omega arith))
 
 -- ---- the bits of a set
@@ -114,7 +114,7 @@ module _ (n : ℕ) (h : n < 64) where
 
   element-has : (l : Limits) (set : ℕ) (e : Element) → hasBit (withElement l set e) n ≡ (isIn n (elementBits l e) || hasBit set n)
   unfolding elementBits isIn
-  element-has l set (Range low high step) = including-has l set (valuesOf low high step)
+  element-has l set (Range low high step) = including-has l set (rangeOf l low high step)
   element-has l set Malformed = refl
 
   elements-have : (l : Limits) (set : ℕ) (es : List Element) → hasBit (withElements l set es) n ≡ (isIn n (bitsOf l es) || hasBit set n)

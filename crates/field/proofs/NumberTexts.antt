@@ -14,7 +14,7 @@ use Rattle.bytes.specs.Runs.{run}
 use Rattle.bytes.specs.Digits.{digit, numberText}
 use Rattle.bytes.proofs.Each.{Each, each-so}
 use Rattle.bytes.proofs.Digits.{number-bytes}
-use Rattle.field.specs.declared.Names.{Names}
+use Rattle.field.specs.declared.Limits.{Limits}
 use Rattle.field.specs.declared.number.Number.the-variants.{Value}
 use Rattle.field.specs.declared.element.Element.the-variants.{Range}
 use Rattle.field.specs.Parts.{contains, before, afterEach, split}
@@ -62,9 +62,9 @@ number-free b n k h = each-so _ _ (λ x d e. omega (arith, d .0, e)) (numberText
 
 -- ---- an element
 
-pub element-back : (names : Names) (n : ℕ) → n < 100 → elementOf names (numberText n) ≡ Range n n 1
+pub element-back : (l : Limits) (n : ℕ) → n < 100 → elementOf l (numberText n) ≡ Range n n 1
 unfolding elementOf contains endOf numberOr ranging
-element-back names n h =
+element-back l n h =
     rw (le-ltb (run (Not 45) (numberText n)) (length (numberText n)) (omega (arith, free-run 45 (numberText n) (number-free 45 n (omega arith) h))), number-back n h)
 
 -- ---- a list

@@ -1,7 +1,7 @@
 -- The numbers with which a field is refused, 5 to 8, and their columns: none is behind the field.
 -- Assumes nothing.
-use mathlib.Core.Path.{_≡_, refl}
-use mathlib.Core.Bool.{Bool, true, false, cond, not, _||_}
+use mathlib.Core.Path.{_≡_, refl, ap, _∙_}
+use mathlib.Core.Bool.{Bool, true, false, cond, not, _&&_, _||_, and-false}
 use mathlib.Core.List.{List, [], _∷_}
 use Prim.Native.Nat.{ℕ, suc, _+_, _≤_}
 use native.Mathlib.Omega.{arith}
@@ -17,7 +17,7 @@ use Rattle.field.specs.declared.element.Element.{Element}
 use Rattle.field.specs.declared.element.Element.the-variants.{Range, Malformed}
 use Rattle.field.specs.Parts.{before, afterEach, split}
 use Rattle.field.specs.Elements.{elementOf}
-use Rattle.field.specs.Values.{valuesOf, including}
+use Rattle.field.specs.Values.{rangeOf, including}
 use Rattle.field.specs.Refusals.{malformed, outOfLimits, reversed, stepZero}
 use Rattle.field.specs.Judgement.{outside, judged}
 use Rattle.field.specs.Fields.{areElements, judgedAll, listField, starElement, starField, readField}
@@ -31,10 +31,10 @@ module _ (l : Limits) where
   unfolding judged
   judged-number column (Refused number at) e h = h
   judged-number column (Values set star) Malformed h = omega arith
-  judged-number column (Values set star) (Range low high step) h = go (outside l low || outside l high) (ltb high low) (eqb step 0)
+  judged-number column (Values set star) (Range low high step) h = go (outside l low || outside l high) (ltb high low && not (l .wraps)) (eqb step 0)
     where
       go : (o r z : Bool)
-          → FieldNumber (cond o (Refused outOfLimits column) (cond r (Refused reversed column) (cond z (Refused stepZero column) (Values (including l set (valuesOf low high step)) star))))
+          → FieldNumber (cond o (Refused outOfLimits column) (cond r (Refused reversed column) (cond z (Refused stepZero column) (Values (including l set (rangeOf l low high step)) star))))
       go true r z = omega arith
       go false true z = omega arith
       go false false true = omega arith
@@ -43,18 +43,57 @@ module _ (l : Limits) where
   all-number : (column : ℕ) (a : Answer) (ps : List (List ℕ)) → FieldNumber a → FieldNumber (judgedAll l column a ps)
   unfolding judgedAll
   all-number column a [] h = h
-  all-number column a (p ∷ ps) h = all-number (column + length p + 1) _ ps (judged-number column a (elementOf (l .names) p) h)
+  all-number column a (p ∷ ps) h = all-number (column + length p + 1) _ ps (judged-number column a (elementOf l p) h)
 
   pub field-number : (column : ℕ) (s : List ℕ) → FieldNumber (readField l column s)
   unfolding readField starField listField
   field-number column [] = omega arith
-  field-number column (b ∷ s) = go (eqb b 42) (areElements (l .names) (split 44 (b ∷ s)))
+  field-number column (b ∷ s) = go (eqb b 42) (areElements l (split 44 (b ∷ s)))
     where
       go : (t u : Bool)
           → FieldNumber (cond t (judged l column (Values 0 true) (starElement l s)) (cond u (judgedAll l column (Values 0 false) (split 44 (b ∷ s))) (Refused malformed column)))
       go true u = judged-number column (Values 0 true) (starElement l s) tt
       go false true = all-number column (Values 0 false) (split 44 (b ∷ s)) tt
       go false false = omega arith
+
+-- ---- no range is refused where ranges wrap
+
+abbrev pub NotReversed : Answer → Type 0
+NotReversed (Values set star) = Unit {0}
+NotReversed (Refused number column) = number ≡ reversed → ⊥
+
+module _ (l : Limits) (wraps : l .wraps ≡ true) where
+  judged-wraps : (column : ℕ) (a : Answer) (e : Element) → NotReversed a → NotReversed (judged l column a e)
+  unfolding judged
+  judged-wraps column (Refused number at) e h = h
+  judged-wraps column (Values set star) Malformed h = λ e. omega (arith, e)
+  judged-wraps column (Values set star) (Range low high step) h =
+      rw off (go (outside l low || outside l high) (eqb step 0))
+    where
+      off : (ltb high low && not (l .wraps)) ≡ false
+      off = ap (λ (b : Bool). ltb high low && not b) wraps ∙ and-false (ltb high low)
+
+      go : (o z : Bool)
+          → NotReversed (cond o (Refused outOfLimits column) (cond z (Refused stepZero column) (Values (including l set (rangeOf l low high step)) star)))
+      go true z = λ e. omega (arith, e)
+      go false true = λ e. omega (arith, e)
+      go false false = tt
+
+  all-wrap : (column : ℕ) (a : Answer) (ps : List (List ℕ)) → NotReversed a → NotReversed (judgedAll l column a ps)
+  unfolding judgedAll
+  all-wrap column a [] h = h
+  all-wrap column a (p ∷ ps) h = all-wrap (column + length p + 1) _ ps (judged-wraps column a (elementOf l p) h)
+
+  pub field-wraps : (column : ℕ) (s : List ℕ) → NotReversed (readField l column s)
+  unfolding readField starField listField
+  field-wraps column [] = λ e. omega (arith, e)
+  field-wraps column (b ∷ s) = go (eqb b 42) (areElements l (split 44 (b ∷ s)))
+    where
+      go : (t u : Bool)
+          → NotReversed (cond t (judged l column (Values 0 true) (starElement l s)) (cond u (judgedAll l column (Values 0 false) (split 44 (b ∷ s))) (Refused malformed column)))
+      go true u = judged-wraps column (Values 0 true) (starElement l s) tt
+      go false true = all-wrap column (Values 0 false) (split 44 (b ∷ s)) tt
+      go false false = λ e. omega (arith, e)
 
 -- ---- columns
 
@@ -88,10 +127,10 @@ module _ (l : Limits) (last : ℕ) where
   unfolding judged
   judged-column column (Refused number at) e k h = h
   judged-column column (Values set star) Malformed k h = k
-  judged-column column (Values set star) (Range low high step) k h = go (outside l low || outside l high) (ltb high low) (eqb step 0)
+  judged-column column (Values set star) (Range low high step) k h = go (outside l low || outside l high) (ltb high low && not (l .wraps)) (eqb step 0)
     where
       go : (o r z : Bool)
-          → FieldColumn last (cond o (Refused outOfLimits column) (cond r (Refused reversed column) (cond z (Refused stepZero column) (Values (including l set (valuesOf low high step)) star))))
+          → FieldColumn last (cond o (Refused outOfLimits column) (cond r (Refused reversed column) (cond z (Refused stepZero column) (Values (including l set (rangeOf l low high step)) star))))
       go true r z = k
       go false true z = k
       go false false true = k
@@ -101,12 +140,12 @@ module _ (l : Limits) (last : ℕ) where
   unfolding judgedAll width
   all-column column a [] k h = h
   all-column column a (p ∷ ps) k h =
-      all-column (column + length p + 1) _ ps (omega arith) (judged-column column a (elementOf (l .names) p) (omega arith) h)
+      all-column (column + length p + 1) _ ps (omega arith) (judged-column column a (elementOf l p) (omega arith) h)
 
 pub field-column : (l : Limits) (column : ℕ) (s : List ℕ) → FieldColumn (column + length s) (readField l column s)
 unfolding readField starField listField
 field-column l column [] = omega arith
-field-column l column (b ∷ s) = go (eqb b 42) (areElements (l .names) (split 44 (b ∷ s)))
+field-column l column (b ∷ s) = go (eqb b 42) (areElements l (split 44 (b ∷ s)))
   where
     go : (t u : Bool)
         → FieldColumn (column + length (b ∷ s))

@@ -28,12 +28,12 @@ module _ (l : Limits) (u : Usual l) where
   -- what is read may be written
   pub field-proper : (column : ℕ) (s : List ℕ) {set : ℕ} {star : Bool} → readField l column s ≡ Values set star → isField l set star ≡ true
   unfolding isField
-  field-proper column s {set} {star = true} q = let r = star-read l column s q in step-gives l (u .order) set (r .0) (r .1) (r .2)
+  field-proper column s {set} {star = true} q = let r = star-read l (u .order) column s q in step-gives l (u .order) set (r .0) (r .1) (r .2)
   field-proper column s {set} {star = false} q =
       rw (ne-eqb set 0 (set-some l u column s q)) (eq-eqb _ set (members-build l u column s q))
 
   -- what may be written is read back
-  listed : (column set : ℕ) (vs : List ℕ) → Inside l vs → including l 0 vs ≡ set → (set ≡ 0 → ⊥) → readField l column (listText vs) ≡ Values set false
+  pub listed : (column set : ℕ) (vs : List ℕ) → Inside l vs → including l 0 vs ≡ set → (set ≡ 0 → ⊥) → readField l column (listText vs) ≡ Values set false
   unfolding including
   listed column set [] h e z = absurd (z (sym e))
   listed column set (v ∷ vs) h e z = list-back l u column v vs h ∙ ap (λ (x : ℕ). Values x false) e
@@ -50,7 +50,7 @@ module _ (l : Limits) (u : Usual l) where
 
   -- and has no bit past the field's
   pub field-fits : (set : ℕ) (star : Bool) → isField l set star ≡ true → set < 2 ^ (l .bits)
-  field-fits set star e = set-fits l (u .enough) 0 (fieldText l set star) (field-back 0 set star e)
+  field-fits set star e = set-fits l u 0 (fieldText l set star) (field-back 0 set star e)
 
   -- a flagged field is written with the smallest step
   pub shortest-step : (set : ℕ) → isField l set true ≡ true → (fieldText l set true ≡ starText (stepOf l set)) × Shortest l set (stepOf l set)

@@ -58,47 +58,35 @@ module _ (l : Limits) where
   run-snoc set v zero = rw (add-zero v)
   run-snoc set v (suc n) = let e : v + 1 + n ≡ v + suc n = omega arith in run-snoc (put set (bitOf l v)) (v + 1) n ∙ rw e
 
-  -- 0 is there already
-  full-again : (n : ℕ) → 0 < n → put (2 ^ n - 2 ^ 0) 0 ≡ 2 ^ n - 2 ^ 0
+  -- a bit that is there already
+  full-again : (n b : ℕ) → b < n → n < 64 → put (2 ^ n - 2 ^ 0) b ≡ 2 ^ n - 2 ^ 0
   unfolding put withBit
-  full-again n h =
-      let one : bitAnd 1 (2 ^ n - 1) ≡ 1 = and-mask 1 n ∙ mod-eq-of-lt (pow-lt h) in
-      let both = or-add-and (2 ^ n - 1) 1 in
-      omega (arith, both, and-comm (2 ^ n - 1) 1 ∙ one)
+  full-again n b h k =
+      let one : bitAnd (2 ^ b) (2 ^ n - 1) ≡ 2 ^ b = and-mask (2 ^ b) n ∙ mod-eq-of-lt (pow-lt h) in
+      let both = or-add-and (2 ^ n - 1) (2 ^ b) in
+      rw (lt-ltb b 64 (omega arith)) (omega (arith, both, and-comm (2 ^ n - 1) (2 ^ b) ∙ one))
 
-  around : (high : ℕ) → 0 < high → high ≡ l .bits → high < 64 → including l 0 (valuesOf 0 high 1) ≡ 2 ^ high - 2 ^ 0
+  around : (high : ℕ) → l .first < high → high ≡ l .bits → high < 64 → including l 0 (valuesOf 0 high 1) ≡ 2 ^ high - 2 ^ 0
   unfolding valuesOf bitOf
   around high h e k =
       let z : high - 0 ≡ high = omega arith in
       rw (z, div-one high)
       (run-snoc 0 0 high
       ∙ rw (run-bits 0 0 high (omega arith) (omega arith) (omega arith), le-ltb (0 + high) (l .bits) (omega arith))
-      (let r : 0 + high - l .bits ≡ 0 = omega arith in rw (r, zero-add high) (full-again high h)))
-
-  -- it isn't before the first
-  pub low-new : (low high : ℕ) → low ≤ high → low ≤ lastNew l low high
-  unfolding lastNew
-  low-new low high h = go ((eqb low 0 && ltb 0 high) && eqb high (l .bits)) refl
-    where
-      go : (t : Bool) → ((eqb low 0 && ltb 0 high) && eqb high (l .bits)) ≡ t → low ≤ cond t (high - 1) high
-      go false p = h
-      go true p =
-          let q = and-eq-true-iff (eqb low 0 && ltb 0 high) (eqb high (l .bits)) .0 p in
-          let z = eqb-true low 0 (and-eq-true-iff (eqb low 0) (ltb 0 high) .0 (q .0) .0) in
-          omega arith
+      (let r : l .first + (0 + high - l .bits) ≡ l .first = omega arith in rw (r, zero-add high) (full-again high (l .first) h k)))
 
   -- a run up to the last value that says something new
-  pub run-new : (low high : ℕ) → low ≤ high → lastNew l low high < 63 → lastNew l low high < l .bits
+  pub run-new : (low high : ℕ) → low ≤ lastNew l low high → lastNew l low high < 63 → lastNew l low high < l .bits
       → including l 0 (valuesOf low high 1) ≡ 2 ^ (lastNew l low high + 1) - 2 ^ low
   unfolding lastNew
-  run-new low high h = go ((eqb low 0 && ltb 0 high) && eqb high (l .bits)) refl
+  run-new low high = go ((eqb low 0 && ltb (l .first) high) && eqb high (l .bits)) refl
     where
-      go : (t : Bool) → ((eqb low 0 && ltb 0 high) && eqb high (l .bits)) ≡ t → cond t (high - 1) high < 63 → cond t (high - 1) high < l .bits
+      go : (t : Bool) → ((eqb low 0 && ltb (l .first) high) && eqb high (l .bits)) ≡ t → low ≤ cond t (high - 1) high → cond t (high - 1) high < 63 → cond t (high - 1) high < l .bits
           → including l 0 (valuesOf low high 1) ≡ 2 ^ (cond t (high - 1) high + 1) - 2 ^ low
-      go false p k b = run-values low high h k b
-      go true p k b =
-          let q = and-eq-true-iff (eqb low 0 && ltb 0 high) (eqb high (l .bits)) .0 p in
-          let r = and-eq-true-iff (eqb low 0) (ltb 0 high) .0 (q .0) in
-          let pos = ltb-true 0 high (r .1) in
+      go false p h k b = run-values low high h k b
+      go true p h k b =
+          let q = and-eq-true-iff (eqb low 0 && ltb (l .first) high) (eqb high (l .bits)) .0 p in
+          let r = and-eq-true-iff (eqb low 0) (ltb (l .first) high) .0 (q .0) in
+          let pos = ltb-true (l .first) high (r .1) in
           let e : high - 1 + 1 ≡ high = omega arith in
           rw (eqb-true low 0 (r .0), e) (around high pos (eqb-true high (l .bits) (q .1)) (omega arith))

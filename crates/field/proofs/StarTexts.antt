@@ -21,22 +21,23 @@ use Rattle.field.specs.declared.element.Element.{Element}
 use Rattle.field.specs.declared.element.Element.the-variants.{Range, Malformed}
 use Rattle.field.specs.Numbers.{numberOf}
 use Rattle.field.specs.Elements.{ranging}
-use Rattle.field.specs.Values.{everyStep, valuesOf, including}
+use Rattle.field.specs.Values.{everyStep, valuesOf, rangeOf, including}
 use Rattle.field.specs.Judgement.{outside, judged}
 use Rattle.field.specs.Fields.{starElement, starField, readField}
 use Rattle.field.specs.Members.{isStar, elementsOf}
 use Rattle.field.specs.Written.{starSet, gives, stepOf, starText}
 use Rattle.field.proofs.Accepted.{Each, withElements, Gathered, read-values}
 use Rattle.field.proofs.NumberTexts.{number-back}
+use Rattle.field.proofs.Steps.{last-rising}
 
 module _ (l : Limits) (order : l .first ≤ l .last) where
   -- ---- a step's text is read as its set
 
   judged-star : (column n : ℕ) → 1 ≤ n → judged l column (Values 0 true) (Range (l .first) (l .last) n) ≡ Values (starSet l n) true
-  unfolding judged outside starSet
+  unfolding judged outside starSet rangeOf
   judged-star column n h =
       rw
-      (le-ltb (l .first) (l .first) (omega arith), le-ltb (l .last) (l .first) order, le-ltb (l .last) (l .last) (omega arith), ne-eqb n 0 (λ e. omega (arith, e)))
+      (le-ltb (l .first) (l .first) (omega arith), le-ltb (l .last) (l .first) order, le-ltb (l .last) (l .last) (omega arith), last-rising l (l .first) (l .last) order, ne-eqb n 0 (λ e. omega (arith, e)))
 
   pub star-back : (column n : ℕ) → 1 ≤ n → n < 100 → readField l column (starText n) ≡ Values (starSet l n) true
   unfolding starText readField starField starElement ranging
@@ -73,15 +74,19 @@ module _ (l : Limits) (order : l .first ≤ l .last) where
 
 -- ---- what is read as a flagged field comes from a step
 
-module _ (l : Limits) where
+module _ (l : Limits) (order : l .first ≤ l .last) where
+  whole : (set n : ℕ) → set ≡ including l 0 (rangeOf l (l .first) (l .last) n) → starSet l n ≡ set
+  unfolding starSet rangeOf
+  whole set n e = ap (λ (h : ℕ). including l 0 (valuesOf (l .first) h n)) (sym (last-rising l (l .first) (l .last) order)) ∙ sym e
+
   star-step : (s : List ℕ) (set : ℕ) → Each l (starElement l s ∷ []) → set ≡ withElements l 0 (starElement l s ∷ []) → (n : ℕ) × (1 ≤ n) × (starSet l n ≡ set)
   unfolding starElement ranging starSet
-  star-step [] set a e = (1, omega arith, sym e)
+  star-step [] set a e = (1, omega arith, whole set 1 e)
   star-step (b ∷ s) set a e = go (eqb b 47) (numberOf s) a e
     where
       go : (t : Bool) (n : Number) → Each l (cond t (ranging (Value (l .first)) (Value (l .last)) n) Malformed ∷ [])
           → set ≡ withElements l 0 (cond t (ranging (Value (l .first)) (Value (l .last)) n) Malformed ∷ []) → (n : ℕ) × (1 ≤ n) × (starSet l n ≡ set)
-      go true (Value n) a e = (n, a .0 .steps, sym e)
+      go true (Value n) a e = (n, a .0 .steps, whole set n e)
       go true number.Malformed a e = absurd (a .0)
       go false n a e = absurd (a .0)
 

@@ -6,9 +6,9 @@ use Prim.Native.Nat.{ℕ, suc, _+_, _-_, _/_, _≤_, _<_}
 use native.Mathlib.Nat.{add-div-right, div-eq-of-lt}
 use native.Mathlib.Numerals.{add-one}
 use native.Mathlib.Omega.{arith}
-use borrow.Author.Tests.{lt-ltb}
+use borrow.Author.Tests.{lt-ltb, le-ltb}
 use Rattle.field.specs.declared.Limits.{Limits}
-use Rattle.field.specs.Values.{everyStep, valuesOf, bitOf}
+use Rattle.field.specs.Values.{everyStep, valuesOf, lastOf, bitOf}
 
 module _ (high step : ℕ) where
   -- how many values are left from v on
@@ -37,6 +37,30 @@ module _ (high step : ℕ) where
   pub remaining-end : (v : ℕ) → 0 < step → high < v → remaining v ≡ []
   unfolding remaining everyStep left
   remaining-end v p h = rw (div-eq-of-lt {n = high + step - v} {m = step} (omega arith))
+
+  -- the first value, and whether there are more
+
+  pub values-more : (v : ℕ) → 0 < step → v + step ≤ high → valuesOf v high step ≡ v ∷ valuesOf (v + step) high step
+  unfolding valuesOf everyStep
+  values-more v p h =
+      let e : high - v ≡ high - (v + step) + step = omega arith in
+      let n : (high - v) / step ≡ suc ((high - (v + step)) / step) =
+      ap (λ (n : ℕ). n / step) e ∙ add-div-right (high - (v + step)) p ∙ add-one _ in
+      rw n
+
+  pub values-last : (v : ℕ) → 0 < step → high < v + step → valuesOf v high step ≡ v ∷ []
+  unfolding valuesOf everyStep
+  values-last v p h = rw (div-eq-of-lt {n = high - v} {m = step} (omega arith))
+
+-- a range that rises ends where it says
+pub last-rising : (l : Limits) (low high : ℕ) → low ≤ high → lastOf l low high ≡ high
+unfolding lastOf
+last-rising l low high h = rw (le-ltb high low h)
+
+-- and one that doesn't, past the last bit
+pub last-wrapping : (l : Limits) (low high : ℕ) → high < low → lastOf l low high ≡ l .bits + (high - l .first)
+unfolding lastOf
+last-wrapping l low high h = rw (lt-ltb high low h)
 
 -- a value below the bits has its own
 pub own-bit : (l : Limits) (v : ℕ) → v < l .bits → bitOf l v ≡ v

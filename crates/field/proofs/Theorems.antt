@@ -1,5 +1,15 @@
 -- What a caller may rely on, over the limits.
---   values-members: the values of an element are those of its range that are a multiple of its step after the first
+-- Ticket 2026-13, each sentence with its theorem. "A range from high to low runs to the field's last value and on from its first, the step
+-- counting on across the join":
+--   values-members: a value is in a range exactly if it is no further from its begin than its end is, going on from the last value to the first,
+--     and a multiple of the step
+-- "Refusal 7 is never given in this dialect":
+--   field-wraps: never for a field whose ranges wrap
+-- "In the first dialect nothing changes":
+--   first-dialect-same: a field is read in it as it was before there was a second
+-- "The normal writer's output reads the same in either":
+--   field-proper, field-back: what is read in either dialect may be written, and what may be written is read back in either
+-- Of a field's set:
 --   set-members: a bit is set exactly if it is the bit of a value of one of the elements
 --   set-fits: the width of the set
 --   set-within: it has only values of the limits
@@ -7,8 +17,7 @@
 --   star-full: a plain `*` has every value of the limits
 --   field-number: a refusal is 5 to 8
 -- Of the text of a set and a flag (ticket 2026-06), over usual limits, as the five fields have:
---   field-proper: what is read may be written
---   field-back, field-fits: what may be written is read back, and has no bit past the field's
+--   field-fits: what may be written has no bit past the field's
 --   shortest-step, plain-star: a flagged field has the smallest step that gives the set, and is `*` just where that is 1
 --   field-bytes, field-solid, field-begins, field-length: its bytes, none of them blank, its first byte, and how many there are at most
 -- Assumes nothing.
@@ -22,16 +31,21 @@ use borrow.Author.Tests.{le-leb}
 use Rattle.bytes.specs.Sets.{hasBit}
 use Rattle.field.specs.declared.Limits.{Limits}
 use Rattle.field.specs.declared.Answer.the-variants.{Values}
-use Rattle.field.specs.Values.{valuesOf, bitOf}
+use Rattle.field.specs.Values.{valuesOf, rangeOf, bitOf}
 use Rattle.field.specs.Fields.{starElement, readField}
 use Rattle.field.specs.Members.{isIn, isStep, isStar, elementsOf, elementBits, bitsOf}
 use Rattle.field.proofs.Accepted.{read-values}
-use Rattle.field.proofs.Members.{map-in}
-pub use Rattle.field.proofs.Members.{values-members, set-members}
+use Rattle.field.proofs.Members.{steps-members, map-in}
+use Rattle.field.proofs.Steps.{last-rising}
+pub use Rattle.field.proofs.Members.{set-members}
+pub use Rattle.field.proofs.Accepted.{Accepted}
+pub use Rattle.field.proofs.Ranges.{values-members}
 pub use Rattle.field.proofs.SetBounds.{set-fits, Within, set-within}
-pub use Rattle.field.proofs.Refusals.{FieldNumber, field-number}
-pub use Rattle.field.proofs.UsualLimits.{Usual, minute-usual, hour-usual, day-usual, month-usual, weekday-usual}
-pub use Rattle.field.proofs.RoundTrip.{field-proper, field-back, field-fits, Shortest, shortest-step, plain-star}
+pub use Rattle.field.proofs.Refusals.{FieldNumber, field-number, NotReversed, field-wraps}
+pub use Rattle.field.proofs.UsualLimits.{Usual, minute-usual, hour-usual, day-usual, month-usual, weekday-usual, dialect-usual, dialect-bits}
+pub use Rattle.field.proofs.RoundTrip.{field-fits, Shortest, shortest-step, plain-star}
+pub use Rattle.field.proofs.Dialects.{field-proper, field-back}
+pub use Rattle.field.proofs.FirstDialect.{Plain, first-dialect-same, minute-plain, hour-plain, day-plain, month-plain, weekday-plain}
 pub use Rattle.field.proofs.TextBytes.{FieldByte, field-bytes, field-solid, Begins, field-begins, field-length}
 
 -- ---- a plain `*`
@@ -44,10 +58,11 @@ module _ (l : Limits) (column : ℕ) where
   -- a plain `*` has every value of the limits
   pub star-full : {set : ℕ} {star : Bool} → readField l column (42 ∷ []) ≡ Values set star
       → (v : ℕ) → l .first ≤ v → v ≤ l .last → bitOf l v < 64 → hasBit set (bitOf l v) ≡ true
-  unfolding elementsOf starElement bitsOf elementBits isStep
+  unfolding elementsOf starElement bitsOf elementBits isStep rangeOf
   star-full e v h k b =
       set-members (bitOf l v) b l column (42 ∷ []) e
-      ∙ ap (isIn (bitOf l v)) (append-nil (map (bitOf l) (valuesOf (l .first) (l .last) 1)))
+      ∙ ap (isIn (bitOf l v)) (append-nil (map (bitOf l) (rangeOf l (l .first) (l .last) 1)))
+      ∙ ap (λ (last : ℕ). isIn (bitOf l v) (map (bitOf l) (valuesOf (l .first) last 1))) (last-rising l (l .first) (l .last) (omega arith))
       ∙ map-in (bitOf l) v (valuesOf (l .first) (l .last) 1)
-      (values-members (l .first) (l .last) 1 v (omega arith) (omega arith)
+      (steps-members (l .first) (l .last) 1 v (omega arith) (omega arith)
       ∙ rw (le-leb (l .first) v h, le-leb v (l .last) k, mod-one (v - l .first)))

@@ -9,7 +9,7 @@ use native.Mathlib.Numerals.{add-one}
 use native.Mathlib.Omega.{arith}
 use lib.Dec.{eqb, ltb}
 use lib.ListN.{length, length-append}
-use borrow.Author.Tests.{le-leb, eq-eqb, ne-eqb}
+use borrow.Author.Tests.{le-leb, eq-eqb, ne-eqb, ltb-false}
 use Rattle.bytes.specs.Digits.{numberText}
 use Rattle.bytes.specs.Laid.{Wrote}
 use Rattle.bytes.specs.Sets.{hasBit, fromOn}
@@ -20,17 +20,17 @@ use Rattle.field.specs.Values.{valuesOf, bitOf}
 use Rattle.field.specs.Members.{isIn, isStep}
 use Rattle.field.specs.Written.{starSet, gives, stepOf, starText, having, members, afterCommas, listText, fieldText}
 use Rattle.field.specs.Steps.{InWord, listRest, memberText}
-use Rattle.field.proofs.Members.{values-members, map-in, including-has}
+use Rattle.field.proofs.Members.{steps-members, map-in, including-has}
 
 -- ---- a step
 
-bit-le : (l : Limits) (v : ℕ) → bitOf l v ≤ v
+bit-le : (l : Limits) → l .first ≤ l .bits → (v : ℕ) → bitOf l v ≤ v
 unfolding bitOf
-bit-le l v = go (ltb v (l .bits))
+bit-le l h v = go (ltb v (l .bits)) refl
   where
-    go : (t : Bool) → cond t v (v - l .bits) ≤ v
-    go true = omega arith
-    go false = omega arith
+    go : (t : Bool) → ltb v (l .bits) ≡ t → cond t v (l .first + (v - l .bits)) ≤ v
+    go true e = omega arith
+    go false e = omega (arith, ltb-false v (l .bits) e)
 
 module _ (l : Limits) (w : InWord l) (n : ℕ) (some : 0 < n) where
   -- its second value is in its set
@@ -39,9 +39,9 @@ module _ (l : Limits) (w : InWord l) (n : ℕ) (some : 0 < n) where
   second-in h =
       let e : l .first + n - l .first ≡ n = omega arith in
       let i : isIn (l .first + n) (valuesOf (l .first) (l .last) n) ≡ true =
-      values-members (l .first) (l .last) n (l .first + n) (w .0) some
+      steps-members (l .first) (l .last) n (l .first + n) (w .0) some
       ∙ rw (le-leb (l .first) (l .first + n) (omega arith), le-leb (l .first + n) (l .last) h, e, mod-self n) in
-      including-has (bitOf l (l .first + n)) (omega (arith, bit-le l (l .first + n), w .1)) l 0 (valuesOf (l .first) (l .last) n)
+      including-has (bitOf l (l .first + n)) (omega (arith, bit-le l (w .2) (l .first + n), w .1)) l 0 (valuesOf (l .first) (l .last) n)
       ∙ rw (map-in (bitOf l) (l .first + n) (valuesOf (l .first) (l .last) n) i)
 
   -- so a set without it isn't given

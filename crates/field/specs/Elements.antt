@@ -1,6 +1,6 @@
 -- Paper 01: the elements of a field's list are `n`, `n-m` and `n-m/step`. `n` is the range from n to n, and where no step is
 -- written it is 1. Ticket 2026-01: n and m may be names, a step may not; "`sun` is 0, but 7 as the upper end of a range whose lower
--- end isn't `sun`", by how the two are written.
+-- end isn't `sun`", by how the two are written. Ticket 2026-13: where ranges wrap, it is always 0.
 -- Assumes nothing.
 use Prim.Native.Nat.{ℕ}
 use mathlib.Core.Bool.{Bool, true, false, not, cond, _&&_}
@@ -12,6 +12,7 @@ use Rattle.field.specs.declared.element.Element.{Element}
 use Rattle.field.specs.declared.element.Element.the-variants.{Range, Malformed}
 use Rattle.field.specs.Parts.{contains, before, after}
 use Rattle.field.specs.declared.Names.{Names}
+use Rattle.field.specs.declared.Limits.{Limits}
 use Rattle.field.specs.Numbers.{numberOf}
 use Rattle.field.specs.Names.{nameOf, isSunday}
 
@@ -44,20 +45,20 @@ unfoldable pub endOf : Names → List ℕ → Number
 endOf names s = numberOr (numberOf s) (nameOf names s)
 
 -- the upper end, by the bytes of both
-unfoldable pub upperOf : Names → List ℕ → List ℕ → Number
-upperOf names low high = cond (isSunday names high && not (isSunday names low)) (Value 7) (endOf names high)
+unfoldable pub upperOf : Limits → List ℕ → List ℕ → Number
+upperOf l low high = cond ((isSunday (l .names) high && not (isSunday (l .names) low)) && not (l .wraps)) (Value 7) (endOf (l .names) high)
 
 -- ---- an element
 
 -- what follows the dash: `m`, or `m/step`
-unfoldable pub afterDash : Names → List ℕ → List ℕ → Element
-afterDash names low s =
+unfoldable pub afterDash : Limits → List ℕ → List ℕ → Element
+afterDash l low s =
     cond (contains slash s)
-    (ranging (endOf names low) (upperOf names low (before slash s)) (numberOf (after slash s)))
-    (ranging (endOf names low) (upperOf names low s) (Value 1))
+    (ranging (endOf (l .names) low) (upperOf l low (before slash s)) (numberOf (after slash s)))
+    (ranging (endOf (l .names) low) (upperOf l low s) (Value 1))
 
-unfoldable pub elementOf : Names → List ℕ → Element
-elementOf names s =
+unfoldable pub elementOf : Limits → List ℕ → Element
+elementOf l s =
     cond (contains dash s)
-    (afterDash names (before dash s) (after dash s))
-    (ranging (endOf names s) (endOf names s) (Value 1))
+    (afterDash l (before dash s) (after dash s))
+    (ranging (endOf (l .names) s) (endOf (l .names) s) (Value 1))

@@ -3,14 +3,16 @@
 use Prim.Native.Nat.{ℕ}
 use mathlib.Core.Path.{refl}
 use mathlib.Core.Bool.{Bool, true, false}
-use mathlib.Core.List.{List, [], _∷_}
+use mathlib.Core.List.{List, [], _∷_, _++_}
 use Rattle.bytes.specs.Texts.{text}
 use Rattle.bytes.specs.Rows.{Hold}
 use Rattle.bytes.specs.Sets.{setOf, upTo}
 use Rattle.field.specs.declared.Limits.{Limits}
 use Rattle.field.specs.declared.Answer.{Answer}
 use Rattle.field.specs.declared.Answer.the-variants.{Values, Refused}
-use Rattle.field.specs.Limits.{minuteLimits, hourLimits, dayLimits, monthLimits, weekdayLimits}
+use Rattle.field.specs.declared.Dialect.the-variants.{Rising, Wrapping}
+use Rattle.field.specs.declared.Names.the-variants.{None, Months, Weekdays}
+use Rattle.field.specs.Limits.{minuteLimits, hourLimits, dayLimits, monthLimits, weekdayLimits, inDialect}
 use Rattle.field.specs.Fields.{readField}
 use Rattle.field.specs.Written.{fieldText, isField}
 use Rattle.field.specs.Computing.{reading, writing}
@@ -129,6 +131,84 @@ weekday-names : Hold read
     ∷ [])
 unfolding reading
 weekday-names = refl
+
+-- ---- Ticket 2026-13: the second dialect
+
+-- its limits: the same first, bits and names
+dialects : Hold (inDialect Wrapping)
+    ((minuteLimits, record { first = 0; last = 59; bits = 60; names = None; wraps = true })
+    ∷ (hourLimits, record { first = 0; last = 23; bits = 24; names = None; wraps = true })
+    ∷ (dayLimits, record { first = 1; last = 31; bits = 32; names = None; wraps = true })
+    ∷ (monthLimits, record { first = 1; last = 12; bits = 13; names = Months; wraps = true })
+    ∷ (weekdayLimits, record { first = 0; last = 6; bits = 7; names = Weekdays; wraps = true })
+    ∷ [])
+unfolding inDialect
+dialects = refl
+
+-- a field's bytes in both dialects, the first in front
+abbrev both : Limits × List ℕ → Answer × Answer
+both (limits, s) = (readField (inDialect Rising limits) 1 s, readField (inDialect Wrapping limits) 1 s)
+
+-- the step counts on across the join
+wrapped-steps : Hold both
+    (((weekdayLimits, text "sat-tue/2"), (Refused 7 1, of (6 ∷ 1 ∷ [])))
+    ∷ ((hourLimits, text "22-3/2"), (Refused 7 1, of (22 ∷ 0 ∷ 2 ∷ [])))
+    ∷ ((hourLimits, text "21-3/2"), (Refused 7 1, of (21 ∷ 23 ∷ 1 ∷ 3 ∷ [])))
+    ∷ ((hourLimits, text "22-3/5"), (Refused 7 1, of (22 ∷ 3 ∷ [])))
+    ∷ ((hourLimits, text "22-3/6"), (Refused 7 1, of (22 ∷ [])))
+    ∷ ((dayLimits, text "30-2/2"), (Refused 7 1, of (30 ∷ 1 ∷ [])))
+    ∷ ((monthLimits, text "11-3/3"), (Refused 7 1, of (11 ∷ 2 ∷ [])))
+    ∷ ((weekdayLimits, text "sat-sun/2"), (of (6 ∷ []), of (6 ∷ [])))
+    ∷ ((weekdayLimits, text "mon-sun/2"), (of (1 ∷ 3 ∷ 5 ∷ 0 ∷ []), of (1 ∷ 3 ∷ 5 ∷ 0 ∷ [])))
+    ∷ [])
+unfolding reading
+wrapped-steps = refl
+
+wrapped : Hold both
+    -- over midnight
+    (((hourLimits, text "22-3"), (Refused 7 1, of (22 ∷ 23 ∷ 0 ∷ 1 ∷ 2 ∷ 3 ∷ [])))
+    -- source 001
+    ∷ ((hourLimits, text "8-18/3,19-7"), (Refused 7 8, of (8 ∷ 11 ∷ 14 ∷ 17 ∷ 19 ∷ 20 ∷ 21 ∷ 22 ∷ 23 ∷ 0 ∷ 1 ∷ 2 ∷ 3 ∷ 4 ∷ 5 ∷ 6 ∷ 7 ∷ [])))
+    -- fields without 0
+    ∷ ((dayLimits, text "31-1"), (Refused 7 1, of (31 ∷ 1 ∷ [])))
+    ∷ ((dayLimits, text "31-0"), (Refused 6 1, Refused 6 1))
+    ∷ ((monthLimits, text "12-2"), (Refused 7 1, of (12 ∷ 1 ∷ 2 ∷ [])))
+    ∷ ((monthLimits, text "nov-feb"), (Refused 7 1, of (11 ∷ 12 ∷ 1 ∷ 2 ∷ [])))
+    -- Sunday is 0 alone, by number and by name
+    ∷ ((weekdayLimits, text "fri-sun"), (of (5 ∷ 6 ∷ 0 ∷ []), of (5 ∷ 6 ∷ 0 ∷ [])))
+    ∷ ((weekdayLimits, text "fri-mon"), (Refused 7 1, of (5 ∷ 6 ∷ 0 ∷ 1 ∷ [])))
+    ∷ ((weekdayLimits, text "0-sun"), (of (upTo 0 6), of (0 ∷ [])))
+    ∷ ((weekdayLimits, text "sun-sun"), (of (0 ∷ []), of (0 ∷ [])))
+    ∷ ((weekdayLimits, text "sun-sat"), (of (upTo 0 6), of (upTo 0 6)))
+    ∷ ((weekdayLimits, text "mon-0"), (Refused 7 1, of (1 ∷ 2 ∷ 3 ∷ 4 ∷ 5 ∷ 6 ∷ 0 ∷ [])))
+    ∷ ((weekdayLimits, text "7"), (of (0 ∷ []), Refused 6 1))
+    ∷ ((weekdayLimits, text "0-7"), (of (upTo 0 6), Refused 6 1))
+    ∷ ((weekdayLimits, text "7-1"), (Refused 7 1, Refused 6 1))
+    ∷ ((weekdayLimits, text "7-sun"), (of (0 ∷ []), Refused 6 1))
+    -- stars: the same sets
+    ∷ ((weekdayLimits, text "*"), (starred (upTo 0 6), starred (upTo 0 6)))
+    ∷ ((weekdayLimits, text "*/7"), (starred (0 ∷ []), starred (0 ∷ [])))
+    ∷ ((weekdayLimits, text "*/6"), (starred (0 ∷ 6 ∷ []), starred (0 ∷ 6 ∷ [])))
+    ∷ ((weekdayLimits, text "*/2"), (starred (0 ∷ 2 ∷ 4 ∷ 6 ∷ []), starred (0 ∷ 2 ∷ 4 ∷ 6 ∷ [])))
+    ∷ ((dayLimits, text "*/10"), (starred (1 ∷ 11 ∷ 21 ∷ 31 ∷ []), starred (1 ∷ 11 ∷ 21 ∷ 31 ∷ [])))
+    -- the other refusals, in their order: 6 before 8
+    ∷ ((hourLimits, text "24-3/0"), (Refused 6 1, Refused 6 1))
+    ∷ ((hourLimits, text "22-3/0"), (Refused 7 1, Refused 8 1))
+    ∷ ((hourLimits, text "1,22-3,9/2"), (Refused 5 1, Refused 5 1))
+    ∷ [])
+unfolding reading
+wrapped = refl
+
+-- the whole field, but not where it rises
+wrapped-whole : Hold both
+    (((minuteLimits, text "5-4"), (Refused 7 1, of (upTo 5 59 ++ upTo 0 4)))
+    ∷ ((minuteLimits, text "5-5"), (of (5 ∷ []), of (5 ∷ [])))
+    ∷ ((minuteLimits, text "0-59"), (of (upTo 0 59), of (upTo 0 59)))
+    ∷ ((minuteLimits, text "59-0"), (Refused 7 1, of (59 ∷ 0 ∷ [])))
+    ∷ ((dayLimits, text "2-1"), (Refused 7 1, of (upTo 2 31 ++ 1 ∷ [])))
+    ∷ [])
+unfolding reading
+wrapped-whole = refl
 
 -- ---- Ticket 2026-06: back to a text
 

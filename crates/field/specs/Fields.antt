@@ -6,7 +6,6 @@ use mathlib.Core.Bool.{Bool, true, false, cond, _&&_}
 use mathlib.Core.List.{List, [], _∷_}
 use lib.ListN.{length}
 use lib.Dec.{eqb}
-use Rattle.field.specs.declared.Names.{Names}
 use Rattle.field.specs.declared.Limits.{Limits}
 use Rattle.field.specs.declared.Answer.{Answer}
 use Rattle.field.specs.declared.Answer.the-variants.{Values, Refused}
@@ -27,18 +26,18 @@ asterisk = 42
 
 -- ---- a comma list
 
-unfoldable pub areElements : Names → List (List ℕ) → Bool
-areElements names [] = true
-areElements names (p ∷ ps) = isElement (elementOf names p) && areElements names ps
+unfoldable pub areElements : Limits → List (List ℕ) → Bool
+areElements l [] = true
+areElements l (p ∷ ps) = isElement (elementOf l p) && areElements l ps
 
 -- element by element from the left; the next one starts a comma after this one
 unfoldable pub judgedAll : Limits → ℕ → Answer → List (List ℕ) → Answer
 judgedAll l column so-far [] = so-far
-judgedAll l column so-far (p ∷ ps) = judgedAll l (column + length p + 1) (judged l column so-far (elementOf (l .names) p)) ps
+judgedAll l column so-far (p ∷ ps) = judgedAll l (column + length p + 1) (judged l column so-far (elementOf l p)) ps
 
 unfoldable pub listField : Limits → ℕ → List ℕ → Answer
 listField l column s =
-    cond (areElements (l .names) (split comma s)) (judgedAll l column (Values 0 false) (split comma s)) (Refused malformed column)
+    cond (areElements l (split comma s)) (judgedAll l column (Values 0 false) (split comma s)) (Refused malformed column)
 
 -- ---- an asterisk, by what follows it: nothing, or a slash and a step. It stands for first to last.
 

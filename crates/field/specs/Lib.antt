@@ -8,6 +8,7 @@ pub mod Limits
 pub mod Refusals
 pub mod Judgement
 pub mod Fields
+pub mod FirstDialect
 pub mod Members
 pub mod Written
 pub mod Computing

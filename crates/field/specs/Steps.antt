@@ -7,13 +7,13 @@ use lib.Dec.{eqb, ltb}
 use Rattle.field.specs.declared.Limits.{Limits}
 use Rattle.field.specs.Written.{having, afterCommas, listText}
 
--- the last value of a range that says something new: where 0 is in it, the value after the last bit doesn't
+-- the last value of a range that says something new: where all bits are in it, the value after the last doesn't
 unfoldable pub lastNew : Limits → ℕ → ℕ → ℕ
-lastNew l low high = cond ((eqb low 0 && ltb 0 high) && eqb high (l .bits)) (high - 1) high
+lastNew l low high = cond ((eqb low 0 && ltb (l .first) high) && eqb high (l .bits)) (high - 1) high
 
 -- limits whose values have bits in a word
 abbrev pub InWord : Limits → Type 0
-InWord l = (l .first ≤ l .last) × (l .last < 64)
+InWord l = (l .first ≤ l .last) × (l .last < 64) × (l .first ≤ l .bits)
 
 -- what is left of a list to write: all of it where nothing is written yet, otherwise with a comma in front
 unfoldable pub listRest : Bool → List ℕ → List ℕ

@@ -1,6 +1,7 @@
 // One element of a comma list: `n`, `n-m` or `n-m/step`, in which n and m may be names.
 ghost use mathlib.Core.Path.{_≡_};
 ghost use Rattle.field.specs.Elements.{isElement, ranging, endOf, upperOf, elementOf};
+use crate::Limits;
 use crate::Names;
 use crate::name;
 use crate::number;
@@ -55,27 +56,29 @@ fn end(s: &[u8], names: Names) -> Number
     }
 }
 
-// The upper end of a range: Sunday's name is 7 there, unless the lower end is that name too.
-fn upper(low: &[u8], high: &[u8], names: Names) -> Number
-    ensures { λ r. ⌜ r ≡ upperOf names (now (low .entry)) (now (high .entry)) ⌝ }
+// The upper end of a range: Sunday's name is 7 there, unless the lower end is that name too, or ranges wrap.
+fn upper(low: &[u8], high: &[u8], limits: Limits) -> Number
+    ensures { λ r. ⌜ r ≡ upperOf limits (now (low .entry)) (now (high .entry)) ⌝ }
 {
-    if name::is_sunday(high, names) & !name::is_sunday(low, names) {
+    let names = limits.names;
+    if (name::is_sunday(high, names) & !name::is_sunday(low, names)) & !limits.wraps {
         return Number::Value(7);
     }
     end(high, names)
 }
 
 // A dash parts n from what follows, and there a slash parts m from the step; with no step it is 1.
-pub(crate) fn read(s: &[u8], names: Names) -> Element
-    ensures { λ r. ⌜ r ≡ elementOf names (now (s .entry)) ⌝ }
+pub(crate) fn read(s: &[u8], limits: Limits) -> Element
+    ensures { λ r. ⌜ r ≡ elementOf limits (now (s .entry)) ⌝ }
 {
+    let names = limits.names;
     let dash = skip(s, 0, Class::Not(b'-'));
     let low = end(&s[..dash], names);
     if dash == s.len() {
         return range(low, low, Number::Value(1));
     }
     let slash = skip(s, dash + 1, Class::Not(b'/'));
-    let high = upper(&s[..dash], &s[dash + 1..slash], names);
+    let high = upper(&s[..dash], &s[dash + 1..slash], limits);
     if slash == s.len() {
         return range(low, high, Number::Value(1));
     }

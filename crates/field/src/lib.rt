@@ -8,6 +8,8 @@ mod values;
 pub mod written;
 
 ghost use mathlib.Core.Path.{_≡_};
+ghost use Prim.Native.Nat.{_<_};
+ghost use Rattle.field.specs.Limits.{inDialect};
 ghost use Rattle.field.specs.Fields.{starElement, readField};
 use element::Element;
 use number::Number;
@@ -28,13 +30,22 @@ pub enum Names {
     Weekdays,
 }
 
-// What a field's numbers may be, first to last, and how many bits its set has. A number past the bits begins again from 0: as a
+// The two dialects (ticket 2026-13): in the first a range rises; in the second one from high to low runs to the field's last value and on
+// from its first.
+pub enum Dialect {
+    Rising,
+    Wrapping,
+}
+
+// What a field's numbers may be, first to last, and how many bits its set has. A number past the bits is counted on from the first: as a
 // weekday, 7 is Sunday as 0 is.
 pub struct Limits {
     pub first: u8,
     pub last: u8,
     pub bits: u8,
     pub names: Names,
+    // Whether a range may run from high to low: to the last value and on from the first.
+    pub wraps: bool,
 }
 
 // What a field means.
@@ -50,6 +61,7 @@ pub const MINUTE: Limits = Limits {
     last: 59,
     bits: 60,
     names: Names::None,
+    wraps: false,
 };
 
 pub const HOUR: Limits = Limits {
@@ -57,6 +69,7 @@ pub const HOUR: Limits = Limits {
     last: 23,
     bits: 24,
     names: Names::None,
+    wraps: false,
 };
 
 pub const DAY: Limits = Limits {
@@ -64,6 +77,7 @@ pub const DAY: Limits = Limits {
     last: 31,
     bits: 32,
     names: Names::None,
+    wraps: false,
 };
 
 pub const MONTH: Limits = Limits {
@@ -71,6 +85,7 @@ pub const MONTH: Limits = Limits {
     last: 12,
     bits: 13,
     names: Names::Months,
+    wraps: false,
 };
 
 pub const WEEKDAY: Limits = Limits {
@@ -78,7 +93,26 @@ pub const WEEKDAY: Limits = Limits {
     last: 7,
     bits: 7,
     names: Names::Weekdays,
+    wraps: false,
 };
+
+// A field's limits in a dialect: in the second its values are those that have bits of their own, so there is no weekday 7.
+pub fn in_dialect(limits: Limits, dialect: Dialect) -> Limits
+    requires { ⌜ 0 < limits .bits ⌝ }
+    ensures { λ r. ⌜ r ≡ inDialect dialect limits ⌝ }
+{
+    let names = limits.names;
+    match dialect {
+        Dialect::Rising => limits,
+        Dialect::Wrapping => Limits {
+            first: limits.first,
+            last: limits.bits - 1,
+            bits: limits.bits,
+            names,
+            wraps: true,
+        },
+    }
+}
 
 // A field that starts with an asterisk, by what follows it: nothing, or a slash and a step.
 fn after_star(s: &[u8], limits: Limits) -> Element

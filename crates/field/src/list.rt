@@ -19,12 +19,11 @@ pub(crate) fn read(s: &[u8], column: u64, limits: Limits) -> Answer
         set: 0,
         star: false,
     };
-    let names = limits.names;
     let mut answer = start;
     let mut at = 0;
     loop {
         let end = skip(s, at, Class::Not(b','));
-        let element = element::read(&s[at..end], names);
+        let element = element::read(&s[at..end], limits);
         if element::is_element(element) {
             answer = judge(limits, column + at as u64, answer, element);
         } else {

@@ -6,6 +6,7 @@ use mathlib.Core.List.{List, [], _∷_}
 use Prim.Native.Nat.{ℕ}
 use Rattle.bytes.specs.Texts.{text}
 use Rattle.bytes.specs.Rows.{Hold}
+use Rattle.field.specs.declared.Dialect.the-variants.{Rising}
 use Rattle.crontab.specs.declared.Kind.the-variants.{User}
 use Rattle.crontab.specs.declared.table.Table.{Table}
 use Rattle.crontab.specs.Tables.{tableOf}
@@ -15,7 +16,7 @@ use Rattle.firings.specs.Calls.{EntryStep, MergedStep, firingsIn, merged
 use Rattle.firings.specs.Computing.{listing}
 
 abbrev tableIn : List ℕ → Table
-tableIn s = tableOf (record { kind = User }) s
+tableIn s = tableOf (record { kind = User; dialect = Rising }) s
 
 -- ---- of an entry: its number, a and b, and the run
 

@@ -13,10 +13,12 @@ use Rattle.bytes.specs.Classes.{isBlank}
 use Rattle.bytes.specs.Runs.{areOf, skipped, between}
 use Rattle.bytes.proofs.Runs.{trimmed-whole}
 use Rattle.bytes.proofs.Places.{are-between, blank-end, between-first}
+use Rattle.field.specs.declared.Dialect.{Dialect}
+use Rattle.field.specs.declared.Dialect.the-variants.{Rising}
 use Rattle.field.specs.declared.Limits.{Limits}
 use Rattle.field.specs.declared.Answer.{Answer}
 use Rattle.field.specs.declared.Answer.the-variants as answer
-use Rattle.field.specs.Limits.{minuteLimits, hourLimits, dayLimits, monthLimits, weekdayLimits}
+use Rattle.field.specs.Limits.{minuteLimits, hourLimits, dayLimits, monthLimits, weekdayLimits, inDialect}
 use Rattle.field.specs.Fields.{readField}
 use Rattle.field.specs.Written.{isField}
 use Rattle.field.proofs.Theorems.{Usual, minute-usual, hour-usual, day-usual, month-usual, weekday-usual, field-proper}
@@ -51,17 +53,17 @@ module _ (s : List ℕ) where
   ProperTime (time.Refused f) = Unit {0}
   ProperTime (time.Read when next) = ProperWhen when × (isBlank (getD s next 0) ≡ false)
 
-  field-found : (l : Limits) → Usual l → (at : ℕ) → ProperField l (fieldAt l s at)
+  field-found : (d : Dialect) (l : Limits) → Usual l → (at : ℕ) → ProperField l (fieldAt (inDialect d l) s at)
   unfolding fieldAt answered
-  field-found l u at = go (leb (length s) at) (readField l (at + 1) (between s at (skipped Solid s at))) refl
+  field-found d l u at = go (leb (length s) at) (readField (inDialect d l) (at + 1) (between s at (skipped Solid s at))) refl
     where
       end : ℕ
       end = skipped Solid s at
 
-      go : (t : Bool) (a : Answer) → readField l (at + 1) (between s at end) ≡ a
+      go : (t : Bool) (a : Answer) → readField (inDialect d l) (at + 1) (between s at end) ≡ a
           → ProperField l (cond t (field.Refused (record { number = 4; column = length s + 1 })) (answered a (skipped Blank s end)))
       go true a e = tt
-      go false (answer.Values set star) e = (field-proper l u (at + 1) (between s at end) e, blank-end s end)
+      go false (answer.Values set star) e = (field-proper l u d (at + 1) (between s at end) e, blank-end s end)
       go false (answer.Refused number column) e = tt
 
   after-found : (l : Limits) (f : Field) (later : Values → Time) → ProperField l f → ((v : Values) → ProperField l (field.Read v) → ProperTime (later v))
@@ -70,14 +72,14 @@ module _ (s : List ℕ) where
   after-found l (field.Refused fault) later h k = tt
   after-found l (field.Read v) later h k = k v h
 
-  fields-found : (at : ℕ) → ProperTime (fieldsAt s at)
+  fields-found : (d : Dialect) (at : ℕ) → ProperTime (fieldsAt d s at)
   unfolding fieldsAt isSchedule
-  fields-found at =
-      after-found minuteLimits _ _ (field-found minuteLimits minute-usual at)
-      (λ minute p. after-found hourLimits _ _ (field-found hourLimits hour-usual (minute .next))
-      (λ hour q. after-found dayLimits _ _ (field-found dayLimits day-usual (hour .next))
-      (λ day r. after-found monthLimits _ _ (field-found monthLimits month-usual (day .next))
-      (λ month t. after-found weekdayLimits _ _ (field-found weekdayLimits weekday-usual (month .next))
+  fields-found d at =
+      after-found minuteLimits _ _ (field-found d minuteLimits minute-usual at)
+      (λ minute p. after-found hourLimits _ _ (field-found d hourLimits hour-usual (minute .next))
+      (λ hour q. after-found dayLimits _ _ (field-found d dayLimits day-usual (hour .next))
+      (λ day r. after-found monthLimits _ _ (field-found d monthLimits month-usual (day .next))
+      (λ month t. after-found weekdayLimits _ _ (field-found d weekdayLimits weekday-usual (month .next))
       (λ weekday v. (rw (p .0, q .0, r .0, t .0) (v .0), v .1))))))
 
 -- ---- a word
@@ -94,7 +96,7 @@ known-proper s (time.Refused f) h = tt
 meaning-proper : (m : Meaning) → ProperWord (wordFor m)
 unfolding wordFor
 meaning-proper reboot = tt
-meaning-proper (fields s) = known-proper s (fieldsAt s 0) (fields-found s 0)
+meaning-proper (fields s) = known-proper s (fieldsAt Rising s 0) (fields-found s Rising 0)
 
 row-proper : (ns : List Named) (s : List ℕ) → ProperWord (wordIn ns s)
 unfolding wordIn chosen
@@ -114,13 +116,13 @@ module _ (s : List ℕ) where
       go Unknown h = tt
       go (Known when) h = (h, blank-end s (skipped Solid s at))
 
-  time-found : (at : ℕ) → ProperTime s (timeAt s at)
+  time-found : (d : Dialect) (at : ℕ) → ProperTime s (timeAt d s at)
   unfolding timeAt
-  time-found at = go (eqb (getD s at 0) 64)
+  time-found d at = go (eqb (getD s at 0) 64)
     where
-      go : (t : Bool) → ProperTime s (cond t (wordAt s at) (fieldsAt s at))
+      go : (t : Bool) → ProperTime s (cond t (wordAt s at) (fieldsAt d s at))
       go true = word-found at
-      go false = fields-found s at
+      go false = fields-found s d at
 
   -- ---- and its command
 
@@ -145,11 +147,11 @@ module _ (s : List ℕ) where
         go true i = entry-items when (between s next (length s)) h (command-proper next (ltb-true next (length s) i) e)
         go false i = refl
 
-    time-items : (t : Time) → ProperTime s t → areItems (itemIn s (afterTime ofUser s t)) ≡ true
+    time-items : (d : Dialect) (t : Time) → ProperTime s t → areItems (itemIn s (afterTime (ofUser d) s t)) ≡ true
     unfolding afterTime itemIn areItems
-    time-items (time.Refused f) h = refl
-    time-items (time.Read when next) h = command-items when next (h .0) (h .1)
+    time-items d (time.Refused f) h = refl
+    time-items d (time.Read when next) h = command-items when next (h .0) (h .1)
 
-    pub entry-proper : (at : ℕ) → areItems (itemIn s (entryAt ofUser s at)) ≡ true
+    pub entry-proper : (d : Dialect) (at : ℕ) → areItems (itemIn s (entryAt (ofUser d) s at)) ≡ true
     unfolding entryAt
-    entry-proper at = time-items (timeAt s at) (time-found at)
+    entry-proper d at = time-items d (timeAt d s at) (time-found d at)

@@ -16,9 +16,10 @@ use Rattle.bytes.specs.Runs.{run, areOf}
 use Rattle.bytes.proofs.Runs.{trimmed-whole}
 use Rattle.bytes.proofs.Each.{each-so}
 use Rattle.bytes.proofs.Places.{all-are, solid-run, Stands, drop-past, between-here, skipped-here, within-here}
+use Rattle.field.specs.declared.Dialect.{Dialect}
 use Rattle.field.specs.declared.Limits.{Limits}
 use Rattle.field.specs.declared.Answer.the-variants as answer
-use Rattle.field.specs.Limits.{minuteLimits, hourLimits, dayLimits, monthLimits, weekdayLimits}
+use Rattle.field.specs.Limits.{minuteLimits, hourLimits, dayLimits, monthLimits, weekdayLimits, inDialect}
 use Rattle.field.specs.Numbers.{isDigit}
 use Rattle.field.specs.Written.{fieldText, isField}
 use Rattle.field.proofs.Theorems.{Usual, minute-usual, hour-usual, day-usual, month-usual, weekday-usual, field-back, FieldByte, field-bytes, field-solid, Begins, field-begins}
@@ -82,9 +83,9 @@ field-first (b ∷ t) (inr h) =
     }
 
 -- read back, and where the line goes on
-record FieldBack (l : Limits) (set : ℕ) (star : Bool) (s : List ℕ) (at : ℕ) (rest : List ℕ) : Type 0 where
+record FieldBack (d : Dialect) (l : Limits) (set : ℕ) (star : Bool) (s : List ℕ) (at : ℕ) (rest : List ℕ) : Type 0 where
   next : ℕ
-  is : fieldAt l s at ≡ field.Read (record { set = set; star = star; next = next })
+  is : fieldAt (inDialect d l) s at ≡ field.Read (record { set = set; star = star; next = next })
   behind : drop next s ≡ rest
 
 module _ (l : Limits) (u : Usual l) (set : ℕ) (star : Bool) (proper : isField l set star ≡ true) where
@@ -109,9 +110,9 @@ module _ (l : Limits) (u : Usual l) (set : ℕ) (star : Bool) (proper : isField 
     unfolding areOf ofClass isBlank
     blanks = refl
 
-    field-here : FieldBack l set star s at rest
+    field-here : (d : Dialect) → FieldBack d l set star s at rest
     unfolding fieldAt answered
-    field-here =
+    field-here d =
         let solid-bytes = all-are Solid (fieldText l set star) (field-solid l u set star) in
         let inside : at < length s = omega (arith, within-here gap) in
         record {
@@ -121,7 +122,7 @@ module _ (l : Limits) (u : Usual l) (set : ℕ) (star : Bool) (proper : isField 
                 lt-leb (length s) at inside,
                 skipped-here there Solid solid-bytes ends,
                 between-here there,
-                field-back l u (at + 1) set star proper,
+                field-back l u d (at + 1) set star proper,
                 skipped-here gap Blank blanks solid,
               );
           behind = drop-past gap;
@@ -169,24 +170,24 @@ module _ (x : Schedule) where
   schedule-before rest = simp spaced
 
   -- read back, and where the line goes on
-  record TimeBack (s : List ℕ) (at : ℕ) (rest : List ℕ) : Type 0 where
+  record TimeBack (d : Dialect) (s : List ℕ) (at : ℕ) (rest : List ℕ) : Type 0 where
     next : ℕ
-    is : fieldsAt s at ≡ time.Read (Timed x) next
+    is : fieldsAt d s at ≡ time.Read (Timed x) next
     behind : drop next s ≡ rest
 
-  fields-back : isSchedule x ≡ true → (s : List ℕ) (at : ℕ) (rest : List ℕ) → drop at s ≡ scheduleText x ++ 32 ∷ rest → run Blank rest ≡ 0 → TimeBack s at rest
+  fields-back : (d : Dialect) → isSchedule x ≡ true → (s : List ℕ) (at : ℕ) (rest : List ℕ) → drop at s ≡ scheduleText x ++ 32 ∷ rest → run Blank rest ≡ 0 → TimeBack d s at rest
   unfolding fieldsAt after
-  fields-back proper s at rest here solid =
+  fields-back d proper s at rest here solid =
       let p = schedule-parts x proper in
       let minute = field-here minuteLimits minute-usual (x .minutes) (x .stars .minutes) (p .minutes) s at (hoursOn rest)
-      (here ∙ schedule-before rest) (field-starts hourLimits hour-usual (x .hours) (x .stars .hours) (p .hours) (32 ∷ daysOn rest)) in
+      (here ∙ schedule-before rest) (field-starts hourLimits hour-usual (x .hours) (x .stars .hours) (p .hours) (32 ∷ daysOn rest)) d in
       let hour = field-here hourLimits hour-usual (x .hours) (x .stars .hours) (p .hours) s (minute .next) (daysOn rest)
-      (minute .behind) (field-starts dayLimits day-usual (x .days) (x .stars .days) (p .days) (32 ∷ monthsOn rest)) in
+      (minute .behind) (field-starts dayLimits day-usual (x .days) (x .stars .days) (p .days) (32 ∷ monthsOn rest)) d in
       let day = field-here dayLimits day-usual (x .days) (x .stars .days) (p .days) s (hour .next) (monthsOn rest)
-      (hour .behind) (field-starts monthLimits month-usual (x .months) (x .stars .months) (p .months) (32 ∷ weekdaysOn rest)) in
+      (hour .behind) (field-starts monthLimits month-usual (x .months) (x .stars .months) (p .months) (32 ∷ weekdaysOn rest)) d in
       let month = field-here monthLimits month-usual (x .months) (x .stars .months) (p .months) s (day .next) (weekdaysOn rest)
-      (day .behind) (field-starts weekdayLimits weekday-usual (x .weekdays) (x .stars .weekdays) (p .weekdays) (32 ∷ rest)) in
-      let weekday = field-here weekdayLimits weekday-usual (x .weekdays) (x .stars .weekdays) (p .weekdays) s (month .next) rest (month .behind) solid in
+      (day .behind) (field-starts weekdayLimits weekday-usual (x .weekdays) (x .stars .weekdays) (p .weekdays) (32 ∷ rest)) d in
+      let weekday = field-here weekdayLimits weekday-usual (x .weekdays) (x .stars .weekdays) (p .weekdays) s (month .next) rest (month .behind) solid d in
       record { next = weekday .next; is = rw (minute .is, hour .is, day .is, month .is, weekday .is); behind = weekday .behind }
 
 -- ---- the command behind the time
@@ -204,22 +205,22 @@ command-parts c e =
     let b = and-eq-true-iff (areOf InLine c) (not (isBlank (getD c 0 0))) .0 (a .1) in
     record { some = leb-true 1 (length c) (a .0); clean = b .0; solid = solid-run c (not-true (isBlank (getD c 0 0)) (b .1)) }
 
-command-back : (s : List ℕ) (when : When) (next : ℕ) (c : List ℕ) → timeAt s 0 ≡ time.Read when next → drop next s ≡ c → 0 < length c
-    → itemIn s (entryAt ofUser s 0) ≡ entryItem when c ∷ []
+command-back : (d : Dialect) (s : List ℕ) (when : When) (next : ℕ) (c : List ℕ) → timeAt d s 0 ≡ time.Read when next → drop next s ≡ c → 0 < length c
+    → itemIn s (entryAt (ofUser d) s 0) ≡ entryItem when c ∷ []
 unfolding entryAt afterTime withCommand itemIn
-command-back s when next c is here some =
+command-back d s when next c is here some =
     let inside : next < length s = omega (arith, length-drop next s, ap length here) in
     rw (is, lt-ltb next (length s) inside, trimmed-whole s next, here)
 
 -- ---- an entry
 
-reboot-word : (c : List ℕ) → run Blank c ≡ 0 → timeAt (text "@reboot " ++ c) 0 ≡ time.Read Reboot 8
+reboot-word : (d : Dialect) (c : List ℕ) → run Blank c ≡ 0 → timeAt d (text "@reboot " ++ c) 0 ≡ time.Read Reboot 8
 unfolding reading
-reboot-word c h = ap (λ (n : ℕ). time.Read Reboot (7 + suc n)) h
+reboot-word d c h = ap (λ (n : ℕ). time.Read Reboot (7 + suc n)) h
 
-pub boot-back : (c : List ℕ) → isCommand c ≡ true → itemIn (text "@reboot " ++ c) (entryAt ofUser (text "@reboot " ++ c) 0) ≡ boot c ∷ []
+pub boot-back : (d : Dialect) (c : List ℕ) → isCommand c ≡ true → itemIn (text "@reboot " ++ c) (entryAt (ofUser d) (text "@reboot " ++ c) 0) ≡ boot c ∷ []
 unfolding entryItem
-boot-back c e = let p = command-parts c e in command-back (text "@reboot " ++ c) Reboot 8 c (reboot-word c (p .solid)) refl (p .some)
+boot-back d c e = let p = command-parts c e in command-back d (text "@reboot " ++ c) Reboot 8 c (reboot-word d c (p .solid)) refl (p .some)
 
 module _ (x : Schedule) (c : List ℕ) (proper : isSchedule x ≡ true) where
   -- its text starts an entry
@@ -237,11 +238,11 @@ module _ (x : Schedule) (c : List ℕ) (proper : isSchedule x ≡ true) where
         no-word = f .no-word;
       }
 
-  pub timed-back : isCommand c ≡ true → itemIn (scheduleText x ++ 32 ∷ c) (entryAt ofUser (scheduleText x ++ 32 ∷ c) 0) ≡ timed x c ∷ []
+  pub timed-back : (d : Dialect) → isCommand c ≡ true → itemIn (scheduleText x ++ 32 ∷ c) (entryAt (ofUser d) (scheduleText x ++ 32 ∷ c) 0) ≡ timed x c ∷ []
   unfolding entryItem timeAt
-  timed-back e =
+  timed-back d e =
       let p = command-parts c e in
       let f = timed-starts in
-      let b = fields-back x proper (scheduleText x ++ 32 ∷ c) 0 c refl (p .solid) in
+      let b = fields-back x d proper (scheduleText x ++ 32 ∷ c) 0 c refl (p .solid) in
       let first : getD (scheduleText x ++ 32 ∷ c) 0 0 ≡ f .first = ap (λ (s : List ℕ). getD s 0 0) (f .is) in
-      command-back (scheduleText x ++ 32 ∷ c) (Timed x) (b .next) c (rw (first, f .no-word) (b .is)) (b .behind) (p .some)
+      command-back d (scheduleText x ++ 32 ∷ c) (Timed x) (b .next) c (rw (first, f .no-word) (b .is)) (b .behind) (p .some)

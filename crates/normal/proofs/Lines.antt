@@ -17,6 +17,7 @@ use Rattle.field.specs.Limits.{minuteLimits, hourLimits, dayLimits, monthLimits
 use Rattle.field.specs.Numbers.{isDigit}
 use Rattle.field.proofs.Theorems.{minute-usual, hour-usual, day-usual, month-usual, weekday-usual}
 use Rattle.schedule.specs.declared.Schedule.{Schedule}
+use Rattle.field.specs.declared.Dialect.{Dialect}
 use Rattle.crontab.specs.declared.line.Line.the-variants as line
 use Rattle.crontab.specs.Assignments.{settingAt}
 use Rattle.crontab.specs.Entries.{entryAt}
@@ -32,82 +33,82 @@ use Rattle.normal.proofs.EntryTexts.{field-clean, command-parts, boot-b
 
 -- ---- what is read is proper
 
-first-proper : (s : List ℕ) → areOf InLine s ≡ true → (at : ℕ) → areItems (itemIn s (contentFrom ofUser s at (getD s at 0))) ≡ true
+first-proper : (d : Dialect) (s : List ℕ) → areOf InLine s ≡ true → (at : ℕ) → areItems (itemIn s (contentFrom (ofUser d) s at (getD s at 0))) ≡ true
 unfolding contentFrom itemIn areItems startsOther
-first-proper s clean at = go (eqb (getD s at 0) 35) (startsEntry (getD s at 0)) refl refl
+first-proper d s clean at = go (eqb (getD s at 0) 35) (startsEntry (getD s at 0)) refl refl
   where
     own : eqb (getD s at 0) 35 ≡ false → startsEntry (getD s at 0) ≡ false → startsOther (getD s at 0) ≡ false
     own p q = rw (p, q)
 
-    go : (a b : Bool) → eqb (getD s at 0) 35 ≡ a → startsEntry (getD s at 0) ≡ b → areItems (itemIn s (cond a line.Ignored (cond b (entryAt ofUser s at) (settingAt s at)))) ≡ true
+    go : (a b : Bool) → eqb (getD s at 0) 35 ≡ a → startsEntry (getD s at 0) ≡ b → areItems (itemIn s (cond a line.Ignored (cond b (entryAt (ofUser d) s at) (settingAt s at)))) ≡ true
     go true b p q = refl
-    go false true p q = entry-proper s clean at
+    go false true p q = entry-proper s clean d at
     go false false p q = setting-proper s clean at (own p q)
 
-pub line-proper : (s : List ℕ) → areOf InLine s ≡ true → areItems (lineItems s) ≡ true
+pub line-proper : (d : Dialect) (s : List ℕ) → areOf InLine s ≡ true → areItems (lineItems d s) ≡ true
 unfolding lineItems contentOf itemIn areItems
-line-proper s clean = go (leb (length s) (skipped Blank s 0))
+line-proper d s clean = go (leb (length s) (skipped Blank s 0))
   where
     at : ℕ
     at = skipped Blank s 0
 
-    go : (t : Bool) → areItems (itemIn s (cond t line.Ignored (contentFrom ofUser s at (getD s at 0)))) ≡ true
+    go : (t : Bool) → areItems (itemIn s (cond t line.Ignored (contentFrom (ofUser d) s at (getD s at 0)))) ≡ true
     go true = refl
-    go false = first-proper s clean at
+    go false = first-proper d s clean at
 
 -- ---- what is proper is read back
 
 -- a line by its first byte, which isn't blank
-by-first : (b : ℕ) (more : List ℕ) → isBlank b ≡ false → contentOf ofUser (b ∷ more) ≡ contentFrom ofUser (b ∷ more) 0 b
+by-first : (d : Dialect) (b : ℕ) (more : List ℕ) → isBlank b ≡ false → contentOf (ofUser d) (b ∷ more) ≡ contentFrom (ofUser d) (b ∷ more) 0 b
 unfolding contentOf
-by-first b more solid =
+by-first d b more solid =
     let none : skipped Blank (b ∷ more) 0 ≡ 0 = not-skipped Blank (b ∷ more) 0 (b ∷ more) refl (solid-run (b ∷ more) solid) in
     rw (none, lt-leb (length (b ∷ more)) 0 (omega arith))
 
-setting-first : (s : List ℕ) (b : ℕ) → startsOther b ≡ false → contentFrom ofUser s 0 b ≡ settingAt s 0
+setting-first : (d : Dialect) (s : List ℕ) (b : ℕ) → startsOther b ≡ false → contentFrom (ofUser d) s 0 b ≡ settingAt s 0
 unfolding contentFrom startsOther
-setting-first s b e = go (eqb b 35) (startsEntry b) e
+setting-first d s b e = go (eqb b 35) (startsEntry b) e
   where
-    go : (t u : Bool) → (t || u) ≡ false → cond t line.Ignored (cond u (entryAt ofUser s 0) (settingAt s 0)) ≡ settingAt s 0
+    go : (t u : Bool) → (t || u) ≡ false → cond t line.Ignored (cond u (entryAt (ofUser d) s 0) (settingAt s 0)) ≡ settingAt s 0
     go false false e = refl
     go true u e = absurd (true≢false e)
     go false true e = absurd (true≢false e)
 
-entry-first : (s : List ℕ) (b : ℕ) → eqb b 35 ≡ false → startsEntry b ≡ true → contentFrom ofUser s 0 b ≡ entryAt ofUser s 0
+entry-first : (d : Dialect) (s : List ℕ) (b : ℕ) → eqb b 35 ≡ false → startsEntry b ≡ true → contentFrom (ofUser d) s 0 b ≡ entryAt (ofUser d) s 0
 unfolding contentFrom
-entry-first s b p q = rw (p, q)
+entry-first d s b p q = rw (p, q)
 
-module _ (s : List ℕ) (b : ℕ) (more : List ℕ) (is : s ≡ b ∷ more) (solid : isBlank b ≡ false) where
-  by-byte : contentOf ofUser s ≡ contentFrom ofUser s 0 b
-  by-byte = rw is (by-first b more solid)
+module _ (d : Dialect) (s : List ℕ) (b : ℕ) (more : List ℕ) (is : s ≡ b ∷ more) (solid : isBlank b ≡ false) where
+  by-byte : contentOf (ofUser d) s ≡ contentFrom (ofUser d) s 0 b
+  by-byte = rw is (by-first d b more solid)
 
-  setting-line : startsOther b ≡ false → lineItems s ≡ itemIn s (settingAt s 0)
+  setting-line : startsOther b ≡ false → lineItems d s ≡ itemIn s (settingAt s 0)
   unfolding lineItems
-  setting-line own = ap (itemIn s) (by-byte ∙ setting-first s b own)
+  setting-line own = ap (itemIn s) (by-byte ∙ setting-first d s b own)
 
-  entry-line : eqb b 35 ≡ false → startsEntry b ≡ true → lineItems s ≡ itemIn s (entryAt ofUser s 0)
+  entry-line : eqb b 35 ≡ false → startsEntry b ≡ true → lineItems d s ≡ itemIn s (entryAt (ofUser d) s 0)
   unfolding lineItems
-  entry-line p q = ap (itemIn s) (by-byte ∙ entry-first s b p q)
+  entry-line p q = ap (itemIn s) (by-byte ∙ entry-first d s b p q)
 
-boot-line : (c : List ℕ) → lineItems (text "@reboot " ++ c) ≡ itemIn (text "@reboot " ++ c) (entryAt ofUser (text "@reboot " ++ c) 0)
+boot-line : (d : Dialect) (c : List ℕ) → lineItems d (text "@reboot " ++ c) ≡ itemIn (text "@reboot " ++ c) (entryAt (ofUser d) (text "@reboot " ++ c) 0)
 unfolding startsEntry isDigit isBlank
-boot-line c = entry-line (text "@reboot " ++ c) 64 (text "reboot " ++ c) refl refl refl refl
+boot-line d c = entry-line d (text "@reboot " ++ c) 64 (text "reboot " ++ c) refl refl refl refl
 
-pub line-back : (i : Item) → isItem i ≡ true → lineItems (itemText i) ≡ i ∷ []
+pub line-back : (d : Dialect) (i : Item) → isItem i ≡ true → lineItems d (itemText i) ≡ i ∷ []
 unfolding isItem itemText
-line-back (setting name value) e =
+line-back d (setting name value) e =
     let t = and-eq-true-iff (isName name) (isValue value && mayStand name value) .0 e in
     let u = and-eq-true-iff (isValue value) (mayStand name value) .0 (t .1) in
     let f = name-starts name (t .0) in
-    setting-line (nameText name ++ 61 ∷ valueText value) (f .first) (f .more ++ 61 ∷ valueText value)
+    setting-line d (nameText name ++ 61 ∷ valueText value) (f .first) (f .more ++ 61 ∷ valueText value)
     (ap (λ (n : List ℕ). n ++ 61 ∷ valueText value) (f .is)) (f .solid) (f .own)
     ∙ setting-back name value (t .0) (u .0) (u .1)
-line-back (boot command) e = boot-line command ∙ boot-back command e
-line-back (timed x command) e =
+line-back d (boot command) e = boot-line d command ∙ boot-back d command e
+line-back d (timed x command) e =
     let t = and-eq-true-iff (isSchedule x) (isCommand command) .0 e in
     let f = timed-starts x command (t .0) in
-    entry-line (scheduleText x ++ 32 ∷ command) (f .first) (f .more) (f .is) (f .solid) (f .no-comment) (f .entry)
-    ∙ timed-back x command (t .0) (t .1)
+    entry-line d (scheduleText x ++ 32 ∷ command) (f .first) (f .more) (f .is) (f .solid) (f .no-comment) (f .entry)
+    ∙ timed-back x command (t .0) d (t .1)
 
 -- ---- its text has only bytes that a line may have
 

@@ -17,6 +17,7 @@ use Rattle.bytes.specs.Classes.{isBlank, isQuote, ofClass}
 use Rattle.bytes.specs.Runs.{run, areOf, skipped, trimmed}
 use Rattle.bytes.proofs.Runs.{skipped-from, trimmed-le}
 use Rattle.bytes.proofs.Places.{run-are, are-each, skipped-are, solid-run, solid-first, not-skipped, between-length, Stands, drop-past, byte-here, within-here}
+use Rattle.field.specs.declared.Dialect.{Dialect}
 use Rattle.crontab.specs.declared.Part.{Part}
 use Rattle.crontab.specs.declared.time.When.{When}
 use Rattle.crontab.specs.declared.time.When.the-variants.{Reboot, Timed}
@@ -63,15 +64,15 @@ means s n v (line.Entry when start) e = no-entry when _ n v [] e
 means s n v (line.Refused f) e = omega (arith, ap length e)
 
 -- no entry does
-entry-means : (s n v : List ℕ) (at : ℕ) → Means s n v (entryAt ofUser s at) → ⊥
+entry-means : (d : Dialect) (s n v : List ℕ) (at : ℕ) → Means s n v (entryAt (ofUser d) s at) → ⊥
 unfolding entryAt afterTime withCommand
-entry-means s n v at = go (timeAt s at)
+entry-means d s n v at = go (timeAt d s at)
   where
     command : (b : Bool) (when : When) (next : ℕ) → Means s n v (cond b (line.Entry when next) (line.Refused (record { number = 9; column = length s + 1 }))) → ⊥
     command true when next h = h
     command false when next h = h
 
-    go : (t : Time) → Means s n v (afterTime ofUser s t) → ⊥
+    go : (t : Time) → Means s n v (afterTime (ofUser d) s t) → ⊥
     go (time.Refused f) h = h
     go (time.Read when next) h = command (ltb next (length s)) when next h
 
@@ -79,18 +80,18 @@ record Setting (s n v : List ℕ) (at : ℕ) : Type 0 where
   own : startsOther (getD s at 0) ≡ false
   says : Means s n v (settingAt s at)
 
-line-setting : (s n v : List ℕ) → lineItems s ≡ setting n v ∷ [] → Setting s n v (skipped Blank s 0)
+line-setting : (d : Dialect) (s n v : List ℕ) → lineItems d s ≡ setting n v ∷ [] → Setting s n v (skipped Blank s 0)
 unfolding lineItems contentOf contentFrom startsOther
-line-setting s n v e = go (leb (length s) (skipped Blank s 0)) (eqb (getD s (skipped Blank s 0) 0) 35) (startsEntry (getD s (skipped Blank s 0) 0)) refl refl (means s n v (contentOf ofUser s) e)
+line-setting d s n v e = go (leb (length s) (skipped Blank s 0)) (eqb (getD s (skipped Blank s 0) 0) 35) (startsEntry (getD s (skipped Blank s 0) 0)) refl refl (means s n v (contentOf (ofUser d) s) e)
   where
     at : ℕ
     at = skipped Blank s 0
 
     go : (a b c : Bool) → eqb (getD s at 0) 35 ≡ b → startsEntry (getD s at 0) ≡ c
-        → Means s n v (cond a line.Ignored (cond b line.Ignored (cond c (entryAt ofUser s at) (settingAt s at)))) → Setting s n v at
+        → Means s n v (cond a line.Ignored (cond b line.Ignored (cond c (entryAt (ofUser d) s at) (settingAt s at)))) → Setting s n v at
     go true b c p q h = absurd h
     go false true c p q h = absurd h
-    go false false true p q h = absurd (entry-means s n v at h)
+    go false false true p q h = absurd (entry-means d s n v at h)
     go false false false p q h = record { own = rw (p, q); says = h }
 
 -- whatever its value says of the offset
@@ -190,10 +191,10 @@ blanks-first : (s : List ℕ) → areOf Blank (take (skipped Blank s 0) s) ≡ t
 unfolding skipped
 blanks-first s = let e : 0 + run Blank s ≡ run Blank s = omega arith in rw e (run-are Blank s)
 
-pub name-bare : (n v rest : List ℕ) → lineItems (n ++ 61 ∷ rest) ≡ setting n v ∷ [] → isBareName n ≡ true
+pub name-bare : (d : Dialect) (n v rest : List ℕ) → lineItems d (n ++ 61 ∷ rest) ≡ setting n v ∷ [] → isBareName n ≡ true
 unfolding settingAt
-name-bare n v rest e =
-    let r = line-setting (n ++ 61 ∷ rest) n v e in
+name-bare d n v rest e =
+    let r = line-setting d (n ++ 61 ∷ rest) n v e in
     go (name-how (n ++ 61 ∷ rest) n v at (r .own) (name-says (n ++ 61 ∷ rest) n v at (nameAt (n ++ 61 ∷ rest) at) (r .says)))
   where
     at : ℕ
@@ -290,11 +291,11 @@ module _ (s n v : List ℕ) where
       let k : Means s n v (afterEquals s 0 (skipped Blank s (next + 1)) (name .found .part) (valueAt s (skipped Blank s (next + 1)))) = rw (name .found .is, place, byte-here sign) at h in
       value-alone s v (next + 1) (omega (arith, within-here sign)) (drop-past sign) (value-says 0 (skipped Blank s (next + 1)) (name .found .part) (valueAt s (skipped Blank s (next + 1))) k)
 
-pub value-bare : (n v : List ℕ) → isName n ≡ true → lineItems (nameText n ++ 61 ∷ v) ≡ setting n v ∷ [] → isBareValue v ≡ true
-value-bare n v p e =
+pub value-bare : (d : Dialect) (n v : List ℕ) → isName n ≡ true → lineItems d (nameText n ++ 61 ∷ v) ≡ setting n v ∷ [] → isBareValue v ≡ true
+value-bare d n v p e =
     let s = nameText n ++ 61 ∷ v in
     let f = name-starts n p in
     let first : nameText n ++ 61 ∷ v ≡ f .first ∷ (f .more ++ 61 ∷ v) = ap (λ (t : List ℕ). t ++ 61 ∷ v) (f .is) in
     let at : skipped Blank (nameText n ++ 61 ∷ v) 0 ≡ 0 =
     not-skipped Blank (nameText n ++ 61 ∷ v) 0 (f .first ∷ (f .more ++ 61 ∷ v)) first (solid-run (f .first ∷ (f .more ++ 61 ∷ v)) (f .solid)) in
-    behind-equals (nameText n ++ 61 ∷ v) n v (name-back (nameText n ++ 61 ∷ v) 0 v n p refl) (rw at at (line-setting (nameText n ++ 61 ∷ v) n v e .says))
+    behind-equals (nameText n ++ 61 ∷ v) n v (name-back (nameText n ++ 61 ∷ v) 0 v n p refl) (rw at at (line-setting d (nameText n ++ 61 ∷ v) n v e .says))

@@ -9,6 +9,7 @@ use native.Mathlib.Omega.{arith}
 use lib.ListN.{length, drop}
 use lib.Seq.{drop-drop, take-all}
 use lib.IntN.{ℤ}
+use Rattle.field.specs.declared.Dialect.{Dialect}
 use Rattle.crontab.specs.declared.offset.Zone.{Zone}
 use Rattle.crontab.specs.Offsets.{utc, zoneOf, inForce}
 use lib.Dec.{eqb, leb, ltb}
@@ -115,22 +116,22 @@ Read (line.Refused f) = ⊥
 whole-are : (s : List ℕ) → length s ≤ run InLine s → areOf InLine s ≡ true
 whole-are s h = rw take-all at (run-are InLine s)
 
-line-read : (s : List ℕ) → Read (readLine ofUser s) → (readLine ofUser s ≡ contentOf ofUser s) × (areOf InLine s ≡ true)
+line-read : (d : Dialect) (s : List ℕ) → Read (readLine (ofUser d) s) → (readLine (ofUser d) s ≡ contentOf (ofUser d) s) × (areOf InLine s ≡ true)
 unfolding readLine skipped
-line-read s h = go (ltb maxLine (length s)) (ltb (0 + run InLine s) (length s)) refl h
+line-read d s h = go (ltb maxLine (length s)) (ltb (0 + run InLine s) (length s)) refl h
   where
     go : (a b : Bool) → ltb (0 + run InLine s) (length s) ≡ b
-        → Read (cond a (line.Refused (record { number = 2; column = 1001 })) (cond b (line.Refused (byteFault s)) (contentOf ofUser s)))
-        → (cond a (line.Refused (record { number = 2; column = 1001 })) (cond b (line.Refused (byteFault s)) (contentOf ofUser s)) ≡ contentOf ofUser s)
+        → Read (cond a (line.Refused (record { number = 2; column = 1001 })) (cond b (line.Refused (byteFault s)) (contentOf (ofUser d) s)))
+        → (cond a (line.Refused (record { number = 2; column = 1001 })) (cond b (line.Refused (byteFault s)) (contentOf (ofUser d) s)) ≡ contentOf (ofUser d) s)
         × (areOf InLine s ≡ true)
     go true b e h = absurd h
     go false true e h = absurd h
     go false false e h = (refl, whole-are s (omega (arith, ltb-false (0 + run InLine s) (length s) e)))
 
 -- a line that is short enough and has only bytes that it may have
-line-plain : (s : List ℕ) → length s ≤ maxLine → areOf InLine s ≡ true → readLine ofUser s ≡ contentOf ofUser s
+line-plain : (d : Dialect) (s : List ℕ) → length s ≤ maxLine → areOf InLine s ≡ true → readLine (ofUser d) s ≡ contentOf (ofUser d) s
 unfolding readLine skipped run
-line-plain s short clean =
+line-plain d s short clean =
     let all : run InLine s ≡ length s + 0 = rw append-nil at (run-over InLine s [] (are-all InLine s clean)) in
     rw (le-ltb maxLine (length s) short, le-ltb (0 + run InLine s) (length s) (omega arith))
 
@@ -204,66 +205,66 @@ entries-append (boot command ∷ a) b = rw (entries-append a b) (omega arith)
 entries-append (timed x command ∷ a) b = rw (entries-append a b) (omega arith)
 
 -- what lines give where there is no fault, behind k entries
-record Meant (s : List ℕ) (k : ℕ) (ls : List (List ℕ)) (all : Items) : Type 0 where
-  means : meanings s all ≡ itemsIn ls
-  proper : areItems (itemsIn ls) ≡ true
-  few : k ≤ maxEntries → k + entriesIn (itemsIn ls) ≤ maxEntries
+record Meant (d : Dialect) (s : List ℕ) (k : ℕ) (ls : List (List ℕ)) (all : Items) : Type 0 where
+  means : meanings s all ≡ itemsIn d ls
+  proper : areItems (itemsIn d ls) ≡ true
+  few : k ≤ maxEntries → k + entriesIn (itemsIn d ls) ≤ maxEntries
 
 -- where there is no fault, no line is the last of a cut table
 uncut : (c : Bool) (f g : Items) → Clean (cond c f g) → (Clean f → ⊥) → (cond c f g ≡ g) × Clean g
 uncut true f g h n = absurd (n h)
 uncut false f g h n = (refl, h)
 
-lines-meant : (s : List ℕ) (c : Bool) (at n k : ℕ) (o : ℤ) (ls : List (List ℕ)) → Lie s at ls → Free ls → Clean (itemsFrom ofUser c at n k o ls)
-    → Meant s k ls (itemsFrom ofUser c at n k o ls)
+lines-meant : (d : Dialect) (s : List ℕ) (c : Bool) (at n k : ℕ) (o : ℤ) (ls : List (List ℕ)) → Lie s at ls → Free ls → Clean (itemsFrom (ofUser d) c at n k o ls)
+    → Meant d s k ls (itemsFrom (ofUser d) c at n k o ls)
 unfolding itemsFrom itemsIn lineItems meanings areItems entriesIn
-lines-meant s c at n k o [] lie free h = record { means = refl; proper = refl; few = λ f. omega arith }
-lines-meant s c at n k o (l ∷ ls) lie free h =
+lines-meant d s c at n k o [] lie free h = record { means = refl; proper = refl; few = λ f. omega arith }
+lines-meant d s c at n k o (l ∷ ls) lie free h =
     let u = uncut (c && isLast ls) _ _ h (λ z. z) in
-    let g = line-given s l at (lie .0) n k o (readLine ofUser l) (λ j next. itemsFrom ofUser c (at + length l + 1) (n + 1) j next ls) (line-proper ofUser l) (u .1) in
-    let r = line-read l (g .read) in
-    let m = lines-meant s c (at + length l + 1) (n + 1) (g .count) (g .offset) ls (lie .1) (free .1) (g .clean) in
-    let e : itemIn l (readLine ofUser l) ≡ lineItems l = ap (itemIn l) (r .0) in
+    let g = line-given s l at (lie .0) n k o (readLine (ofUser d) l) (λ j next. itemsFrom (ofUser d) c (at + length l + 1) (n + 1) j next ls) (line-proper (ofUser d) l) (u .1) in
+    let r = line-read d l (g .read) in
+    let m = lines-meant d s c (at + length l + 1) (n + 1) (g .count) (g .offset) ls (lie .1) (free .1) (g .clean) in
+    let e : itemIn l (readLine (ofUser d) l) ≡ lineItems d l = ap (itemIn l) (r .0) in
     record {
       means = rw (u .0) (g .means ∙ rw (e, m .means));
-      proper = are-items-append (lineItems l) (itemsIn ls) (lines.line-proper l (r .1)) (m .proper);
-      few = λ f. omega (arith, m .few (g .few f), g .counts, entries-append (lineItems l) (itemsIn ls), ap entriesIn e);
+      proper = are-items-append (lineItems d l) (itemsIn d ls) (lines.line-proper d l (r .1)) (m .proper);
+      few = λ f. omega (arith, m .few (g .few f), g .counts, entries-append (lineItems d l) (itemsIn d ls), ap entriesIn e);
     }
 
 -- ---- a good table
 
 -- a table that isn't refused has no fault, and is short enough
-abbrev tableItems : List ℕ → Items
-tableItems s = itemsFrom ofUser (isCut s) 0 1 0 utc (linesOf s)
+abbrev tableItems : (d : Dialect) → List ℕ → Items
+tableItems d s = itemsFrom (ofUser d) (isCut s) 0 1 0 utc (linesOf s)
 
-items-of : (s : List ℕ) → length s ≤ maxTable → itemsOf ofUser s ≡ tableItems s
+items-of : (d : Dialect) (s : List ℕ) → length s ≤ maxTable → itemsOf (ofUser d) s ≡ tableItems d s
 unfolding itemsOf
-items-of s h = rw (le-ltb maxTable (length s) h)
+items-of d s h = rw (le-ltb maxTable (length s) h)
 
-good-items : (s : List ℕ) → tableOf ofUser s .refusal ≡ 0 → Clean (tableItems s)
+good-items : (d : Dialect) (s : List ℕ) → tableOf (ofUser d) s .refusal ≡ 0 → Clean (tableItems d s)
 unfolding tableOf
-good-items s e =
-    let i = items-of s (table-short ofUser s e) in
-    rw i at (good-clean (length s) 0 emptyTable (itemsOf ofUser s) (items-sound ofUser s) e)
+good-items d s e =
+    let i = items-of d s (table-short (ofUser d) s e) in
+    rw i at (good-clean (length s) 0 emptyTable (itemsOf (ofUser d) s) (items-sound (ofUser d) s) e)
 
-items-good : (s : List ℕ) → length s ≤ maxTable → Clean (tableItems s) → tableOf ofUser s .refusal ≡ 0
+items-good : (d : Dialect) (s : List ℕ) → length s ≤ maxTable → Clean (tableItems d s) → tableOf (ofUser d) s .refusal ≡ 0
 unfolding tableOf emptyTable refusedTable
-items-good s short h = rw (items-of s short) (clean-good emptyTable (tableItems s) refl h)
+items-good d s short h = rw (items-of d s short) (clean-good emptyTable (tableItems d s) refl h)
 
-meant : (s : List ℕ) → Clean (tableItems s) → Meant s 0 (linesOf s) (tableItems s)
-meant s h = lines-meant s (isCut s) 0 1 0 utc (linesOf s) (lines-lie s 0 s refl) (lines-free s) h
+meant : (d : Dialect) (s : List ℕ) → Clean (tableItems d s) → Meant d s 0 (linesOf s) (tableItems d s)
+meant d s h = lines-meant d s (isCut s) 0 1 0 utc (linesOf s) (lines-lie s 0 s refl) (lines-free s) h
 
 -- a good table means what its lines mean
-pub meaning-lines : (s : List ℕ) → tableOf ofUser s .refusal ≡ 0 → meaningOf s ≡ itemsIn (linesOf s)
+pub meaning-lines : (d : Dialect) (s : List ℕ) → tableOf (ofUser d) s .refusal ≡ 0 → meaningOf d s ≡ itemsIn d (linesOf s)
 unfolding meaningOf
-meaning-lines s e = rw (items-of s (table-short ofUser s e)) (meant s (good-items s e) .means)
+meaning-lines d s e = rw (items-of d s (table-short (ofUser d) s e)) (meant d s (good-items d s e) .means)
 
 -- and has proper items, no more entries than there may be
-pub meaning-proper : (s : List ℕ) → tableOf ofUser s .refusal ≡ 0 → areItems (meaningOf s) ≡ true
-meaning-proper s e = rw (meaning-lines s e) (meant s (good-items s e) .proper)
+pub meaning-proper : (d : Dialect) (s : List ℕ) → tableOf (ofUser d) s .refusal ≡ 0 → areItems (meaningOf d s) ≡ true
+meaning-proper d s e = rw (meaning-lines d s e) (meant d s (good-items d s e) .proper)
 
-pub meaning-few : (s : List ℕ) → tableOf ofUser s .refusal ≡ 0 → entriesIn (meaningOf s) ≤ maxEntries
-meaning-few s e = rw (meaning-lines s e) (let f = meant s (good-items s e) .few (omega arith) in omega arith)
+pub meaning-few : (d : Dialect) (s : List ℕ) → tableOf (ofUser d) s .refusal ≡ 0 → entriesIn (meaningOf d s) ≤ maxEntries
+meaning-few d s e = rw (meaning-lines d s e) (let f = meant d s (good-items d s e) .few (omega arith) in omega arith)
 
 -- ---- lines that are the texts of proper items
 
@@ -296,12 +297,12 @@ unfolding normalText isCut
 written-uncut [] = refl
 written-uncut (i ∷ is) = uncut-before (itemText i) (normalText is) (written-uncut is)
 
-pub items-written : (is : List Item) → areItems is ≡ true → itemsIn (map itemText is) ≡ is
+pub items-written : (d : Dialect) (is : List Item) → areItems is ≡ true → itemsIn d (map itemText is) ≡ is
 unfolding itemsIn areItems
-items-written [] h = refl
-items-written (i ∷ is) h =
+items-written d [] h = refl
+items-written d (i ∷ is) h =
     let t = and-eq-true-iff (isItem i) (areItems is) .0 h in
-    rw (lines.line-back i (t .0), items-written is (t .1))
+    rw (lines.line-back d i (t .0), items-written d is (t .1))
 
 -- a line that means an item, behind so few entries that it is no 12
 line-kept : (at n size k : ℕ) (o : ℤ) (l : List ℕ) (x : Line) (i : Item) (later : ℕ → ℤ → Items) → itemIn l x ≡ i ∷ [] → k + entriesIn (i ∷ []) ≤ maxEntries
@@ -316,31 +317,31 @@ line-kept at n size k o l (line.Entry when start) i later e few h =
     rw (lt-ltb k maxEntries (omega arith)) (rw q at (h o))
 line-kept at n size k o l (line.Refused f) i later e few h = absurd (omega (arith, ap length e))
 
-line-means : (i : Item) → isItem i ≡ true → itemIn (itemText i) (contentOf ofUser (itemText i)) ≡ i ∷ []
+line-means : (d : Dialect) (i : Item) → isItem i ≡ true → itemIn (itemText i) (contentOf (ofUser d) (itemText i)) ≡ i ∷ []
 unfolding lineItems
-line-means i e = lines.line-back i e
+line-means d i e = lines.line-back d i e
 
-kept : (at n k : ℕ) (o : ℤ) (is : List Item) → areItems is ≡ true → areShort is ≡ true → k + entriesIn is ≤ maxEntries → Clean (itemsFrom ofUser false at n k o (map itemText is))
+kept : (d : Dialect) (at n k : ℕ) (o : ℤ) (is : List Item) → areItems is ≡ true → areShort is ≡ true → k + entriesIn is ≤ maxEntries → Clean (itemsFrom (ofUser d) false at n k o (map itemText is))
 unfolding itemsFrom areItems areShort
-kept at n k o [] p q few = tt
-kept at n k o (i ∷ is) p q few =
+kept d at n k o [] p q few = tt
+kept d at n k o (i ∷ is) p q few =
     let l = itemText i in
     let t = and-eq-true-iff (isItem i) (areItems is) .0 p in
     let u = and-eq-true-iff (leb (length (itemText i)) maxLine) (areShort is) .0 q in
     let more : entriesIn (i ∷ is) ≡ entriesIn (i ∷ []) + entriesIn is = entries-append (i ∷ []) is in
-    let plain = line-plain (itemText i) (leb-true (length (itemText i)) maxLine (u .0)) (lines.item-clean i (t .0)) in
-    line-kept at n (length (itemText i)) k o (itemText i) (readLine ofUser (itemText i)) i (λ j next. itemsFrom ofUser false (at + length (itemText i) + 1) (n + 1) j next (map itemText is))
-    (ap (itemIn (itemText i)) plain ∙ line-means i (t .0)) (omega arith)
-    (λ next. kept (at + length (itemText i) + 1) (n + 1) (k + entriesIn (i ∷ [])) next is (t .1) (u .1) (omega arith))
+    let plain = line-plain d (itemText i) (leb-true (length (itemText i)) maxLine (u .0)) (lines.item-clean i (t .0)) in
+    line-kept at n (length (itemText i)) k o (itemText i) (readLine (ofUser d) (itemText i)) i (λ j next. itemsFrom (ofUser d) false (at + length (itemText i) + 1) (n + 1) j next (map itemText is))
+    (ap (itemIn (itemText i)) plain ∙ line-means d i (t .0)) (omega arith)
+    (λ next. kept d (at + length (itemText i) + 1) (n + 1) (k + entriesIn (i ∷ [])) next is (t .1) (u .1) (omega arith))
 
 -- proper items that fit make a good table, which means them
-module _ (is : List Item) (proper : areItems is ≡ true) (short : areShort is ≡ true) (small : length (normalText is) ≤ maxTable) (few : entriesIn is ≤ maxEntries) where
-  pub written-good : tableOf ofUser (normalText is) .refusal ≡ 0
+module _ (d : Dialect) (is : List Item) (proper : areItems is ≡ true) (short : areShort is ≡ true) (small : length (normalText is) ≤ maxTable) (few : entriesIn is ≤ maxEntries) where
+  pub written-good : tableOf (ofUser d) (normalText is) .refusal ≡ 0
   written-good =
-      items-good (normalText is) small (rw (written-uncut is, lines-written is proper) (kept 0 1 0 utc is proper short (omega arith)))
+      items-good d (normalText is) small (rw (written-uncut is, lines-written is proper) (kept d 0 1 0 utc is proper short (omega arith)))
 
-  pub written-means : meaningOf (normalText is) ≡ is
-  written-means = meaning-lines (normalText is) written-good ∙ rw (lines-written is proper) (items-written is proper)
+  pub written-means : meaningOf d (normalText is) ≡ is
+  written-means = meaning-lines d (normalText is) written-good ∙ rw (lines-written is proper) (items-written d is proper)
 
 -- ---- offsets
 
@@ -354,23 +355,23 @@ unfolding offsetsFrom
 setting-under o n v zone is e = ap (λ (z : Zone). offsetsFrom (inForce z o) is) (sym e)
 
 -- entries are under the offset that the settings before them say
-lines-under : (s : List ℕ) (c : Bool) (at n k : ℕ) (o : ℤ) (ls : List (List ℕ)) → Lie s at ls → Clean (itemsFrom ofUser c at n k o ls)
-    → entryOffsets (itemsFrom ofUser c at n k o ls) ≡ offsetsFrom o (meanings s (itemsFrom ofUser c at n k o ls))
+lines-under : (d : Dialect) (s : List ℕ) (c : Bool) (at n k : ℕ) (o : ℤ) (ls : List (List ℕ)) → Lie s at ls → Clean (itemsFrom (ofUser d) c at n k o ls)
+    → entryOffsets (itemsFrom (ofUser d) c at n k o ls) ≡ offsetsFrom o (meanings s (itemsFrom (ofUser d) c at n k o ls))
 unfolding itemsFrom afterLine entryOffsets meanings offsetsFrom
-lines-under s c at n k o [] lie h = refl
-lines-under s c at n k o (l ∷ ls) lie h =
+lines-under d s c at n k o [] lie h = refl
+lines-under d s c at n k o (l ∷ ls) lie h =
     let u = uncut (c && isLast ls) _ _ h (λ z. z) in
-    rw (u .0) (go (readLine ofUser l) refl (line-proper ofUser l) (u .1) (λ j next. lines-under s c (at + length l + 1) (n + 1) j next ls (lie .1)))
+    rw (u .0) (go (readLine (ofUser d) l) refl (line-proper (ofUser d) l) (u .1) (λ j next. lines-under d s c (at + length l + 1) (n + 1) j next ls (lie .1)))
   where
     later : ℕ → ℤ → Items
-    later j next = itemsFrom ofUser c (at + length l + 1) (n + 1) j next ls
+    later j next = itemsFrom (ofUser d) c (at + length l + 1) (n + 1) j next ls
 
-    go : (x : Line) → readLine ofUser l ≡ x → Proper (length l) x → Clean (afterLine at n (length l) k o x later)
+    go : (x : Line) → readLine (ofUser d) l ≡ x → Proper (length l) x → Clean (afterLine at n (length l) k o x later)
         → ((j : ℕ) (next : ℤ) → Clean (later j next) → entryOffsets (later j next) ≡ offsetsFrom next (meanings s (later j next)))
         → entryOffsets (afterLine at n (length l) k o x later) ≡ offsetsFrom o (meanings s (afterLine at n (length l) k o x later))
     go line.Ignored e p h more = more k o h
     go (line.Setting name value zone) e p h more =
-        let z = setting-says l ofUser e .0 in
+        let z = setting-says l (ofUser d) e .0 in
         rw (part-here s l at (lie .0) name (p .1), part-here s l at (lie .0) value (p .2))
         (more k (inForce zone o) h ∙ sym (setting-under o (partBytes l name) (partBytes l value) zone (meanings s (later k (inForce zone o))) z))
     go (line.Refused f) e p h more = absurd h
@@ -382,7 +383,7 @@ lines-under s c at n k o (l ∷ ls) lie h =
         entry true h = rw (more (k + 1) o h) (sym (entry-under o when _ (meanings s (later (k + 1) o))))
         entry false h = absurd h
 
-pub meaning-offsets : (s : List ℕ) → tableOf ofUser s .refusal ≡ 0 → entryOffsets (itemsOf ofUser s) ≡ offsetsFrom utc (meaningOf s)
+pub meaning-offsets : (d : Dialect) (s : List ℕ) → tableOf (ofUser d) s .refusal ≡ 0 → entryOffsets (itemsOf (ofUser d) s) ≡ offsetsFrom utc (meaningOf d s)
 unfolding meaningOf
-meaning-offsets s e =
-    rw (items-of s (table-short ofUser s e)) (lines-under s (isCut s) 0 1 0 utc (linesOf s) (lines-lie s 0 s refl) (good-items s e))
+meaning-offsets d s e =
+    rw (items-of d s (table-short (ofUser d) s e)) (lines-under d s (isCut s) 0 1 0 utc (linesOf s) (lines-lie s 0 s refl) (good-items d s e))

@@ -4,7 +4,9 @@
 --   meaning-lines: a good table means what its lines mean, one after the other
 --   meaning-proper, meaning-few: its items pass the test, and no more of them are entries than there may be
 --   written-good, written-means: items that pass the test and fit are written to a good table, which means them
---   read-back: reading the normal text of a table back gives the same meaning
+-- Ticket 2026-13, "the normal writer's output reads the same in either":
+--   normal-in-either: the normal text of a table that is good in a dialect is good in either dialect, and means there what the table means
+--   read-back: so in the table's own
 --   meaning-offsets, offsets-back: the offsets that a table's entries are under follow from its meaning, so reading back carries them
 --   equal-meanings, equal-forms, equal-texts: equal meanings write equal bytes, whatever the buffer, and other meanings others
 --   normal-again, form-again: a normal text is written as itself
@@ -22,6 +24,7 @@ use lib.Dec.{eqb, leb}
 use borrow.Author.Tests.{leb-true, eqb-false}
 use Rattle.bytes.specs.Laid.{laid}
 use Rattle.bytes.specs.LittleEndian.{width}
+use Rattle.field.specs.declared.Dialect.{Dialect}
 use Rattle.field.specs.Limits.{minuteLimits, hourLimits, dayLimits, monthLimits, weekdayLimits}
 use Rattle.field.proofs.Theorems.{Begins, field-begins, field-fits, minute-usual, hour-usual, day-usual, month-usual, weekday-usual}
 use Rattle.schedule.specs.declared.Schedule.{Schedule}
@@ -55,35 +58,40 @@ fits-parts is e =
     let t = and-eq-true-iff (areShort is) (leb (length (normalText is)) maxTable) .0 e in
     record { short = t .0; small = leb-true (length (normalText is)) maxTable (t .1) }
 
+-- the normal text of a table in a dialect is a good table in either, which means the same
+pub normal-in-either : (d e : Dialect) (s : List ℕ) → tableOf (ofUser d) s .refusal ≡ 0 → fits (meaningOf d s) ≡ true
+    → (tableOf (ofUser e) (normalText (meaningOf d s)) .refusal ≡ 0) × (meaningOf e (normalText (meaningOf d s)) ≡ meaningOf d s)
+normal-in-either d e s good fit =
+    let f = fits-parts (meaningOf d s) fit in
+    let p = meaning-proper d s good in
+    let n = meaning-few d s good in
+    (written-good e (meaningOf d s) p (f .short) (f .small) n, written-means e (meaningOf d s) p (f .short) (f .small) n)
+
 -- reading it back gives the same meaning
-pub read-back : (s : List ℕ) → tableOf ofUser s .refusal ≡ 0 → fits (meaningOf s) ≡ true
-    → (tableOf ofUser (normalText (meaningOf s)) .refusal ≡ 0) × (meaningOf (normalText (meaningOf s)) ≡ meaningOf s)
-read-back s good e =
-    let f = fits-parts (meaningOf s) e in
-    let p = meaning-proper s good in
-    let n = meaning-few s good in
-    (written-good (meaningOf s) p (f .short) (f .small) n, written-means (meaningOf s) p (f .short) (f .small) n)
+pub read-back : (d : Dialect) (s : List ℕ) → tableOf (ofUser d) s .refusal ≡ 0 → fits (meaningOf d s) ≡ true
+    → (tableOf (ofUser d) (normalText (meaningOf d s)) .refusal ≡ 0) × (meaningOf d (normalText (meaningOf d s)) ≡ meaningOf d s)
+read-back d = normal-in-either d d
 
 -- and the same offsets
-pub offsets-back : (s : List ℕ) → tableOf ofUser s .refusal ≡ 0 → fits (meaningOf s) ≡ true
-    → entryOffsets (itemsOf ofUser (normalText (meaningOf s))) ≡ entryOffsets (itemsOf ofUser s)
-offsets-back s good e =
-    let b = read-back s good e in
-    meaning-offsets (normalText (meaningOf s)) (b .0) ∙ ap (offsetsFrom utc) (b .1) ∙ sym (meaning-offsets s good)
+pub offsets-back : (d e : Dialect) (s : List ℕ) → tableOf (ofUser d) s .refusal ≡ 0 → fits (meaningOf d s) ≡ true
+    → entryOffsets (itemsOf (ofUser e) (normalText (meaningOf d s))) ≡ entryOffsets (itemsOf (ofUser d) s)
+offsets-back d e s good fit =
+    let b = normal-in-either d e s good fit in
+    meaning-offsets e (normalText (meaningOf d s)) (b .0) ∙ ap (offsetsFrom utc) (b .1) ∙ sym (meaning-offsets d s good)
 
--- equal meanings write equal bytes
-pub equal-meanings : (s t : List ℕ) → meaningOf s ≡ meaningOf t → normalText (meaningOf s) ≡ normalText (meaningOf t)
-equal-meanings s t e = ap normalText e
+-- equal meanings write equal bytes, whatever the dialects
+pub equal-meanings : (d e : Dialect) (s t : List ℕ) → meaningOf d s ≡ meaningOf e t → normalText (meaningOf d s) ≡ normalText (meaningOf e t)
+equal-meanings d e s t q = ap normalText q
 
 -- and equal bytes have equal meanings
-pub equal-texts : (s t : List ℕ) → tableOf ofUser s .refusal ≡ 0 → tableOf ofUser t .refusal ≡ 0 → fits (meaningOf s) ≡ true → fits (meaningOf t) ≡ true
-    → normalText (meaningOf s) ≡ normalText (meaningOf t) → meaningOf s ≡ meaningOf t
-equal-texts s t p q f g e = sym (read-back s p f .1) ∙ ap meaningOf e ∙ read-back t q g .1
+pub equal-texts : (d e : Dialect) (s t : List ℕ) → tableOf (ofUser d) s .refusal ≡ 0 → tableOf (ofUser e) t .refusal ≡ 0 → fits (meaningOf d s) ≡ true → fits (meaningOf e t) ≡ true
+    → normalText (meaningOf d s) ≡ normalText (meaningOf e t) → meaningOf d s ≡ meaningOf e t
+equal-texts d e s t p q f g same = sym (normal-in-either d d s p f .1) ∙ ap (meaningOf d) same ∙ normal-in-either e d t q g .1
 
 -- a normal text is written as itself
-pub normal-again : (s : List ℕ) → tableOf ofUser s .refusal ≡ 0 → fits (meaningOf s) ≡ true
-    → normalText (meaningOf (normalText (meaningOf s))) ≡ normalText (meaningOf s)
-normal-again s good e = ap normalText (read-back s good e .1)
+pub normal-again : (d e : Dialect) (s : List ℕ) → tableOf (ofUser d) s .refusal ≡ 0 → fits (meaningOf d s) ≡ true
+    → normalText (meaningOf e (normalText (meaningOf d s))) ≡ normalText (meaningOf d s)
+normal-again d e s good fit = ap normalText (normal-in-either d e s good fit .1)
 
 -- ---- the sets of a schedule
 
@@ -117,20 +125,20 @@ schedule-long s e =
 
 -- ---- the call
 
-good-form : (s buffer : List ℕ) → tableOf ofUser s .refusal ≡ 0 → normalForm s buffer ≡ formOf (meaningOf s) buffer
+good-form : (d : Dialect) (s buffer : List ℕ) → tableOf (ofUser d) s .refusal ≡ 0 → normalForm d s buffer ≡ formOf (meaningOf d s) buffer
 unfolding normalForm
-good-form s buffer good = rw good
+good-form d s buffer good = rw good
 
 -- the whole answer and every byte
-pub equal-forms : (s t buffer : List ℕ) → tableOf ofUser s .refusal ≡ 0 → tableOf ofUser t .refusal ≡ 0 → meaningOf s ≡ meaningOf t
-    → normalForm s buffer ≡ normalForm t buffer
-equal-forms s t buffer p q e = good-form s buffer p ∙ ap (λ (is : List Item). formOf is buffer) e ∙ sym (good-form t buffer q)
+pub equal-forms : (d e : Dialect) (s t buffer : List ℕ) → tableOf (ofUser d) s .refusal ≡ 0 → tableOf (ofUser e) t .refusal ≡ 0 → meaningOf d s ≡ meaningOf e t
+    → normalForm d s buffer ≡ normalForm e t buffer
+equal-forms d e s t buffer p q same = good-form d s buffer p ∙ ap (λ (is : List Item). formOf is buffer) same ∙ sym (good-form e t buffer q)
 
-pub form-again : (s buffer : List ℕ) → tableOf ofUser s .refusal ≡ 0 → fits (meaningOf s) ≡ true
-    → normalForm (normalText (meaningOf s)) buffer ≡ normalForm s buffer
-form-again s buffer good e =
-    let b = read-back s good e in
-    equal-forms (normalText (meaningOf s)) s buffer (b .0) good (b .1)
+pub form-again : (d e : Dialect) (s buffer : List ℕ) → tableOf (ofUser d) s .refusal ≡ 0 → fits (meaningOf d s) ≡ true
+    → normalForm e (normalText (meaningOf d s)) buffer ≡ normalForm d s buffer
+form-again d e s buffer good fit =
+    let b = normal-in-either d e s good fit in
+    equal-forms e d (normalText (meaningOf d s)) s buffer (b .0) good (b .1)
 
 -- ---- what comes back
 
@@ -167,11 +175,11 @@ items-told is buffer = go (fits is) refl
     go true e = laid-told maxTable (normalText is) buffer (fits-parts is e .small)
     go false e = refused-told maxTable 21 buffer (omega arith)
 
-pub form-told : (s buffer : List ℕ) → FormTold maxTable buffer (normalForm s buffer)
+pub form-told : (d : Dialect) (s buffer : List ℕ) → FormTold maxTable buffer (normalForm d s buffer)
 unfolding normalForm
-form-told s buffer = go (eqb (tableOf ofUser s .refusal) 0) refl
+form-told d s buffer = go (eqb (tableOf (ofUser d) s .refusal) 0) refl
   where
-    go : (b : Bool) → eqb (tableOf ofUser s .refusal) 0 ≡ b
-        → FormTold maxTable buffer (cond b (formOf (meaningOf s) buffer) (refusedForm (tableOf ofUser s .refusal) buffer))
-    go true e = items-told (meaningOf s) buffer
-    go false e = refused-told maxTable (tableOf ofUser s .refusal) buffer (omega (arith, eqb-false (tableOf ofUser s .refusal) 0 e))
+    go : (b : Bool) → eqb (tableOf (ofUser d) s .refusal) 0 ≡ b
+        → FormTold maxTable buffer (cond b (formOf (meaningOf d s) buffer) (refusedForm (tableOf (ofUser d) s .refusal) buffer))
+    go true e = items-told (meaningOf d s) buffer
+    go false e = refused-told maxTable (tableOf (ofUser d) s .refusal) buffer (omega (arith, eqb-false (tableOf (ofUser d) s .refusal) 0 e))

@@ -14,6 +14,7 @@ use borrow.Author.Tests.{lt-leb, le-leb, leb-true, leb-false, ne-eqb, eqb-true}
 use Rattle.bytes.specs.Runs.{between}
 use Rattle.bytes.specs.Laid.{laid, Wrote}
 use Rattle.bytes.proofs.Written.{written-front, wrote-none, wrote-next}
+use Rattle.field.specs.declared.Dialect.{Dialect}
 use Rattle.crontab.specs.declared.item.Cursor.{Cursor}
 use Rattle.crontab.specs.declared.line.Fault.{Fault}
 use Rattle.crontab.specs.declared.item.Item as line
@@ -89,25 +90,25 @@ module _ (s : List ℕ) (n k : ℕ) (later : Items) where
 -- ---- a walk
 
 -- what holds at a cursor
-pub record Going (s : List ℕ) (c : Cursor) : Type 0 where
+pub record Going (d : Dialect) (s : List ℕ) (c : Cursor) : Type 0 where
   pub reached : Reached s c
-  pub sound : SoundItems (length s) (c .count) (itemsAt ofUser s c)
+  pub sound : SoundItems (length s) (c .count) (itemsAt (ofUser d) s c)
 
-pub going-starts : (s : List ℕ) → length s ≤ maxTable → Going s start
-going-starts s h = record { reached = start-reached s h; sound = rw (items-start ofUser s h) (items-sound ofUser s) }
+pub going-starts : (d : Dialect) (s : List ℕ) → length s ≤ maxTable → Going d s start
+going-starts d s h = record { reached = start-reached s h; sound = rw (items-start (ofUser d) s h) (items-sound (ofUser d) s) }
 
-module _ {s : List ℕ} {c : Cursor} {r : Step} (step : StepIs ofUser s c r) (going : Going s c) where
-  here : SoundItems (length s) (c .count) (given (c .line) (r .item) (itemsAt ofUser s (r .next)))
+module _ {d : Dialect} {s : List ℕ} {c : Cursor} {r : Step} (step : StepIs (ofUser d) s c r) (going : Going d s c) where
+  here : SoundItems (length s) (c .count) (given (c .line) (r .item) (itemsAt (ofUser d) s (r .next)))
   here = rw (step .gives) at (going .sound)
 
   pub going-within : Within s (r .item)
-  going-within = given-within s (c .line) (c .count) (itemsAt ofUser s (r .next)) (r .item) here
+  going-within = given-within s (c .line) (c .count) (itemsAt (ofUser d) s (r .next)) (r .item) here
 
-  pub going-next : Kept (r .item) → Going s (r .next)
+  pub going-next : Kept (r .item) → Going d s (r .next)
   going-next kept =
       record {
         reached = step .reached;
-        sound = rw (← (step .counts)) at (given-sound s (c .line) (c .count) (itemsAt ofUser s (r .next)) (r .item) kept here);
+        sound = rw (← (step .counts)) at (given-sound s (c .line) (c .count) (itemsAt (ofUser d) s (r .next)) (r .item) kept here);
       }
 
 -- ---- measuring
@@ -173,18 +174,18 @@ module _ (s : List ℕ) where
       ∙ front (verdictFrom (k + 1) later .refusal) short (areShort (meanings s later)) size
       (itemText (entryItem (e .when) (between s (e .start) (e .end)))) (normalText (meanings s later))
 
-  pub measure-whole : measureFrom s true 0 (itemsOf ofUser s) ≡ measured s
+  pub measure-whole : (d : Dialect) → measureFrom s true 0 (itemsOf (ofUser d) s) ≡ measured d s
   unfolding judged answered measured fits meaningOf verdictOf
-  measure-whole =
-      whole (length s) 0 (itemsOf ofUser s) true 0 (items-sound ofUser s)
-      ∙ rw (table-verdict ofUser s, let e : 0 + length (normalText (meanings s (itemsOf ofUser s))) ≡ length (normalText (meanings s (itemsOf ofUser s))) = omega arith in e)
+  measure-whole d =
+      whole (length s) 0 (itemsOf (ofUser d) s) true 0 (items-sound (ofUser d) s)
+      ∙ rw (table-verdict (ofUser d) s, let e : 0 + length (normalText (meanings s (itemsOf (ofUser d) s))) ≡ length (normalText (meanings s (itemsOf (ofUser d) s))) = omega arith in e)
 
-  module _ {c : Cursor} {r : Step} (step : StepIs ofUser s c r) (short : Bool) (size : ℕ) where
+  module _ {d : Dialect} {c : Cursor} {r : Step} (step : StepIs (ofUser d) s c r) (short : Bool) (size : ℕ) where
     pub measure-next : Kept (r .item)
-        → measureFrom s (shortToo s short (r .item)) (size + lengthOf s (r .item)) (itemsAt ofUser s (r .next)) ≡ measureFrom s short size (itemsAt ofUser s c)
-    measure-next kept = given-measured short size (c .line) (itemsAt ofUser s (r .next)) (r .item) kept ∙ rw (step .gives)
+        → measureFrom s (shortToo s short (r .item)) (size + lengthOf s (r .item)) (itemsAt (ofUser d) s (r .next)) ≡ measureFrom s short size (itemsAt (ofUser d) s c)
+    measure-next kept = given-measured short size (c .line) (itemsAt (ofUser d) s (r .next)) (r .item) kept ∙ rw (step .gives)
 
-    pub measure-refused : {f : Fault} → r .item ≡ Refused f → answer.Refused (f .number) ≡ measureFrom s short size (itemsAt ofUser s c)
+    pub measure-refused : {f : Fault} → r .item ≡ Refused f → answer.Refused (f .number) ≡ measureFrom s short size (itemsAt (ofUser d) s c)
     unfolding given measureFrom
     measure-refused is = rw (step .gives, is)
 
@@ -200,62 +201,62 @@ unfolding normalText
 text-parts s = record { none = refl; next = λ n later. given-text s n 0 later }
 
 module _ {s : List ℕ} {part : line.Item → List ℕ} {all : List Item → List ℕ} (parts : InParts s part all) where
-  module _ {c : Cursor} {r : Step} (step : StepIs ofUser s c r) (kept : Kept (r .item)) where
-    parts-next : part (r .item) ++ all (meanings s (itemsAt ofUser s (r .next))) ≡ all (meanings s (itemsAt ofUser s c))
-    parts-next = parts .next (c .line) (itemsAt ofUser s (r .next)) (r .item) kept ∙ rw (step .gives)
+  module _ {d : Dialect} {c : Cursor} {r : Step} (step : StepIs (ofUser d) s c r) (kept : Kept (r .item)) where
+    parts-next : part (r .item) ++ all (meanings s (itemsAt (ofUser d) s (r .next))) ≡ all (meanings s (itemsAt (ofUser d) s c))
+    parts-next = parts .next (c .line) (itemsAt (ofUser d) s (r .next)) (r .item) kept ∙ rw (step .gives)
 
     -- its length, part by part
     pub size-next : (size : ℕ)
-        → size + length (part (r .item)) + length (all (meanings s (itemsAt ofUser s (r .next)))) ≡ size + length (all (meanings s (itemsAt ofUser s c)))
+        → size + length (part (r .item)) + length (all (meanings s (itemsAt (ofUser d) s (r .next)))) ≡ size + length (all (meanings s (itemsAt (ofUser d) s c)))
     size-next size = omega (arith, simp length-append at (ap length parts-next))
 
-  pub size-starts : length s ≤ maxTable → 0 + length (all (meanings s (itemsAt ofUser s start))) ≡ length (all (meaningOf s))
+  pub size-starts : (d : Dialect) → length s ≤ maxTable → 0 + length (all (meanings s (itemsAt (ofUser d) s start))) ≡ length (all (meaningOf d s))
   unfolding meaningOf
-  size-starts short = rw (items-start ofUser s short) (omega arith)
+  size-starts d short = rw (items-start (ofUser d) s short) (omega arith)
 
-  pub size-ends : (c : Cursor) (size : ℕ) → length s ≤ c .at → size + length (all (meanings s (itemsAt ofUser s c))) ≡ size
+  pub size-ends : (d : Dialect) (c : Cursor) (size : ℕ) → length s ≤ c .at → size + length (all (meanings s (itemsAt (ofUser d) s c))) ≡ size
   unfolding meanings
-  size-ends c size h = rw (items-end ofUser s c h, parts .none) (omega arith)
+  size-ends d c size h = rw (items-end (ofUser d) s c h, parts .none) (omega arith)
 
 -- ---- writing
 
 -- the lines up to a cursor are written
-pub record Lined (s : List ℕ) (all : List Item → List ℕ) (before : List ℕ) (c : Cursor) (at : ℕ) (now : List ℕ) : Type 0 where
-  pub going : Going s c
-  pub clean : Clean (itemsAt ofUser s c)
+pub record Lined (d : Dialect) (s : List ℕ) (all : List Item → List ℕ) (before : List ℕ) (c : Cursor) (at : ℕ) (now : List ℕ) : Type 0 where
+  pub going : Going d s c
+  pub clean : Clean (itemsAt (ofUser d) s c)
   pub text : List ℕ
   pub wrote : Wrote 0 text before at now
-  pub rest : text ++ all (meanings s (itemsAt ofUser s c)) ≡ all (meaningOf s)
+  pub rest : text ++ all (meanings s (itemsAt (ofUser d) s c)) ≡ all (meaningOf d s)
 
-pub lined-starts : (s : List ℕ) (all : List Item → List ℕ) (before : List ℕ) → tableOf ofUser s .refusal ≡ 0 → Lined s all before start 0 before
+pub lined-starts : (d : Dialect) (s : List ℕ) (all : List Item → List ℕ) (before : List ℕ) → tableOf (ofUser d) s .refusal ≡ 0 → Lined d s all before start 0 before
 unfolding meaningOf tableOf
-lined-starts s all before good =
-    let short = table-short ofUser s good in
+lined-starts d s all before good =
+    let short = table-short (ofUser d) s good in
     record {
-      going = going-starts s short;
-      clean = rw (items-start ofUser s short) (good-clean (length s) 0 _ (itemsOf ofUser s) (items-sound ofUser s) good);
+      going = going-starts d s short;
+      clean = rw (items-start (ofUser d) s short) (good-clean (length s) 0 _ (itemsOf (ofUser d) s) (items-sound (ofUser d) s) good);
       text = [];
       wrote = wrote-none 0 before (omega arith);
-      rest = rw (items-start ofUser s short);
+      rest = rw (items-start (ofUser d) s short);
     }
 
 module _ {s before : List ℕ} {part : line.Item → List ℕ} {all : List Item → List ℕ} (parts : InParts s part all) where
-  module _ {c : Cursor} {at : ℕ} {now : List ℕ} (so : Lined s all before c at now) where
-    module _ {r : Step} (step : StepIs ofUser s c r) where
-      kept : Kept (r .item) × Clean (itemsAt ofUser s (r .next))
-      kept = given-clean s (c .line) (c .count) (itemsAt ofUser s (r .next)) (r .item) (rw (step .gives) at (so .clean))
+  module _ {d : Dialect} {c : Cursor} {at : ℕ} {now : List ℕ} (so : Lined d s all before c at now) where
+    module _ {r : Step} (step : StepIs (ofUser d) s c r) where
+      kept : Kept (r .item) × Clean (itemsAt (ofUser d) s (r .next))
+      kept = given-clean s (c .line) (c .count) (itemsAt (ofUser d) s (r .next)) (r .item) (rw (step .gives) at (so .clean))
 
-      turn : (so .text ++ part (r .item)) ++ all (meanings s (itemsAt ofUser s (r .next))) ≡ all (meaningOf s)
+      turn : (so .text ++ part (r .item)) ++ all (meanings s (itemsAt (ofUser d) s (r .next))) ≡ all (meaningOf d s)
       turn =
           append-assoc (so .text) (part (r .item)) _
           ∙ ap (λ (t : List ℕ). so .text ++ t) (parts-next parts step (kept .0))
           ∙ so .rest
 
-      pub lined-room : length (all (meaningOf s)) ≤ length before → Within s (r .item) × (at + length (part (r .item)) ≤ length now)
+      pub lined-room : length (all (meaningOf d s)) ≤ length before → Within s (r .item) × (at + length (part (r .item)) ≤ length now)
       lined-room room =
           (going-within step (so .going), omega (arith, simp length-append at (ap length turn), so .wrote .place, so .wrote .size))
 
-      pub lined-next : (at' : ℕ) (now' : List ℕ) → Wrote at (part (r .item)) now at' now' → Lined s all before (r .next) at' now'
+      pub lined-next : (at' : ℕ) (now' : List ℕ) → Wrote at (part (r .item)) now at' now' → Lined d s all before (r .next) at' now'
       lined-next at' now' w =
           record {
             going = going-next step (so .going) (kept .0);
@@ -265,42 +266,42 @@ module _ {s before : List ℕ} {part : line.Item → List ℕ} {all : List Item 
             rest = turn;
           }
 
-    pub lined-ends : length s ≤ c .at → now ≡ laid (all (meaningOf s)) before
+    pub lined-ends : length s ≤ c .at → now ≡ laid (all (meaningOf d s)) before
     unfolding meanings
     lined-ends h =
-        let whole : so .text ≡ all (meaningOf s) =
-        sym (append-nil (so .text)) ∙ rw (items-end ofUser s c h, parts .none) at (so .rest) in
-        so .wrote .bytes ∙ rw whole (written-front (all (meaningOf s)) before)
+        let whole : so .text ≡ all (meaningOf d s) =
+        sym (append-nil (so .text)) ∙ rw (items-end (ofUser d) s c h, parts .none) at (so .rest) in
+        so .wrote .bytes ∙ rw whole (written-front (all (meaningOf d s)) before)
 
 -- ---- what comes back
 
-module _ (s buffer : List ℕ) where
+module _ (d : Dialect) (s buffer : List ℕ) where
   number : ℕ
-  number = tableOf ofUser s .refusal
+  number = tableOf (ofUser d) s .refusal
 
   -- what is measured is as long as the text of a good table
   pub record Fitted (size : ℕ) : Type 0 where
-    pub good : tableOf ofUser s .refusal ≡ 0
-    pub length : size ≡ length (normalText (meaningOf s))
-    pub form : normalForm s buffer ≡ laidForm (normalText (meaningOf s)) buffer
+    pub good : tableOf (ofUser d) s .refusal ≡ 0
+    pub length : size ≡ length (normalText (meaningOf d s))
+    pub form : normalForm d s buffer ≡ laidForm (normalText (meaningOf d s)) buffer
 
-  pub measured-fits : (size : ℕ) → measured s ≡ answer.Written size → Fitted size
+  pub measured-fits : (size : ℕ) → measured d s ≡ answer.Written size → Fitted size
   unfolding measured normalForm formOf number
-  measured-fits size e = go (eqb number 0) (fits (meaningOf s)) refl refl e
+  measured-fits size e = go (eqb number 0) (fits (meaningOf d s)) refl refl e
     where
-      go : (a b : Bool) → eqb number 0 ≡ a → fits (meaningOf s) ≡ b
-          → cond a (cond b (answer.Written (length (normalText (meaningOf s)))) (answer.Refused 21)) (answer.Refused number) ≡ answer.Written size → Fitted size
+      go : (a b : Bool) → eqb number 0 ≡ a → fits (meaningOf d s) ≡ b
+          → cond a (cond b (answer.Written (length (normalText (meaningOf d s)))) (answer.Refused 21)) (answer.Refused number) ≡ answer.Written size → Fitted size
       go true true p q e = record { good = eqb-true number 0 p; length = cc; form = rw (p, q) }
       go true false p q e = let z : _≡_ {A = ℕ} 0 1 = cc in absurd (omega arith)
       go false b p q e = let z : _≡_ {A = ℕ} 0 1 = cc in absurd (omega arith)
 
-  pub measured-refused : (n : ℕ) → measured s ≡ answer.Refused n → normalForm s buffer ≡ refusedForm n buffer
+  pub measured-refused : (n : ℕ) → measured d s ≡ answer.Refused n → normalForm d s buffer ≡ refusedForm n buffer
   unfolding measured normalForm formOf number
-  measured-refused n e = go (eqb number 0) (fits (meaningOf s)) refl refl e
+  measured-refused n e = go (eqb number 0) (fits (meaningOf d s)) refl refl e
     where
-      go : (a b : Bool) → eqb number 0 ≡ a → fits (meaningOf s) ≡ b
-          → cond a (cond b (answer.Written (length (normalText (meaningOf s)))) (answer.Refused 21)) (answer.Refused number) ≡ answer.Refused n
-          → cond a (cond b (laidForm (normalText (meaningOf s)) buffer) (refusedForm 21 buffer)) (refusedForm number buffer) ≡ refusedForm n buffer
+      go : (a b : Bool) → eqb number 0 ≡ a → fits (meaningOf d s) ≡ b
+          → cond a (cond b (answer.Written (length (normalText (meaningOf d s)))) (answer.Refused 21)) (answer.Refused number) ≡ answer.Refused n
+          → cond a (cond b (laidForm (normalText (meaningOf d s)) buffer) (refusedForm 21 buffer)) (refusedForm number buffer) ≡ refusedForm n buffer
       go true true p q e = let z : _≡_ {A = ℕ} 0 1 = cc in absurd (omega arith)
       go true false p q e = let z : 21 ≡ n = cc in rw z
       go false b p q e = let z : number ≡ n = cc in rw z

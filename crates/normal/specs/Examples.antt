@@ -8,6 +8,7 @@ use lib.ListN.{replicate}
 use Rattle.bytes.specs.Texts.{text}
 use Rattle.bytes.specs.Rows.{Hold}
 use Rattle.crontab.specs.Limits.{maxTable}
+use Rattle.field.specs.declared.Dialect.the-variants.{Rising, Wrapping}
 use Rattle.normal.specs.declared.NormalAnswer.{NormalAnswer}
 use Rattle.normal.specs.declared.NormalAnswer.the-variants.{Written, Refused}
 use Rattle.normal.specs.Meanings.{meaningOf}
@@ -17,7 +18,7 @@ use Rattle.normal.specs.NormalForms.{normalForm}
 use Rattle.normal.specs.Computing.{writing}
 
 abbrev written : List ℕ → List ℕ
-written s = normalText (meaningOf s)
+written s = normalText (meaningOf Rising s)
 
 settings : Hold written
     -- no blanks but within
@@ -81,7 +82,7 @@ tables = refl
 -- ---- the call: a table and a buffer, and what comes back with the buffer as it is then
 
 abbrev call : List ℕ × List ℕ → NormalAnswer × List ℕ
-call (s, buffer) = let f = normalForm s buffer in (f .answer, f .buffer)
+call (s, buffer) = let f = normalForm Rising s buffer in (f .answer, f .buffer)
 
 -- a line of 13 bytes and n more, which is written in 178 and n
 abbrev long : ℕ → List ℕ
@@ -159,3 +160,27 @@ commands : Hold isCommand
     ∷ [])
 unfolding writing
 commands = refl
+
+-- ---- ticket 2026-13: a table in the second dialect, and its normal text in the first; no range or name is left in it
+
+abbrev rewritten : List ℕ → List ℕ × (List ℕ × List ℕ)
+rewritten s =
+    let t = normalText (meaningOf Wrapping s) in
+    (t, (normalText (meaningOf Rising t), normalText (meaningOf Wrapping t)))
+
+thrice : List ℕ → List ℕ × (List ℕ × List ℕ)
+thrice t = (t, (t, t))
+
+wrapped : Hold rewritten
+    ((text "0 22-3 * * * x\n", thrice (text "0 0,1,2,3,22,23 * * * x\n"))
+    ∷ (text "59-0 * 31-1 nov-jan * x\n", thrice (text "0,59 * 1,31 1,11,12 * x\n"))
+    ∷ (text "0 0 * * fri-sun x\n", thrice (text "0 0 * * 0,5,6 x\n"))
+    -- Sunday alone, by a step past the last weekday too
+    ∷ (text "0 0 * * 0-sun x\n", thrice (text "0 0 * * 0 x\n"))
+    ∷ (text "0 0 * * */7 x\n", thrice (text "0 0 * * */7 x\n"))
+    ∷ (text "0 0 * * */9 x\n", thrice (text "0 0 * * */7 x\n"))
+    ∷ (text "0 0 * * */6 x\n", thrice (text "0 0 * * */6 x\n"))
+    ∷ (text "0 0 * * sun-sat x\n", thrice (text "0 0 * * 0,1,2,3,4,5,6 x\n"))
+    ∷ [])
+unfolding writing thrice
+wrapped = refl

@@ -7,6 +7,7 @@ use lib.ListN.{length}
 use lib.IntN.{ℤ}
 use Rattle.bytes.specs.Runs.{between}
 use Rattle.schedule.specs.declared.Schedule.{Schedule}
+use Rattle.field.specs.declared.Dialect.{Dialect}
 use Rattle.crontab.specs.declared.Rules.{Rules}
 use Rattle.crontab.specs.declared.Kind.the-variants.{User}
 use Rattle.crontab.specs.declared.time.When.{When}
@@ -38,8 +39,9 @@ entriesIn (setting name value ∷ is) = entriesIn is
 entriesIn (boot command ∷ is) = suc (entriesIn is)
 entriesIn (timed s command ∷ is) = suc (entriesIn is)
 
-abbrev pub ofUser : Rules
-ofUser = record { kind = User }
+-- a user's table in a dialect
+abbrev pub ofUser : Dialect → Rules
+ofUser d = record { kind = User; dialect = d }
 
 -- ---- a table
 
@@ -51,8 +53,8 @@ meanings s (items.setting line name value later) = setting (partBytes s name) (p
 meanings s (items.entry e later) = entryItem (e .when) (between s (e .start) (e .end)) ∷ meanings s later
 
 -- the meaning of a user's table, if it isn't refused
-unfoldable pub meaningOf : List ℕ → List Item
-meaningOf s = meanings s (itemsOf ofUser s)
+unfoldable pub meaningOf : Dialect → List ℕ → List Item
+meaningOf d s = meanings s (itemsOf (ofUser d) s)
 
 -- ---- ticket 2026-09: the offsets that entries are under, in order
 
@@ -78,10 +80,10 @@ itemIn s (line.Setting name value zone) = setting (partBytes s name) (partBytes 
 itemIn s (line.Entry when start) = entryItem when (between s start (length s)) ∷ []
 itemIn s (line.Refused f) = []
 
-unfoldable pub lineItems : List ℕ → List Item
-lineItems s = itemIn s (contentOf ofUser s)
+unfoldable pub lineItems : Dialect → List ℕ → List Item
+lineItems d s = itemIn s (contentOf (ofUser d) s)
 
 -- line by line
-unfoldable pub itemsIn : List (List ℕ) → List Item
-itemsIn [] = []
-itemsIn (l ∷ ls) = lineItems l ++ itemsIn ls
+unfoldable pub itemsIn : Dialect → List (List ℕ) → List Item
+itemsIn d [] = []
+itemsIn d (l ∷ ls) = lineItems d l ++ itemsIn d ls

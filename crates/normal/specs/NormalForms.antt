@@ -1,5 +1,6 @@
 -- Ticket 2026-06: "write an accepted user table in one normal form": "it goes to the front of a lent buffer, the bytes behind stay, and its
--- length is answered". The order is table, 21, 18; refused, no byte is written.
+-- length is answered". The order is table, 21, 18; refused, no byte is written. Ticket 2026-13: the table is read in a dialect, and the text
+-- reads the same in either.
 -- Assumes nothing.
 use Prim.Native.Nat.{ℕ}
 use mathlib.Core.Bool.{cond}
@@ -7,6 +8,7 @@ use mathlib.Core.List.{List}
 use lib.ListN.{length}
 use lib.Dec.{eqb, leb}
 use Rattle.bytes.specs.Laid.{laid}
+use Rattle.field.specs.declared.Dialect.{Dialect}
 use Rattle.crontab.specs.Tables.{tableOf}
 use Rattle.normal.specs.declared.NormalAnswer.{NormalAnswer}
 use Rattle.normal.specs.declared.NormalAnswer.the-variants.{Written, Refused}
@@ -34,7 +36,7 @@ unfoldable pub formOf : List Item → List ℕ → NormalForm
 formOf items buffer = cond (fits items) (laidForm (normalText items) buffer) (refusedForm tooLong buffer)
 
 -- a table's bytes in a buffer
-unfoldable pub normalForm : List ℕ → List ℕ → NormalForm
-normalForm s buffer =
-    let refusal = tableOf ofUser s .refusal in
-    cond (eqb refusal 0) (formOf (meaningOf s) buffer) (refusedForm refusal buffer)
+unfoldable pub normalForm : Dialect → List ℕ → List ℕ → NormalForm
+normalForm d s buffer =
+    let refusal = tableOf (ofUser d) s .refusal in
+    cond (eqb refusal 0) (formOf (meaningOf d s) buffer) (refusedForm refusal buffer)

@@ -9,6 +9,7 @@ use lib.Dec.{eqb}
 use Rattle.bytes.specs.declared.class.Class.the-variants.{Not}
 use Rattle.bytes.specs.Classes.{newline}
 use Rattle.bytes.specs.Runs.{areOf, between}
+use Rattle.field.specs.declared.Dialect.{Dialect}
 use Rattle.crontab.specs.declared.item.Item as line
 use Rattle.crontab.specs.declared.item.Item.the-variants.{Nothing, Setting, Entry, Refused}
 use Rattle.crontab.specs.Settings.{partBytes}
@@ -60,9 +61,9 @@ lineText s (Refused f) = []
 -- ---- a table
 
 -- what is answered where the buffer has room
-unfoldable pub measured : List ℕ → NormalAnswer
-measured s =
-    let refusal = tableOf ofUser s .refusal in
+unfoldable pub measured : Dialect → List ℕ → NormalAnswer
+measured d s =
+    let refusal = tableOf (ofUser d) s .refusal in
     cond (eqb refusal 0)
-    (cond (fits (meaningOf s)) (answer.Written (length (normalText (meaningOf s)))) (answer.Refused tooLong))
+    (cond (fits (meaningOf d s)) (answer.Written (length (normalText (meaningOf d s)))) (answer.Refused tooLong))
     (answer.Refused refusal)

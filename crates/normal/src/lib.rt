@@ -7,6 +7,7 @@ mod table;
 
 ghost use mathlib.Core.Path.{_≡_};
 ghost use Rattle.normal.specs.NormalForms.{normalForm};
+use field::Dialect;
 
 // The refusals, by their numbers in the papers.
 pub const TOO_SHORT: u8 = 18;
@@ -19,17 +20,17 @@ pub enum NormalAnswer {
     Refused { number: u8 },
 }
 
-// Writes a table's normal text to the front of a buffer; where it is refused, writes nothing.
-pub fn normal_form(table: &[u8], text: &mut [u8]) -> NormalAnswer
-    ensures answer { λ r. ⌜ r ≡ normalForm (now (table .entry)) (now (text .entry)) .answer ⌝ }
-    ensures text { λ _. ⌜ now (text .exit) ≡ normalForm (now (table .entry)) (now (text .entry)) .buffer ⌝ }
+// Writes the normal text of a table in a dialect to the front of a buffer; where it is refused, writes nothing.
+pub fn normal_form(table: &[u8], dialect: Dialect, text: &mut [u8]) -> NormalAnswer
+    ensures answer { λ r. ⌜ r ≡ normalForm dialect (now (table .entry)) (now (text .entry)) .answer ⌝ }
+    ensures text { λ _. ⌜ now (text .exit) ≡ normalForm dialect (now (table .entry)) (now (text .entry)) .buffer ⌝ }
 {
-    match table::measure(table) {
+    match table::measure(table, dialect) {
         NormalAnswer::Written { size } => {
             if text.len() < size {
                 return NormalAnswer::Refused { number: TOO_SHORT };
             }
-            table::write(table, text);
+            table::write(table, dialect, text);
             NormalAnswer::Written { size }
         }
         NormalAnswer::Refused { number } => NormalAnswer::Refused { number },

@@ -17,23 +17,26 @@ use crontab::Rules;
 use crontab::TABLE_TOO_LONG;
 use crontab::item;
 use crontab::item::Item;
-
-const OF_USER: Rules = Rules { kind: Kind::User };
+use field::Dialect;
 
 // What is answered where the buffer has room. The table's own refusal comes before a line that would be too long, wherever that stands.
-pub(crate) fn measure(s: &[u8]) -> NormalAnswer
-    ensures { λ r. ⌜ r ≡ measured (now (s .entry)) ⌝ }
+pub(crate) fn measure(s: &[u8], dialect: Dialect) -> NormalAnswer
+    ensures { λ r. ⌜ r ≡ measured dialect (now (s .entry)) ⌝ }
 {
     if MAX_TABLE < s.len() {
         return NormalAnswer::Refused {
             number: TABLE_TOO_LONG,
         };
     }
+    let rules = Rules {
+        kind: Kind::User,
+        dialect,
+    };
     let mut size: usize = 0;
     let mut short = true;
     let mut c = item::START;
     while c.at < s.len() {
-        let step = item::advance(s, OF_USER, c);
+        let step = item::advance(s, rules, c);
         c = step.next;
         let item = step.item;
         if let Item::Refused(fault) = item {
@@ -52,14 +55,18 @@ pub(crate) fn measure(s: &[u8]) -> NormalAnswer
 }
 
 // Writes the normal text of a good table to the front of a buffer that has room for it.
-pub(crate) fn write(s: &[u8], out: &mut [u8])
-    requires { ⌜ (tableOf ofUser (now s) .refusal ≡ 0) × (length (normalText (meaningOf (now s))) ≤ length (now out)) ⌝ }
-    ensures { λ _. ⌜ now (out .exit) ≡ laid (normalText (meaningOf (now (s .entry)))) (now (out .entry)) ⌝ }
+pub(crate) fn write(s: &[u8], dialect: Dialect, out: &mut [u8])
+    requires { ⌜ (tableOf (ofUser dialect) (now s) .refusal ≡ 0) × (length (normalText (meaningOf dialect (now s))) ≤ length (now out)) ⌝ }
+    ensures { λ _. ⌜ now (out .exit) ≡ laid (normalText (meaningOf dialect (now (s .entry)))) (now (out .entry)) ⌝ }
 {
+    let rules = Rules {
+        kind: Kind::User,
+        dialect,
+    };
     let mut at = 0;
     let mut c = item::START;
     while c.at < s.len() {
-        let step = item::advance(s, OF_USER, c);
+        let step = item::advance(s, rules, c);
         c = step.next;
         let item = step.item;
         at = line::write(s, item, out, at);

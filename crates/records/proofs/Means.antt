@@ -12,6 +12,7 @@ use borrow.Author.Tests.{lt-leb, leb-true, ltb-true, eqb-true, eqb-false}
 use Rattle.bytes.specs.declared.class.Class.the-variants.{InLine}
 use Rattle.bytes.specs.Runs.{areOf, between}
 use Rattle.bytes.proofs.LittleEndian.{Bytes, length-littleEndian}
+use Rattle.field.specs.declared.Dialect.{Dialect}
 use Rattle.normal.specs.Meanings.{Item, setting, boot, timed, lineItems}
 use Rattle.normal.specs.Texts.{itemText}
 use Rattle.normal.specs.Proper.{isSchedule, isCommand, isItem, areItems}
@@ -154,33 +155,33 @@ encodable (setting name value) proper short =
     omega (arith, simp (length-append, length-littleEndian) at short)
 
 -- a line that means an item is that item's
-proper-line : (line : List ℕ) (i : Item) → areOf InLine line ≡ true → lineItems line ≡ i ∷ [] → isItem i ≡ true
+proper-line : (d : Dialect) (line : List ℕ) (i : Item) → areOf InLine line ≡ true → lineItems d line ≡ i ∷ [] → isItem i ≡ true
 unfolding areItems
-proper-line line i clean e = and-eq-true-iff (isItem i) true .0 (rw e at (line-proper line clean)) .0
+proper-line d line i clean e = and-eq-true-iff (isItem i) true .0 (rw e at (line-proper d line clean)) .0
 
 module _ (kind : ℕ) (body : List ℕ) (bytes : Bytes body) (short : length body ≤ longestBody) where
   -- a line's item is the one that is meant
-  pub line-means : (line : List ℕ) (m : LineMeans kind body line) → contentOf kind body ≡ means (m .item)
-  line-means line m =
-      let proper = proper-line line (m .item) (m .clean) (m .items) in
+  pub line-means : (d : Dialect) (line : List ℕ) (m : LineMeans d kind body line) → contentOf kind body ≡ means (m .item)
+  line-means d line m =
+      let proper = proper-line d line (m .item) (m .clean) (m .items) in
       let small : length (bodyOf (m .item)) ≤ longestBody = rw (m .same-body) short in
       rw (← (m .same-kind), ← (m .same-body)) (body-back (m .item) (encodable (m .item) proper small) ∙ rw proper)
 
   -- and each that is meant has a line
-  pub means-line : (i : Item) → contentOf kind body ≡ means i → LineMeans kind body (itemText i)
-  means-line i e =
+  pub means-line : (d : Dialect) (i : Item) → contentOf kind body ≡ means i → LineMeans d kind body (itemText i)
+  means-line d i e =
       let b = body-of body i bytes kind e in
       record {
         clean = item-clean i (b .proper);
         item = i;
-        items = line-back i (b .proper);
+        items = line-back d i (b .proper);
         same-kind = b .same-kind;
         same-body = b .same-body;
       }
 
-  pub no-line : contentOf kind body ≡ refused meaningless → (line : List ℕ) → LineMeans kind body line → ⊥
-  no-line e line m = false≢true (ap isMeaning (sym e ∙ line-means line m))
+  pub no-line : (d : Dialect) → contentOf kind body ≡ refused meaningless → (line : List ℕ) → LineMeans d kind body line → ⊥
+  no-line d e line m = false≢true (ap isMeaning (sym e ∙ line-means d line m))
 
-  pub no-line-back : 1 ≤ kind → kind ≤ 4 → ((line : List ℕ) → LineMeans kind body line → ⊥) → contentOf kind body ≡ refused meaningless
-  no-line-back low high none =
-      elim (content-told kind body low high) [ inl e ↦ e | inr (i, e) ↦ absurd (none (itemText i) (means-line i e)) ]
+  pub no-line-back : (d : Dialect) → 1 ≤ kind → kind ≤ 4 → ((line : List ℕ) → LineMeans d kind body line → ⊥) → contentOf kind body ≡ refused meaningless
+  no-line-back d low high none =
+      elim (content-told kind body low high) [ inl e ↦ e | inr (i, e) ↦ absurd (none (itemText i) (means-line d i e)) ]

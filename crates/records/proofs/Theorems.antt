@@ -21,13 +21,14 @@ use Rattle.bytes.specs.declared.class.Class.the-variants.{Not}
 use Rattle.bytes.specs.Runs.{areOf}
 use Rattle.bytes.specs.Laid.{laid}
 use Rattle.bytes.proofs.LittleEndian.{Bytes, length-littleEndian}
+use Rattle.field.specs.declared.Dialect.{Dialect}
 use Rattle.crontab.specs.Limits.{maxTable, maxLine, maxEntries}
 use Rattle.crontab.specs.Tables.{tableOf}
 use Rattle.normal.specs.declared.NormalAnswer.the-variants.{Written, Refused}
 use Rattle.normal.specs.Meanings.{Item, setting, boot, timed, entriesIn, ofUser, meaningOf}
 use Rattle.normal.specs.Texts.{doubleQuote, singleQuote, inQuotes, isBareName, isBareValue, quoted, nameText, valueText, itemText, normalText, areShort, fits}
 use Rattle.normal.specs.NormalForms.{NormalForm, refusedForm, laidForm, formOf, normalForm}
-use Rattle.normal.proofs.Theorems.{schedule-long, FormTold, refused-told, laid-told, items-told, fits-parts, meaning-proper, meaning-few, read-back, written-good, written-means}
+use Rattle.normal.proofs.Theorems.{schedule-long, FormTold, refused-told, laid-told, items-told, fits-parts, meaning-proper, meaning-few, normal-in-either, written-good, written-means}
 use Rattle.normal.specs.Proper.{isSchedule, isCommand, isName, isValue, isItem, areItems}
 use Rattle.crontab.specs.Offsets.{mayStand}
 use Rattle.records.proofs.Packing.{schedule-size}
@@ -42,11 +43,11 @@ use Rattle.records.proofs.Saids.{Alike, kept-alike, sent-said, Says, Se
 
 -- ---- 24
 
--- "a body no table line of any length could mean"
-pub means-no-line : (kind : ℕ) (body : List ℕ) → Bytes body → length body ≤ longestBody → 1 ≤ kind → kind ≤ 4
-    → (contentOf kind body ≡ refused meaningless → (line : List ℕ) → LineMeans kind body line → ⊥)
-    × (((line : List ℕ) → LineMeans kind body line → ⊥) → contentOf kind body ≡ refused meaningless)
-means-no-line kind body bytes short low high = (no-line kind body bytes short, no-line-back kind body bytes short low high)
+-- "a body no table line of any length could mean", in either dialect
+pub means-no-line : (d : Dialect) (kind : ℕ) (body : List ℕ) → Bytes body → length body ≤ longestBody → 1 ≤ kind → kind ≤ 4
+    → (contentOf kind body ≡ refused meaningless → (line : List ℕ) → LineMeans d kind body line → ⊥)
+    × (((line : List ℕ) → LineMeans d kind body line → ⊥) → contentOf kind body ≡ refused meaningless)
+means-no-line d kind body bytes short low high = (no-line kind body bytes short d, no-line-back kind body bytes short d low high)
 
 -- ---- what is read
 
@@ -96,9 +97,9 @@ short-sendable (i ∷ is) e =
     (omega (arith, body-short i, leb-true (length (itemText i)) maxLine (t .0)), short-sendable is (t .1))
 
 -- a good table's records say what it means
-pub table-said : (s : List ℕ) → tableOf ofUser s .refusal ≡ 0 → fits (meaningOf s) ≡ true → Says (saidOf (recordsOf (meaningOf s))) (meaningOf s)
+pub table-said : (d : Dialect) (s : List ℕ) → tableOf (ofUser d) s .refusal ≡ 0 → fits (meaningOf d s) ≡ true → Says (saidOf (recordsOf (meaningOf d s))) (meaningOf d s)
 unfolding saidOf
-table-said s good fit = items-said 1 (meaningOf s) (meaning-proper s good) (short-sendable (meaningOf s) (fits-parts (meaningOf s) fit .short))
+table-said d s good fit = items-said 1 (meaningOf d s) (meaning-proper d s good) (short-sendable (meaningOf d s) (fits-parts (meaningOf d s) fit .short))
 
 -- ---- by the answers
 
@@ -119,22 +120,22 @@ unfolding refusedForm
 refused-none number buffer e = let z : _≡_ {A = ℕ} 1 0 = cc in absurd (omega arith)
 
 -- the writer
-record Compiled (s buffer : List ℕ) (size : ℕ) : Type 0 where
-  good : tableOf ofUser s .refusal ≡ 0
-  fit : fits (meaningOf s) ≡ true
-  bytes : take size (compiled s buffer .buffer) ≡ recordsOf (meaningOf s)
+record Compiled (d : Dialect) (s buffer : List ℕ) (size : ℕ) : Type 0 where
+  good : tableOf (ofUser d) s .refusal ≡ 0
+  fit : fits (meaningOf d s) ≡ true
+  bytes : take size (compiled d s buffer .buffer) ≡ recordsOf (meaningOf d s)
 
-compiled-so : (s buffer : List ℕ) (size : ℕ) → compiled s buffer .answer ≡ Written size → Compiled s buffer size
+compiled-so : (d : Dialect) (s buffer : List ℕ) (size : ℕ) → compiled d s buffer .answer ≡ Written size → Compiled d s buffer size
 unfolding compiled
-compiled-so s buffer size = go (eqb (tableOf ofUser s .refusal) 0) (fits (meaningOf s)) refl refl
+compiled-so d s buffer size = go (eqb (tableOf (ofUser d) s .refusal) 0) (fits (meaningOf d s)) refl refl
   where
-    go : (a b : Bool) → eqb (tableOf ofUser s .refusal) 0 ≡ a → fits (meaningOf s) ≡ b
-        → cond a (cond b (laidForm (recordsOf (meaningOf s)) buffer) (refusedForm 21 buffer)) (refusedForm (tableOf ofUser s .refusal) buffer) .answer ≡ Written size
-        → Compiled s buffer size
+    go : (a b : Bool) → eqb (tableOf (ofUser d) s .refusal) 0 ≡ a → fits (meaningOf d s) ≡ b
+        → cond a (cond b (laidForm (recordsOf (meaningOf d s)) buffer) (refusedForm 21 buffer)) (refusedForm (tableOf (ofUser d) s .refusal) buffer) .answer ≡ Written size
+        → Compiled d s buffer size
     go true true p q e =
-        record { good = eqb-true (tableOf ofUser s .refusal) 0 p; fit = q; bytes = rw (p, q) (laid-wrote (recordsOf (meaningOf s)) buffer size e) }
+        record { good = eqb-true (tableOf (ofUser d) s .refusal) 0 p; fit = q; bytes = rw (p, q) (laid-wrote (recordsOf (meaningOf d s)) buffer size e) }
     go true false p q e = refused-none 21 buffer e
-    go false b p q e = refused-none (tableOf ofUser s .refusal) buffer e
+    go false b p q e = refused-none (tableOf (ofUser d) s .refusal) buffer e
 
 -- the reader
 record Decompiled (s buffer : List ℕ) (size : ℕ) : Type 0 where
@@ -167,58 +168,58 @@ decompiled-so s buffer size = go (eqb (refusalSaid (saidOf s)) 0) (leb (entriesI
 -- ---- each way leads back
 
 -- what is read of items that are few
-few-form : (s buffer : List ℕ) → tableOf ofUser s .refusal ≡ 0 → textOf (meaningOf s) buffer ≡ normalForm s buffer
+few-form : (d : Dialect) (s buffer : List ℕ) → tableOf (ofUser d) s .refusal ≡ 0 → textOf (meaningOf d s) buffer ≡ normalForm d s buffer
 unfolding textOf normalForm
-few-form s buffer good = rw (le-leb (entriesIn (meaningOf s)) maxEntries (meaning-few s good), good)
+few-form d s buffer good = rw (le-leb (entriesIn (meaningOf d s)) maxEntries (meaning-few d s good), good)
 
 -- "the reader gives its normal text": whatever the answer of the reader, it is that of the normal form
-pub decompile-compile : (s records text : List ℕ) (size : ℕ) → compiled s records .answer ≡ Written size
-    → decompiled (take size (compiled s records .buffer)) text ≡ normalForm s text
-decompile-compile s records text size e =
-    let w = compiled-so s records size e in
-    rw (w .bytes) (said-form (recordsOf (meaningOf s)) text (meaningOf s) (table-said s (w .good) (w .fit)) ∙ few-form s text (w .good))
+pub decompile-compile : (d : Dialect) (s records text : List ℕ) (size : ℕ) → compiled d s records .answer ≡ Written size
+    → decompiled (take size (compiled d s records .buffer)) text ≡ normalForm d s text
+decompile-compile d s records text size e =
+    let w = compiled-so d s records size e in
+    rw (w .bytes) (said-form (recordsOf (meaningOf d s)) text (meaningOf d s) (table-said d s (w .good) (w .fit)) ∙ few-form d s text (w .good))
 
 -- and where the text has room, it is read: the writer makes nothing that the reader refuses
-pub decompile-written : (s records text : List ℕ) (size : ℕ) → compiled s records .answer ≡ Written size
-    → length (normalText (meaningOf s)) ≤ length text
-    → decompiled (take size (compiled s records .buffer)) text .answer ≡ Written (length (normalText (meaningOf s)))
+pub decompile-written : (d : Dialect) (s records text : List ℕ) (size : ℕ) → compiled d s records .answer ≡ Written size
+    → length (normalText (meaningOf d s)) ≤ length text
+    → decompiled (take size (compiled d s records .buffer)) text .answer ≡ Written (length (normalText (meaningOf d s)))
 unfolding normalForm formOf laidForm
-decompile-written s records text size e room =
-    let w = compiled-so s records size e in
-    rw (decompile-compile s records text size e, w .good, w .fit, le-leb (length (normalText (meaningOf s))) (length text) room)
+decompile-written d s records text size e room =
+    let w = compiled-so d s records size e in
+    rw (decompile-compile d s records text size e, w .good, w .fit, le-leb (length (normalText (meaningOf d s))) (length text) room)
 
--- tables that mean the same have the same records
-pub equal-records : (s t buffer : List ℕ) → tableOf ofUser s .refusal ≡ 0 → tableOf ofUser t .refusal ≡ 0 → meaningOf s ≡ meaningOf t
-    → compiled s buffer ≡ compiled t buffer
+-- tables that mean the same have the same records, whatever their dialects
+pub equal-records : (d e : Dialect) (s t buffer : List ℕ) → tableOf (ofUser d) s .refusal ≡ 0 → tableOf (ofUser e) t .refusal ≡ 0 → meaningOf d s ≡ meaningOf e t
+    → compiled d s buffer ≡ compiled e t buffer
 unfolding compiled
-equal-records s t buffer p q e = rw (p, q, e)
+equal-records d e s t buffer p q same = rw (p, q, same)
 
--- "exact inverses on what the writer makes": the text of a table's records is compiled to the same records
-pub compile-decompile : (s records text again : List ℕ) (size size' : ℕ) → compiled s records .answer ≡ Written size
-    → decompiled (take size (compiled s records .buffer)) text .answer ≡ Written size'
-    → compiled (take size' (decompiled (take size (compiled s records .buffer)) text .buffer)) again ≡ compiled s again
-compile-decompile s records text again size size' e f =
-    let w = compiled-so s records size e in
-    let d = decompiled-so (take size (compiled s records .buffer)) text size' f in
-    let items : itemsSaid (saidOf (take size (compiled s records .buffer))) ≡ meaningOf s = rw (w .bytes) (table-said s (w .good) (w .fit) .items) in
-    let back = read-back s (w .good) (w .fit) in
-    rw (d .bytes, items) (equal-records (normalText (meaningOf s)) s again (back .0) (w .good) (back .1))
+-- "exact inverses on what the writer makes": the text of a table's records is compiled to the same records, in either dialect
+pub compile-decompile : (d e : Dialect) (s records text again : List ℕ) (size size' : ℕ) → compiled d s records .answer ≡ Written size
+    → decompiled (take size (compiled d s records .buffer)) text .answer ≡ Written size'
+    → compiled e (take size' (decompiled (take size (compiled d s records .buffer)) text .buffer)) again ≡ compiled d s again
+compile-decompile d e s records text again size size' p q =
+    let w = compiled-so d s records size p in
+    let r = decompiled-so (take size (compiled d s records .buffer)) text size' q in
+    let items : itemsSaid (saidOf (take size (compiled d s records .buffer))) ≡ meaningOf d s = rw (w .bytes) (table-said d s (w .good) (w .fit) .items) in
+    let back = normal-in-either d e s (w .good) (w .fit) in
+    rw (r .bytes, items) (equal-records e d (normalText (meaningOf d s)) s again (back .0) (w .good) (back .1))
 
 -- ---- a later writer
 
 -- "shows exactly its entries, in order and with their true meaning, or refuses": where the reader writes a text, that is a good table which means them,
 -- and all else that was sent changes no entry
-pub later-writer : (xs : List Sent) (text : List ℕ) (size : ℕ) → Writer xs → decompiled (bytesOf (asRecords xs)) text .answer ≡ Written size
+pub later-writer : (d : Dialect) (xs : List Sent) (text : List ℕ) (size : ℕ) → Writer xs → decompiled (bytesOf (asRecords xs)) text .answer ≡ Written size
     → let shown = take size (decompiled (bytesOf (asRecords xs)) text .buffer) in
-    (tableOf ofUser shown .refusal ≡ 0) × (meaningOf shown ≡ itemsSent xs) × ChangesNone xs
+    (tableOf (ofUser d) shown .refusal ≡ 0) × (meaningOf d shown ≡ itemsSent xs) × ChangesNone xs
 unfolding saidOf
-later-writer xs text size w e =
-    let d = decompiled-so (bytesOf (asRecords xs)) text size e in
-    let m = sent-said 1 xs w (d .whole) in
-    let f = fits-parts (itemsSaid (saidOf (bytesOf (asRecords xs)))) (d .fit) in
-    rw (d .bytes) (
-      written-good (itemsSaid (saidOf (bytesOf (asRecords xs)))) (m .proper) (f .short) (f .small) (d .few),
-      written-means (itemsSaid (saidOf (bytesOf (asRecords xs)))) (m .proper) (f .short) (f .small) (d .few) ∙ m .items,
+later-writer d xs text size w e =
+    let r = decompiled-so (bytesOf (asRecords xs)) text size e in
+    let m = sent-said 1 xs w (r .whole) in
+    let f = fits-parts (itemsSaid (saidOf (bytesOf (asRecords xs)))) (r .fit) in
+    rw (r .bytes) (
+      written-good d (itemsSaid (saidOf (bytesOf (asRecords xs)))) (m .proper) (f .short) (f .small) (r .few),
+      written-means d (itemsSaid (saidOf (bytesOf (asRecords xs)))) (m .proper) (f .short) (f .small) (r .few) ∙ m .items,
       m .none,
     )
 
@@ -248,15 +249,15 @@ records-short (i ∷ is) e =
 abbrev pub mostRecords : ℕ
 mostRecords = 114688
 
-pub compiled-told : (s buffer : List ℕ) → FormTold mostRecords buffer (compiled s buffer)
+pub compiled-told : (d : Dialect) (s buffer : List ℕ) → FormTold mostRecords buffer (compiled d s buffer)
 unfolding compiled
-compiled-told s buffer = go (eqb (tableOf ofUser s .refusal) 0) (fits (meaningOf s)) refl refl
+compiled-told d s buffer = go (eqb (tableOf (ofUser d) s .refusal) 0) (fits (meaningOf d s)) refl refl
   where
-    go : (a b : Bool) → eqb (tableOf ofUser s .refusal) 0 ≡ a → fits (meaningOf s) ≡ b
-        → FormTold mostRecords buffer (cond a (cond b (laidForm (recordsOf (meaningOf s)) buffer) (refusedForm 21 buffer)) (refusedForm (tableOf ofUser s .refusal) buffer))
-    go true true p q = laid-told mostRecords (recordsOf (meaningOf s)) buffer (omega (arith, records-short (meaningOf s) (meaning-proper s (eqb-true (tableOf ofUser s .refusal) 0 p)), fits-parts (meaningOf s) q .small))
+    go : (a b : Bool) → eqb (tableOf (ofUser d) s .refusal) 0 ≡ a → fits (meaningOf d s) ≡ b
+        → FormTold mostRecords buffer (cond a (cond b (laidForm (recordsOf (meaningOf d s)) buffer) (refusedForm 21 buffer)) (refusedForm (tableOf (ofUser d) s .refusal) buffer))
+    go true true p q = laid-told mostRecords (recordsOf (meaningOf d s)) buffer (omega (arith, records-short (meaningOf d s) (meaning-proper d s (eqb-true (tableOf (ofUser d) s .refusal) 0 p)), fits-parts (meaningOf d s) q .small))
     go true false p q = refused-told mostRecords 21 buffer (omega arith)
-    go false b p q = refused-told mostRecords (tableOf ofUser s .refusal) buffer (omega (arith, eqb-false (tableOf ofUser s .refusal) 0 p))
+    go false b p q = refused-told mostRecords (tableOf (ofUser d) s .refusal) buffer (omega (arith, eqb-false (tableOf (ofUser d) s .refusal) 0 p))
 
 pub decompiled-told : (s buffer : List ℕ) → FormTold maxTable buffer (decompiled s buffer)
 unfolding decompiled textOf

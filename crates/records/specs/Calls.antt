@@ -1,11 +1,12 @@
 -- Ticket 2026-08: "the writer takes a user table (refusals: table, 21 as in 2026-06, 18), the reader gives its normal text". The reader's refusals
 -- are those of the first bad record, "then 12, 21, 18". What is written goes to the front of a lent buffer, and the bytes behind stay; refused, no byte is
--- written.
+-- written. Ticket 2026-13: the table is read in a dialect, and the text reads the same in either.
 -- Assumes nothing.
 use Prim.Native.Nat.{ℕ}
 use mathlib.Core.Bool.{cond}
 use mathlib.Core.List.{List}
 use lib.Dec.{eqb, leb}
+use Rattle.field.specs.declared.Dialect.{Dialect}
 use Rattle.crontab.specs.Limits.{maxEntries}
 use Rattle.crontab.specs.Refusals.{tooManyEntries}
 use Rattle.crontab.specs.Tables.{tableOf}
@@ -18,10 +19,10 @@ use Rattle.records.specs.Readings.{saidOf, itemsSaid, refusalSaid, fault
 
 -- ---- the writer: a table's bytes, and a buffer for records
 
-unfoldable pub compiled : List ℕ → List ℕ → NormalForm
-compiled s buffer =
-    let refusal = tableOf ofUser s .refusal in
-    let items = meaningOf s in
+unfoldable pub compiled : Dialect → List ℕ → List ℕ → NormalForm
+compiled d s buffer =
+    let refusal = tableOf (ofUser d) s .refusal in
+    let items = meaningOf d s in
     cond (eqb refusal 0) (cond (fits items) (laidForm (recordsOf items) buffer) (refusedForm tooLong buffer)) (refusedForm refusal buffer)
 
 -- ---- the reader: bytes as records, and a buffer for the text

@@ -6,6 +6,7 @@ use Prim.Native.Nat.{ℕ, zero, suc}
 use lib.ListN.{take, drop, replicate}
 use Rattle.bytes.specs.Texts.{text}
 use Rattle.bytes.specs.Rows.{Hold}
+use Rattle.field.specs.declared.Dialect.the-variants.{Rising}
 use Rattle.normal.specs.declared.NormalAnswer.{NormalAnswer}
 use Rattle.normal.specs.declared.NormalAnswer.the-variants.{Written, Refused}
 use Rattle.normal.specs.Meanings.{meaningOf}
@@ -16,7 +17,7 @@ use Rattle.records.specs.Computing.{coding}
 -- ---- the writer
 
 abbrev records : List ℕ → List ℕ
-records s = recordsOf (meaningOf s)
+records s = recordsOf (meaningOf Rising s)
 
 -- length 23 and kind 1; minute 5, hour 4, days 1 to 31, months 1 to 12, weekdays 0 to 6; stars of day, month and weekday; the command
 abbrev morning : List ℕ
@@ -76,7 +77,7 @@ abbrev long : ℕ → List ℕ
 long n = text "0-59 * * * * " ++ replicate n 97
 
 abbrev compile : List ℕ × List ℕ → NormalAnswer × List ℕ
-compile (s, buffer) = let f = compiled s buffer in (f .answer, f .buffer)
+compile (s, buffer) = let f = compiled Rising s buffer in (f .answer, f .buffer)
 
 calls : Hold compile
     (((text "@reboot x\n", text "123456"), (Written 5, 3 ∷ 0 ∷ 2 ∷ 0 ∷ 120 ∷ text "6"))

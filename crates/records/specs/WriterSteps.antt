@@ -5,6 +5,7 @@ use mathlib.Core.List.{List, [], _++_}
 use lib.ListN.{length}
 use Rattle.bytes.specs.Runs.{between}
 use Rattle.bytes.specs.LittleEndian.{littleEndian}
+use Rattle.field.specs.declared.Dialect.{Dialect}
 use Rattle.crontab.specs.declared.item.Item as line
 use Rattle.crontab.specs.declared.item.Item.the-variants.{Nothing, Setting, Entry, Refused}
 use Rattle.crontab.specs.Settings.{partBytes}
@@ -36,5 +37,5 @@ resized n (answer.Written size) = answer.Written n
 resized n (answer.Refused number) = answer.Refused number
 
 -- what is answered where the buffer has room
-unfoldable pub packedSize : List ℕ → NormalAnswer
-packedSize s = resized (length (recordsOf (meaningOf s))) (measured s)
+unfoldable pub packedSize : Dialect → List ℕ → NormalAnswer
+packedSize d s = resized (length (recordsOf (meaningOf d s))) (measured d s)

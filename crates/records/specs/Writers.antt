@@ -10,6 +10,7 @@ use lib.Dec.{leb}
 use Rattle.bytes.specs.declared.class.Class.the-variants.{InLine}
 use Rattle.bytes.specs.Runs.{areOf}
 use Rattle.bytes.specs.LittleEndian.{width}
+use Rattle.field.specs.declared.Dialect.{Dialect}
 use Rattle.schedule.specs.declared.Schedule.{Schedule}
 use Rattle.normal.specs.Meanings.{Item, setting, boot, timed, lineItems}
 use Rattle.records.specs.Formats.{recordOf, kindOf, bodyOf}
@@ -17,11 +18,11 @@ use Rattle.records.specs.Readings.{skippedFrom}
 
 -- ---- a line, whatever its length
 
--- it means the item of that kind and body
-pub record LineMeans (kind : ℕ) (body line : List ℕ) : Type 0 where
+-- in a dialect it means the item of that kind and body
+pub record LineMeans (d : Dialect) (kind : ℕ) (body line : List ℕ) : Type 0 where
   pub clean : areOf InLine line ≡ true
   pub item : Item
-  pub items : lineItems line ≡ item ∷ []
+  pub items : lineItems d line ≡ item ∷ []
   pub same-kind : kindOf item ≡ kind
   pub same-body : bodyOf item ≡ body
 

@@ -16,28 +16,31 @@ use crontab::Rules;
 use crontab::TABLE_TOO_LONG;
 use crontab::item;
 use crontab::item::Item;
+use field::Dialect;
 use normal::NormalAnswer;
 use normal::TOO_LONG;
 use normal::TOO_SHORT;
 use normal::line;
 
-const OF_USER: Rules = Rules { kind: Kind::User };
-
 // What is answered where the buffer has room. The table's own refusal comes before a line that would be too long, wherever that stands.
-fn measure(s: &[u8]) -> NormalAnswer
-    ensures { λ r. ⌜ r ≡ packedSize (now (s .entry)) ⌝ }
+fn measure(s: &[u8], dialect: Dialect) -> NormalAnswer
+    ensures { λ r. ⌜ r ≡ packedSize dialect (now (s .entry)) ⌝ }
 {
     if MAX_TABLE < s.len() {
         return NormalAnswer::Refused {
             number: TABLE_TOO_LONG,
         };
     }
+    let rules = Rules {
+        kind: Kind::User,
+        dialect,
+    };
     let mut text: usize = 0;
     let mut size: usize = 0;
     let mut short = true;
     let mut c = item::START;
     while c.at < s.len() {
-        let step = item::advance(s, OF_USER, c);
+        let step = item::advance(s, rules, c);
         c = step.next;
         let item = step.item;
         if let Item::Refused(fault) = item {
@@ -57,31 +60,35 @@ fn measure(s: &[u8]) -> NormalAnswer
 }
 
 // Writes the records of a good table to the front of a buffer that has room for them.
-fn write(s: &[u8], out: &mut [u8])
-    requires { ⌜ (tableOf ofUser (now s) .refusal ≡ 0) × (length (recordsOf (meaningOf (now s))) ≤ length (now out)) ⌝ }
-    ensures { λ _. ⌜ now (out .exit) ≡ laid (recordsOf (meaningOf (now (s .entry)))) (now (out .entry)) ⌝ }
+fn write(s: &[u8], dialect: Dialect, out: &mut [u8])
+    requires { ⌜ (tableOf (ofUser dialect) (now s) .refusal ≡ 0) × (length (recordsOf (meaningOf dialect (now s))) ≤ length (now out)) ⌝ }
+    ensures { λ _. ⌜ now (out .exit) ≡ laid (recordsOf (meaningOf dialect (now (s .entry)))) (now (out .entry)) ⌝ }
 {
+    let rules = Rules {
+        kind: Kind::User,
+        dialect,
+    };
     let mut at = 0;
     let mut c = item::START;
     while c.at < s.len() {
-        let step = item::advance(s, OF_USER, c);
+        let step = item::advance(s, rules, c);
         c = step.next;
         let item = step.item;
         at = pack::write_record(s, item, out, at);
     }
 }
 
-// Writes a table's records to the front of a buffer; where it is refused, writes nothing.
-pub fn compile(table: &[u8], records: &mut [u8]) -> NormalAnswer
-    ensures answer { λ r. ⌜ r ≡ compiled (now (table .entry)) (now (records .entry)) .answer ⌝ }
-    ensures records { λ _. ⌜ now (records .exit) ≡ compiled (now (table .entry)) (now (records .entry)) .buffer ⌝ }
+// Writes the records of a table in a dialect to the front of a buffer; where it is refused, writes nothing.
+pub fn compile(table: &[u8], dialect: Dialect, records: &mut [u8]) -> NormalAnswer
+    ensures answer { λ r. ⌜ r ≡ compiled dialect (now (table .entry)) (now (records .entry)) .answer ⌝ }
+    ensures records { λ _. ⌜ now (records .exit) ≡ compiled dialect (now (table .entry)) (now (records .entry)) .buffer ⌝ }
 {
-    match measure(table) {
+    match measure(table, dialect) {
         NormalAnswer::Written { size } => {
             if records.len() < size {
                 return NormalAnswer::Refused { number: TOO_SHORT };
             }
-            write(table, records);
+            write(table, dialect, records);
             NormalAnswer::Written { size }
         }
         NormalAnswer::Refused { number } => NormalAnswer::Refused { number },

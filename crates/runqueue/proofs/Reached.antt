@@ -18,6 +18,7 @@ use Rattle.schedule.specs.Local.{matchesIn, nextAfterIn}
 use Rattle.schedule.specs.Jumps.{caseOf, judged, markAfter}
 use Rattle.schedule.proofs.Theorems.{gap-reached, utc-next, next-is-in, case-after, case-held}
 use Rattle.crontab.specs.declared.Rules.{Rules}
+use Rattle.field.specs.declared.Dialect.the-variants.{Rising}
 use Rattle.crontab.specs.declared.Kind.the-variants.{User}
 use Rattle.crontab.specs.declared.time.When.the-variants.{Timed}
 use Rattle.crontab.specs.declared.entry.Entry.{Entry}
@@ -37,7 +38,7 @@ use Rattle.runqueue.proofs.TableJobs.{few}
 use Rattle.runqueue.proofs.TableFair.{table-fair-steady}
 
 abbrev jobs : Jobs
-jobs = jobsIn (record { kind = User }) leapSundays
+jobs = jobsIn (record { kind = User; dialect = Rising }) leapSundays
 
 -- ---- the table
 
@@ -48,7 +49,7 @@ count-is : jobs .count ≡ 1
 unfolding jobsOf reading
 count-is = refl
 
-entry-is : jobAt (tableOf (record { kind = User }) leapSundays) 0 ≡ entry
+entry-is : jobAt (tableOf (record { kind = User; dialect = Rising }) leapSundays) 0 ≡ entry
 unfolding jobAt entry reading schedule.schedules
 entry-is = refl
 
@@ -105,7 +106,7 @@ begins = rw (count-is, timed, fires-first)
 
 -- ---- the claim
 
-can-fire : CanFire (record { kind = User }) leapSundays 0
+can-fire : CanFire (record { kind = User; dialect = Rising }) leapSundays 0
 unfolding entry schedule.schedules
 can-fire =
     record {
@@ -116,11 +117,11 @@ can-fire =
       matched = rw entry-is;
     }
 
-bound-is : boundFrom (record { kind = User }) leapSundays 0 62147340 ≡ 21037140
+bound-is : boundFrom (record { kind = User; dialect = Rising }) leapSundays 0 62147340 ≡ 21037140
 unfolding entry
 bound-is = rw (count-is, entry-is)
 
-on-calendar : OnCalendar (record { kind = User }) leapSundays 0 62147340
+on-calendar : OnCalendar (record { kind = User; dialect = Rising }) leapSundays 0 62147340
 unfolding entry
 on-calendar = record { utc = rw bound-is (omega arith); local = rw (bound-is, entry-is) (omega arith) }
 
@@ -129,7 +130,7 @@ none-before : (size : ℕ) (buffer : List ℕ) (n k : ℕ) → roomy 1 (take siz
     → Names jobs 0 (upTo k (callsOn jobs (bufferAfterAll jobs (started jobs size buffer) (steady size 62147520 1)) (steady size 62147341 n))) → ⊥
 unfolding callsOn callOn steady
 none-before size buffer n k r end some h =
-    let small = few (record { kind = User }) leapSundays in
+    let small = few (record { kind = User; dialect = Rising }) leapSundays in
     let room : roomy (jobs .count) (take size buffer) ≡ true = rw count-is r in
     let first = steady size 62147520 1 in
     let second = callsOn jobs (bufferAfterAll jobs (started jobs size buffer) first) (steady size 62147341 n) in
@@ -139,7 +140,7 @@ none-before size buffer n k r end some h =
 
 pub hold-reached : HoldReached
 hold-reached size buffer r =
-    let rules : Rules = record { kind = User } in
+    let rules : Rules = record { kind = User; dialect = Rising } in
     let n = boundFrom rules leapSundays 0 62147340 in
     let room : roomy (jobs .count) (take size buffer) ≡ true = rw count-is r in (
       can-fire,

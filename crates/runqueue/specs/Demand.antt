@@ -12,6 +12,7 @@ use Rattle.calendar.specs.Dates.{lastMinute, cycleMinutes}
 use Rattle.schedule.specs.Match.{matches}
 use Rattle.schedule.specs.Local.{ahead, gapIn}
 use Rattle.crontab.specs.declared.Rules.{Rules}
+use Rattle.field.specs.declared.Dialect.the-variants.{Rising}
 use Rattle.crontab.specs.declared.Kind.the-variants.{User}
 use Rattle.crontab.specs.declared.firing.DueAnswer.the-variants.{Yes, No}
 use Rattle.crontab.specs.Tables.{tableOf}
@@ -137,7 +138,7 @@ leapSundays = text "0 0 29 2 */7 a\n"
 abbrev pub HoldReached : Type 0
 HoldReached = (size : ℕ) (buffer : List ℕ)
     → let table = leapSundays in
-    let rules : Rules = record { kind = User } in
+    let rules : Rules = record { kind = User; dialect = Rising } in
     let jobs = jobsIn rules table in
     let t = 62147520 - 180 in
     let n = boundFrom rules table 0 t in

@@ -15,7 +15,7 @@ static void one(uint64_t places)
     uint32_t run[PLACES];
     uint64_t a = 0, answer;
     do {
-        answer = eremothyn_firings(table, length, EREMOTHYN_USER_TABLE, 0, a, LAST, run, places);
+        answer = eremothyn_firings(table, length, EREMOTHYN_USER_TABLE, EREMOTHYN_RISING, 0, a, LAST, run, places);
         if (EREMOTHYN_IS_REFUSED(answer)) {
             puts(eremothyn_words(EREMOTHYN_REFUSAL(answer)));
             return;
@@ -34,7 +34,8 @@ static void merged(uint64_t places)
     uint16_t entries[PLACES];
     uint64_t a = 0, answer;
     do {
-        answer = eremothyn_merged_firings(table, length, EREMOTHYN_USER_TABLE, a, LAST, minutes, places, entries, places);
+        answer = eremothyn_merged_firings(table, length, EREMOTHYN_USER_TABLE, EREMOTHYN_RISING, a, LAST, minutes, places,
+                                          entries, places);
         if (EREMOTHYN_IS_REFUSED(answer)) {
             puts(eremothyn_words(EREMOTHYN_REFUSAL(answer)));
             return;

@@ -17,38 +17,38 @@ static uint8_t records[EREMOTHYN_MAX_COMPILED], compiled[EREMOTHYN_MAX_COMPILED]
 static uint32_t minutes[PLACES];
 static uint16_t entries[PLACES];
 static size_t length, records_length;
-static uint64_t kind;
+static uint64_t kind, dialect;
 
-static void check(void) { eremothyn_check(table, length, kind); }
-static void fault_line(void) { eremothyn_fault_line(table, length, kind); }
-static void fault_column(void) { eremothyn_fault_column(table, length, kind); }
-static void due(void) { eremothyn_due(table, length, kind, 511, 0); }
-static void next(void) { eremothyn_next(table, length, kind, 511, 0); }
+static void check(void) { eremothyn_check(table, length, kind, dialect); }
+static void fault_line(void) { eremothyn_fault_line(table, length, kind, dialect); }
+static void fault_column(void) { eremothyn_fault_column(table, length, kind, dialect); }
+static void due(void) { eremothyn_due(table, length, kind, dialect, 511, 0); }
+static void next(void) { eremothyn_next(table, length, kind, dialect, 511, 0); }
 /* The minutes of a day: all entries wait for their turn, again and again. */
-static void firings(void) { eremothyn_firings(table, length, kind, 511, 0, 1440, minutes, PLACES); }
+static void firings(void) { eremothyn_firings(table, length, kind, dialect, 511, 0, 1440, minutes, PLACES); }
 static void merged_firings(void)
 {
-    eremothyn_merged_firings(table, length, kind, 0, 1440, minutes, PLACES, entries, PLACES);
+    eremothyn_merged_firings(table, length, kind, dialect, 0, 1440, minutes, PLACES, entries, PLACES);
 }
-static void stdin_length(void) { eremothyn_stdin_length(table, length, kind, 511); }
+static void stdin_length(void) { eremothyn_stdin_length(table, length, kind, dialect, 511); }
 static void split_command(void)
 {
-    eremothyn_split_command(table, length, kind, 511, shell, sizeof shell, input, sizeof input);
+    eremothyn_split_command(table, length, kind, dialect, 511, shell, sizeof shell, input, sizeof input);
 }
-static void user_offset(void) { eremothyn_user_offset(table, length, kind, 511); }
-static void setting_value_length(void) { eremothyn_setting_value_length(table, length, kind, 1); }
-static void normal_form(void) { eremothyn_normal_form(table, length, text, sizeof text); }
-static void compile(void) { eremothyn_compile(table, length, compiled, sizeof compiled); }
+static void user_offset(void) { eremothyn_user_offset(table, length, kind, dialect, 511); }
+static void setting_value_length(void) { eremothyn_setting_value_length(table, length, kind, dialect, 1); }
+static void normal_form(void) { eremothyn_normal_form(table, length, dialect, text, sizeof text); }
+static void compile(void) { eremothyn_compile(table, length, dialect, compiled, sizeof compiled); }
 static void decompile(void) { eremothyn_decompile(records, records_length, text, sizeof text); }
 static void record_fault(void) { eremothyn_record_fault(records, records_length); }
-static void queue_init(void) { eremothyn_queue_init(table, length, kind, room, sizeof room); }
+static void queue_init(void) { eremothyn_queue_init(table, length, kind, dialect, room, sizeof room); }
 /* The first minute is judged by itself, the second catches up. */
 static void queue_tick(void)
 {
-    eremothyn_queue_tick(table, length, kind, room, sizeof room, 0);
-    eremothyn_queue_tick(table, length, kind, room, sizeof room, 180);
+    eremothyn_queue_tick(table, length, kind, dialect, room, sizeof room, 0);
+    eremothyn_queue_tick(table, length, kind, dialect, room, sizeof room, 180);
 }
-static void queue_pop(void) { eremothyn_queue_pop(table, length, kind, room, sizeof room); }
+static void queue_pop(void) { eremothyn_queue_pop(table, length, kind, dialect, room, sizeof room); }
 static void minute_of_date(void) { eremothyn_minute_of_date(2000, 2, 29, 0, 0); }
 static void year(void) { eremothyn_year(15863040); }
 static void nothing(void) {}
@@ -106,7 +106,7 @@ static void fill(const char *line, size_t most)
         memcpy(table + length, line, size);
         length += size;
     }
-    uint64_t answer = eremothyn_compile(table, length, records, sizeof records);
+    uint64_t answer = eremothyn_compile(table, length, dialect, records, sizeof records);
     records_length = EREMOTHYN_IS_REFUSED(answer) ? length : answer;
     if (EREMOTHYN_IS_REFUSED(answer))
         memcpy(records, table, length);
@@ -127,6 +127,7 @@ int main(void)
     static const char *const lines[] = {
         "* * * * * u:g/c dome check%now\n",
         "@reboot u heaters on\n",
+        "50-9/3,40-20 22-5/2 25-5 nov-2 fri-sun u a%b\n",
         "1,4-9,11-59/2 0-5,7,9-23/3 1-15/2,20,25-31 1-6,8-12/2 0-2,mon-sun/2 u a\\%b%c\n",
         "NAME = \"a value\"\n",
         "CRON_TZ = \"-03:30\"\n",
@@ -135,13 +136,16 @@ int main(void)
         "x",
     };
     size_t most[CALLS] = {0};
-    for (kind = 0; kind < 2; kind++)
+    for (int rules = 0; rules < 4; rules++) {
+        kind = rules % 2;
+        dialect = rules / 2;
         for (size_t i = 0; i < sizeof lines / sizeof *lines; i++) {
             fill(lines[i], EREMOTHYN_MAX_ENTRIES);
             measure(most);
             fill(lines[i], EREMOTHYN_MAX_TABLE);
             measure(most);
         }
+    }
     for (size_t i = 0; i < CALLS; i++)
         printf("%s %zu\n", calls[i].name, most[i]);
     return 0;

@@ -1,7 +1,7 @@
 //! `eremothyn check`: what it says of good and bad tables, and of files that it can't read.
 
 use c::{complaint, told, word, Subcommand};
-use second::table::{read, samples, Kind};
+use second::table::{read, samples, Dialect, Kind, Rules};
 use std::path::PathBuf;
 
 fn check_in(folder: &str) -> Subcommand {
@@ -16,8 +16,8 @@ const FAULTS: [(u64, &str, &str, &str); 17] = [
     (3, "1:1", "\0", "the line has a byte 0"),
     (4, "1:4", "5 5", "fewer than five time fields"),
     (5, "2:3", "#\n0 5/2 * * * x", "not a time field: *, */step, or a list of n, n-m and n-m/step, with names for months and weekdays"),
-    (6, "1:1", "60 0 * * * x", "a number outside its limits: minute 0-59, hour 0-23, day 1-31, month 1-12, weekday 0-7"),
-    (7, "1:3", "0 10-9 * * * x", "a range from high to low"),
+    (6, "1:1", "60 0 * * * x", "a number outside its limits: minute 0-59, hour 0-23, day 1-31, month 1-12, weekday 0-7, or 0-6 in the wrapping dialect"),
+    (7, "1:3", "0 10-9 * * * x", "a range from high to low, which only the wrapping dialect has"),
     (8, "1:1", "*/0 0 * * * x", "a step of 0"),
     (9, "1:10", "0 0 * * *", "no command after the time, or in a system table after the user"),
     (10, "1:1", "@noon x", "not one of @reboot, @yearly, @annually, @monthly, @weekly, @daily, @midnight and @hourly"),
@@ -254,24 +254,24 @@ fn wrong_arguments_are_said() {
 #[test]
 fn it_says_what_the_second_program_says() {
     let check = check_in("check-random");
-    for (kind, option) in [(Kind::User, None), (Kind::System, Some("-s"))] {
-        compare_random(&check, kind, option);
+    for rules in Rules::ALL {
+        compare_random(&check, rules);
     }
 }
 
-fn compare_random(check: &Subcommand, kind: Kind, option: Option<&str>) {
+fn compare_random(check: &Subcommand, rules: Rules) {
     let mut random = second::random::Random::seeded();
     let mut paths = Vec::new();
     let mut expected = Vec::new();
     for i in 0..1000 {
-        let good = samples::table(&mut random, kind, i % 20);
+        let good = samples::table(&mut random, rules, i % 20);
         let table = match i % 4 {
             0 | 2 => good,
-            1 => samples::cut_table(&mut random, kind, 1 + i % 20),
+            1 => samples::cut_table(&mut random, rules, 1 + i % 20),
             _ => samples::mutated(&mut random, &good),
         };
         let path = check.write(&i.to_string(), &table);
-        expected.push(match read(&table, kind) {
+        expected.push(match read(&table, rules) {
             Ok(read) => format!("{}: {} entries", word(&path), read.entries.len()),
             Err(fault) => format!(
                 "{}:{}:{}: refused {}: ",
@@ -283,7 +283,9 @@ fn compare_random(check: &Subcommand, kind: Kind, option: Option<&str>) {
         });
         paths.push(path);
     }
-    paths.extend(option.map(PathBuf::from));
+    let kind = (rules.kind == Kind::System).then_some("-s");
+    let dialect = (rules.dialect == Dialect::Wrapping).then_some("--dialect=wrapping");
+    paths.extend([kind, dialect].into_iter().flatten().map(PathBuf::from));
     let (text, _) = told(&check.run(&paths));
     let lines: Vec<&str> = text.lines().collect();
     assert_eq!(lines.len(), expected.len());

@@ -5,8 +5,9 @@ use second::calendar::{date_of, minute_of, Date};
 use second::command::split;
 use second::queue::Queue;
 use second::table::offset::known;
-use second::table::{calls::Calls, read, Entry, Kind, Part, Setting, Table};
+use second::table::{calls::Calls, read, Dialect, Entry, Kind, Part, Rules, Setting, Table};
 use std::fs;
+use std::path::Path;
 
 const WEEKDAYS: [&str; 7] = ["Sun", "Mon", "Tue", "Wed", "Thu", "Fri", "Sat"];
 
@@ -31,11 +32,11 @@ fn local(entry: &Entry, minute: u64) -> String {
 }
 
 /// What the daemon's log says of a table, a pace and spans of minutes.
-fn log(bytes: &[u8], kind: Kind, pace: u64, spans: &[(u64, u64)]) -> Vec<String> {
-    let table = read(bytes, kind).expect("a good table");
+fn log(bytes: &[u8], rules: Rules, pace: u64, spans: &[(u64, u64)]) -> Vec<String> {
+    let table = read(bytes, rules).expect("a good table");
     let mut queue = Queue::fresh(&table);
     let first = spans[0].0;
-    let mut log = opening(bytes, kind, &table, first);
+    let mut log = opening(bytes, rules, &table, first);
     log.push(format!(
         "{}  boot, {} wait",
         date(first),
@@ -48,11 +49,11 @@ fn log(bytes: &[u8], kind: Kind, pace: u64, spans: &[(u64, u64)]) -> Vec<String>
 }
 
 /// The settings, and when each entry fires next.
-fn opening(bytes: &[u8], kind: Kind, table: &Table, first: u64) -> Vec<String> {
+fn opening(bytes: &[u8], rules: Rules, table: &Table, first: u64) -> Vec<String> {
     let text = |part: Part| text(bytes, part);
     let setting =
         |(_, of): &(u64, Setting)| format!("setting   |{}| = |{}|", text(of.name), text(of.value));
-    let calls = Calls::of(bytes, kind);
+    let calls = Calls::of(bytes, rules);
     let next = |entry: u64| match calls.next(entry, first) {
         Ok(minute) => {
             let local = local(&table.entries[entry as usize], minute);
@@ -126,75 +127,98 @@ fn argument(minute: u64) -> String {
     format!("{year:04}-{month:02}-{day:02}T{hour:02}:{minute:02}")
 }
 
+const USER: Rules = Rules::of(Kind::User, Dialect::Rising);
+const SYSTEM: Rules = Rules::of(Kind::System, Dialect::Rising);
+const WRAPPING: Rules = Rules::of(Kind::User, Dialect::Wrapping);
+
+const TABLES: [(&[u8], Rules); 8] = [
+    (b"* * * * * a\n@reboot b\n0 * * * * c\n", USER),
+    (
+        b"a = \n0 0 30 2 * never\n'b c'=\"d\" \n0 0 1 1 * last\n* * * * * tab\there\\n%\xff%\n",
+        USER,
+    ),
+    (b"", USER),
+    (
+        b"@reboot u b\n* * * * * u:g a\n0 * * * * u/l c%\n*/2 * * * * u:g/l  d\n",
+        SYSTEM,
+    ),
+    (b"A=b\n", SYSTEM),
+    (
+        b"* * * * * a\n  \"CRON_TZ\"='-12:00'\n* * * * * b\nCRON_TZ = +14:00 \n* * * * * c\n",
+        USER,
+    ),
+    // A boot job under a clock that shows no date of the calendar yet, or any more.
+    (
+        b"CRON_TZ=-12:00\n@reboot a\nCRON_TZ=+14:00\n@reboot b\n",
+        USER,
+    ),
+    (
+        b"CRON_TZ=+03:00\n55-5/5 22-1 * * sat-sun u a\n",
+        Rules::of(Kind::System, Dialect::Wrapping),
+    ),
+];
+
 #[test]
 fn the_log_is_the_second_programs() {
     let folder = scratch("daemon-log");
     let program = build(&["examples/daemon.c"], &folder);
-    let evening = minute_of(2026, 11, 15, 21, 0).expect("a date");
-    let [observatory, system, two_sites] = ["observatory", "system", "two_sites"].map(|name| {
-        fs::read(root().join(format!("examples/{name}.crontab"))).expect("the crontab")
-    });
-    let several = known::SEVERAL.replace('~', "u:g ");
-    let tables: [(&[u8], Kind); 12] = [
-        (&observatory, Kind::User),
-        (b"* * * * * a\n@reboot b\n0 * * * * c\n", Kind::User),
-        (
-            b"a = \n0 0 30 2 * never\n'b c'=\"d\" \n0 0 1 1 * last\n* * * * * tab\there\\n%\xff%\n",
-            Kind::User,
-        ),
-        (b"", Kind::User),
-        (&system, Kind::System),
+    let compare = |table: &[u8], rules: Rules| {
+        compare_logs(&folder.join("table"), &program, table, rules);
+    };
+    for (table, rules) in TABLES {
+        compare(table, rules);
+    }
+    compare(known::SEVERAL.replace('~', "u:g ").as_bytes(), SYSTEM);
+    for (name, rules) in [
+        ("observatory", USER),
+        ("system", SYSTEM),
         // Its users are the first words of its commands.
-        (&system, Kind::User),
-        (
-            b"@reboot u b\n* * * * * u:g a\n0 * * * * u/l c%\n*/2 * * * * u:g/l  d\n",
-            Kind::System,
-        ),
-        (b"A=b\n", Kind::System),
-        (&two_sites, Kind::User),
-        (several.as_bytes(), Kind::System),
-        (
-            b"* * * * * a\n  \"CRON_TZ\"='-12:00'\n* * * * * b\nCRON_TZ = +14:00 \n* * * * * c\n",
-            Kind::User,
-        ),
-        // A boot job under a clock that shows no date of the calendar yet, or any more.
-        (
-            b"CRON_TZ=-12:00\n@reboot a\nCRON_TZ=+14:00\n@reboot b\n",
-            Kind::User,
-        ),
-    ];
-    let at = |minute: u64| (evening + minute, evening + minute + 5);
-    let spans: [&[(u64, u64)]; 6] = [
-        &[(0, 20), (evening, evening + 60)],
-        // Two hours forward and back; then three hours forward, back by a minute less and by three hours, and forward by a minute
-        // more.
-        &[at(20), at(145), at(30), at(31)],
-        &[at(28), at(213), at(39), at(38), at(224)],
-        &[(59, 61)],
-        &[(4_223_371_600, 4_223_371_679)],
-        &[(evening, evening), (0, 0), (5, 5)],
-    ];
-    for (table, kind) in tables {
-        for spans in spans {
-            for pace in [0, 1, 3, 999] {
-                let path = folder.join("table");
-                fs::write(&path, table).expect("the table is written");
-                let option = (kind == Kind::System).then(|| "-s".to_string());
-                let mut arguments: Vec<String> = option.into_iter().collect();
-                arguments.extend([word(&path).to_string(), pace.to_string()]);
-                arguments.extend(
-                    spans
-                        .iter()
-                        .flat_map(|&(first, last)| [argument(first), argument(last)]),
-                );
-                let output = run(&program, &arguments);
-                let (text, status) = told(&output);
-                assert_eq!(status, Some(0), "{arguments:?}");
-                let lines: Vec<&str> = text.lines().collect();
-                assert_eq!(lines, log(table, kind, pace, spans), "{arguments:?}");
-            }
+        ("system", USER),
+        ("two_sites", USER),
+        ("over_midnight", WRAPPING),
+    ] {
+        let path = root().join(format!("examples/{name}.crontab"));
+        compare(&fs::read(path).expect("the crontab"), rules);
+    }
+}
+
+/// Runs a table over some spans of minutes at every sort of pace.
+fn compare_logs(path: &Path, program: &Path, table: &[u8], rules: Rules) {
+    fs::write(path, table).expect("the table is written");
+    let kind = (rules.kind == Kind::System).then_some("-s");
+    let dialect = (rules.dialect == Dialect::Wrapping).then_some("-w");
+    let options: Vec<&str> = [dialect, kind].into_iter().flatten().collect();
+    for spans in spans() {
+        for pace in [0, 1, 3, 999] {
+            let mut arguments: Vec<String> = options.iter().map(|word| word.to_string()).collect();
+            arguments.extend([word(path).to_string(), pace.to_string()]);
+            arguments.extend(
+                spans
+                    .iter()
+                    .flat_map(|&(first, last)| [argument(first), argument(last)]),
+            );
+            let output = run(program, &arguments);
+            let (text, status) = told(&output);
+            assert_eq!(status, Some(0), "{arguments:?}");
+            let lines: Vec<&str> = text.lines().collect();
+            assert_eq!(lines, log(table, rules, pace, &spans), "{arguments:?}");
         }
     }
+}
+
+fn spans() -> [Vec<(u64, u64)>; 6] {
+    let evening = minute_of(2026, 11, 15, 21, 0).expect("a date");
+    let at = |minute: u64| (evening + minute, evening + minute + 5);
+    [
+        vec![(0, 20), (evening, evening + 60)],
+        // Two hours forward and back; then three hours forward, back by a minute less and by three hours, and forward by a minute
+        // more.
+        vec![at(20), at(145), at(30), at(31)],
+        vec![at(28), at(213), at(39), at(38), at(224)],
+        vec![(59, 61)],
+        vec![(4_223_371_600, 4_223_371_679)],
+        vec![(evening, evening), (0, 0), (5, 5)],
+    ]
 }
 
 /// 01's whole run: request, announce 59, announce 60, then requests until nothing waits.
@@ -226,6 +250,13 @@ fn refusals_and_wrong_arguments_are_said() {
     let rows = [
         ("~, 1, 1970-01-01T00:00, 1970-01-01T00:00", 1, &fault[..]),
         ("-s, ~, 1, 1970-01-01T00:00, 1970-01-01T00:00", 1, &fault),
+        ("-w, ~, 1, 1970-01-01T00:00, 1970-01-01T00:00", 1, &fault),
+        (
+            "-s, -w, ~, 1, 1970-01-01T00:00, 1970-01-01T00:00",
+            1,
+            &fault,
+        ),
+        ("~, -w, 1, 1970-01-01T00:00, 1970-01-01T00:00", 2, "usage: "),
         ("~, -s, 1, 1970-01-01T00:00, 1970-01-01T00:00", 2, "usage: "),
         ("-x, ~, 1, 1970-01-01T00:00, 1970-01-01T00:00", 2, "usage: "),
         ("-s", 2, "usage: "),

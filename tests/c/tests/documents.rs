@@ -69,6 +69,13 @@ fn the_two_sites_are_run_as_shown() {
 }
 
 #[test]
+fn the_table_over_midnight_is_checked_and_written_as_shown() {
+    let rest = "--dialect wrapping examples/over_midnight.crontab";
+    prints_what_is_shown("target/c/eremothyn", &format!("check {rest}"));
+    prints_what_is_shown("target/c/eremothyn", &format!("format {rest}"));
+}
+
+#[test]
 fn crontab_firings_prints_what_is_shown() {
     prints_what_is_shown(
         "target/bin/crontab_firings",
@@ -153,6 +160,64 @@ fn the_page_of_tables_shows_two_clocks() {
         "entry  2  next 1970-01-01 Thu 05:15  local 1970-01-01 Thu 18:00\n",
     ] {
         assert!(log.contains(line), "{log}");
+    }
+}
+
+/// The values in a cell of the page's table, rising: numbers, and numbers from one to another.
+fn cell_values(cell: &str) -> String {
+    let number = |text: &str| text.parse::<u64>().expect("a number");
+    let values = cell
+        .split(", ")
+        .flat_map(|part| match part.split_once(" to ") {
+            Some((first, last)) => number(first)..=number(last),
+            None => number(part)..=number(part),
+        });
+    let mut values: Vec<u64> = values.collect();
+    values.sort();
+    let values: Vec<String> = values.iter().map(u64::to_string).collect();
+    values.join(",")
+}
+
+/// What a field means in a dialect, as a cell of the table says it: its values, rising, or the number of its refusal.
+fn meant(dialect: &str, which: usize, field: &str) -> String {
+    let mut fields = ["*"; 5];
+    fields[which] = field;
+    let table = scratch("documents-dialects").join("table");
+    fs::write(&table, format!("{} a\n", fields.join(" "))).expect("the table is written");
+    let options = format!("--dialect {dialect} {}", word(&table));
+    let (text, status) = script(&format!("eremothyn format {options}"));
+    if status == Some(0) {
+        let field = text.split(' ').nth(which);
+        return field.expect("a field").to_string();
+    }
+    let (verdict, _) = script(&format!("eremothyn check {options}"));
+    let (_, number) = verdict.split_once(": refused ").expect("a refusal");
+    let (number, _) = number.split_once(':').expect("a number");
+    format!("refused ({number})")
+}
+
+/// The table of the two dialects on the page of tables is what the command does.
+#[test]
+fn the_page_of_tables_shows_both_dialects() {
+    let page = page("eremothyn.5");
+    let (_, rows) = page
+        .split_once("field|written|rising|wrapping\n")
+        .expect("a table");
+    let (rows, _) = rows.split_once(".TE").expect("its end");
+    let fields = ["minute", "hour", "day", "month", "weekday"];
+    assert!(rows.lines().count() >= 10, "{rows}");
+    for row in rows.lines() {
+        let [field, written, rising, wrapping] = row.split('|').collect::<Vec<&str>>()[..] else {
+            panic!("four cells: {row}");
+        };
+        let which = fields.iter().position(|&name| name == field).expect(row);
+        for (dialect, cell) in [("rising", rising), ("wrapping", wrapping)] {
+            let found = meant(dialect, which, written);
+            match cell.starts_with("refused") {
+                true => assert_eq!(found, cell, "{dialect} {row}"),
+                false => assert_eq!(found, cell_values(cell), "{dialect} {row}"),
+            }
+        }
     }
 }
 

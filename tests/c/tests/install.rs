@@ -99,19 +99,19 @@ fn the_installed_command_runs_and_the_version_is_told() {
         )
     );
     let examples = format!("{}{PREFIX}/share/doc/eremothyn/examples", word(&folder));
-    let system = format!("{examples}/system.crontab");
-    let line = format!("{system}: 5 entries\n");
-    assert_eq!(
-        told(&run(&command, &["check", "--system", &system])),
-        (line, Some(0))
-    );
-    let two_sites = format!("{examples}/two_sites.crontab");
-    let line = format!("{two_sites}: 6 entries\n");
-    assert_eq!(
-        told(&run(&command, &["check", &two_sites])),
-        (line, Some(0))
-    );
+    let rows: [(&[&str], &str, u64); 3] = [
+        (&["--system"], "system", 5),
+        (&[], "two_sites", 6),
+        (&["--dialect", "wrapping"], "over_midnight", 4),
+    ];
+    for (options, name, entries) in rows {
+        let table = format!("{examples}/{name}.crontab");
+        let line = format!("{table}: {entries} entries\n");
+        let arguments = [&["check"], options, &[&table]].concat();
+        assert_eq!(told(&run(&command, &arguments)), (line, Some(0)));
+    }
     let lister = format!("{}{PREFIX}/bin/crontab_firings", word(&folder));
+    let two_sites = format!("{examples}/two_sites.crontab");
     assert_eq!(
         told(&run(&lister, &[&two_sites, "29912760", "29912820"])),
         ("29912775 5\n29912820 0\n".to_string(), Some(0))

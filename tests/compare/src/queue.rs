@@ -2,7 +2,7 @@
 //! first bytes, as many as the caller likes, and every byte of the buffer is compared after it. The lent bytes end at guard
 //! pages, and the table's are read-only.
 
-use eremothyn::{Answer, Table, USER_TABLE};
+use eremothyn::{Answer, Numbers, Table};
 use guard::{filled, Guarded};
 use second::queue::{room, Queue};
 use second::table::{self, read, Kind};
@@ -15,28 +15,29 @@ const NO_LINE: u64 = 28;
 pub struct Case<'a> {
     bytes: &'a [u8],
     lent: Guarded,
-    kind: u64,
+    numbers: Numbers,
     pub table: table::Table<'a>,
     /// The least room that the library takes for a line of the table.
     pub least: usize,
 }
 
 impl<'a> Case<'a> {
-    /// A user table.
+    /// A user table in the first dialect.
     pub fn of(bytes: &'a [u8]) -> Case<'a> {
-        Case::of_kind(bytes, USER_TABLE)
+        Case::under(bytes, Kind::User)
     }
 
-    /// A table under any number as its kind.
-    pub fn of_kind(bytes: &'a [u8], kind: u64) -> Case<'a> {
-        let table = read(bytes, Kind::of(kind)).expect("a good table");
+    /// A table under any numbers.
+    pub fn under(bytes: &'a [u8], numbers: impl Into<Numbers>) -> Case<'a> {
+        let numbers = numbers.into();
+        let table = read(bytes, numbers.rules()).expect("a good table");
         let lent = Guarded::read_only(bytes);
-        let least = least_room(Table::of(&lent).of_kind(kind), table.entries.len());
+        let least = least_room(Table::of(&lent).under(numbers), table.entries.len());
         assert_eq!(least, room::size(table.entries.len()));
         Case {
             bytes,
             lent,
-            kind,
+            numbers,
             table,
             least,
         }
@@ -58,7 +59,7 @@ impl<'a> Case<'a> {
 
     /// A call that is lent the table and a room.
     fn ask<T>(&self, room: &mut [u8], call: impl FnOnce(Table, &mut [u8]) -> T) -> T {
-        let table = Table::of(&self.lent).of_kind(self.kind);
+        let table = Table::of(&self.lent).under(self.numbers);
         Guarded::lend(room, |room| call(table, room))
     }
 }
@@ -139,9 +140,9 @@ impl Compared {
         assert_eq!(
             (&answer, &self.room),
             (&expected, &room),
-            "{what:?} in {lent} bytes of room, {before:?}, of \"{}\" (kind {}): library, second program",
+            "{what:?} in {lent} bytes of room, {before:?}, of \"{}\" ({:?}): library, second program",
             case.bytes.escape_ascii(),
-            case.kind
+            case.numbers
         );
         answer
     }
@@ -173,7 +174,7 @@ pub fn drain(case: &Case, room: &[u8]) -> Result<Vec<u64>, u64> {
 }
 
 /// Every call with a bad table: the table's refusal, whatever room and minute are, and no byte of the room changes.
-pub fn refused(table: &[u8], kind: u64, number: u64, room: &[u8], minute: u64) {
+pub fn refused(table: &[u8], numbers: impl Into<Numbers>, number: u64, room: &[u8], minute: u64) {
     let lent = Guarded::read_only(table);
     let refused = |refusal: &dyn Fn(&mut [u8]) -> Option<u64>| {
         let mut after = room.to_vec();
@@ -181,7 +182,7 @@ pub fn refused(table: &[u8], kind: u64, number: u64, room: &[u8], minute: u64) {
         assert_eq!(Guarded::lend(&mut after, refusal), Some(number), "{shown}");
         assert_eq!(after, room, "{shown}");
     };
-    let lent = Table::of(&lent).of_kind(kind);
+    let lent = Table::of(&lent).under(numbers);
     refused(&|room| lent.queue_init(room).err());
     refused(&|room| lent.queue_tick(room, minute).err());
     refused(&|room| lent.queue_pop(room).err());

@@ -1,10 +1,11 @@
 //! Dates, tables and rooms for the comparisons.
 
+use eremothyn::Numbers;
 use second::calendar::LAST_MINUTE;
 use second::queue::room;
 use second::random::Random;
 use second::table::offset::samples as offsets;
-use second::table::{samples, Kind};
+use second::table::{samples, Dialect, Kind, Rules};
 
 /// Year, month, day, hour and minute of a date, each of which may be a little past its limits.
 pub fn date(random: &mut Random) -> [u64; 5] {
@@ -12,25 +13,34 @@ pub fn date(random: &mut Random) -> [u64; 5] {
     spans.map(|(first, count)| first + random.below(count))
 }
 
-/// A number that means a kind; a system table has many.
-pub fn kind_number(random: &mut Random, kind: Kind) -> u64 {
-    match (kind, random.below(6)) {
-        (Kind::User, _) => 0,
-        (Kind::System, 0) => 1 << random.below(64),
-        (Kind::System, 1) => random.number() | 1,
-        (Kind::System, 2) => random.pick(&[2, 255, 1 << 32, u64::MAX]),
-        (Kind::System, _) => 1,
+/// Numbers that mean rules; a system table has many, and so has the second dialect.
+pub fn numbers(random: &mut Random, rules: impl Into<Rules>) -> Numbers {
+    let Numbers { kind, dialect } = rules.into().into();
+    Numbers {
+        kind: number(random, kind),
+        dialect: number(random, dialect),
     }
 }
 
-/// Either kind.
-pub fn any_kind(random: &mut Random) -> Kind {
-    random.pick(&Kind::BOTH)
+/// Any number but 0 for 1.
+fn number(random: &mut Random, meant: u64) -> u64 {
+    match (meant, random.below(6)) {
+        (0, _) => 0,
+        (_, 0) => 1 << random.below(64),
+        (_, 1) => random.number() | 1,
+        (_, 2) => random.pick(&[2, 255, 1 << 32, u64::MAX]),
+        _ => 1,
+    }
+}
+
+/// Either kind, in either dialect.
+pub fn any_rules(random: &mut Random) -> Rules {
+    random.pick(&Rules::ALL)
 }
 
 /// A text that has `~` where a system table has a user column and a blank, and a user table nothing.
-pub fn of_kind(text: &str, kind: Kind) -> String {
-    let user = match kind {
+pub fn of_kind(text: &str, rules: impl Into<Rules>) -> String {
+    let user = match rules.into().kind {
         Kind::User => "",
         Kind::System => "u:g/l ",
     };
@@ -53,28 +63,8 @@ pub fn alike(kind: Kind, time: &str, entries: usize) -> Vec<u8> {
 }
 
 /// A table of so many entries, some that boot, and some that fire often.
-pub fn busy_table(random: &mut Random, kind: Kind, entries: u64) -> Vec<u8> {
-    let often = [
-        "* * * * *",
-        "*/2 * * * *",
-        "1-59/2 * * * *",
-        "*/5 * * * *",
-        "0 * * * *",
-        "* 0 * * *",
-        "30 0-23 * * *",
-        "0-59 0-23 * * *",
-        "0,10,20 1-22/3 * * *",
-        "*/5 4 * * *",
-        "7 */4 * * *",
-        "@hourly",
-        "@daily",
-        "@reboot",
-        "* * 1,15 * 5",
-        "0 0 29 2 *",
-        "0 0 30 2 *",
-        "* * * * 7",
-        "59 23 31 12 *",
-    ];
+pub fn busy_table(random: &mut Random, rules: impl Into<Rules>, entries: u64) -> Vec<u8> {
+    let rules = rules.into();
     let mut table = Vec::new();
     for _ in 0..entries {
         match random.below(10) {
@@ -87,13 +77,44 @@ pub fn busy_table(random: &mut Random, kind: Kind, entries: u64) -> Vec<u8> {
             _ => {}
         }
         let line = match random.below(8) {
-            0 => format!("{} ~a", samples::fields(random).join(" ")),
-            _ => format!("{} ~a%b", random.pick(&often)),
+            0 => format!("{} ~a", samples::fields_of(random, rules.dialect).join(" ")),
+            _ => format!("{} ~a%b", often(random, rules.dialect)),
         };
-        table.extend(of_kind(&line, kind).bytes());
+        table.extend(of_kind(&line, rules).bytes());
         table.push(b'\n');
     }
     table
+}
+
+/// A time that comes often, or at boot.
+fn often(random: &mut Random, dialect: Dialect) -> &'static str {
+    let own = match dialect {
+        Dialect::Rising => ["* * * * 7", "30 0-23 * * *"],
+        Dialect::Wrapping => ["* * * * fri-sun", "30 13-12 * * *"],
+    };
+    let both = [
+        "* * * * *",
+        "*/2 * * * *",
+        "1-59/2 * * * *",
+        "*/5 * * * *",
+        "0 * * * *",
+        "* 0 * * *",
+        "0-59 0-23 * * *",
+        "0,10,20 1-22/3 * * *",
+        "*/5 4 * * *",
+        "7 */4 * * *",
+        "@hourly",
+        "@daily",
+        "@reboot",
+        "* * 1,15 * 5",
+        "0 0 29 2 *",
+        "0 0 30 2 *",
+        "59 23 31 12 *",
+    ];
+    match random.below(8) {
+        0 => random.pick(&own),
+        _ => random.pick(&both),
+    }
 }
 
 /// Changes one to three bytes of a line, perhaps to numbers of entries or just past them, or else its mark.

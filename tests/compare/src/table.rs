@@ -6,12 +6,12 @@ mod firings;
 mod normal;
 
 use crate::spans;
-use eremothyn::{Answer, Table, SYSTEM_TABLE, USER_TABLE};
+use eremothyn::{Answer, Numbers, Table};
 use guard::{filled, Guarded};
 use second::random::Random;
 use second::schedule::samples;
 use second::table::calls::Calls;
-use second::table::{Fault, Kind, Setting};
+use second::table::{Fault, Kind, Rules, Setting};
 
 /// Entry and line numbers that no table has.
 const WILD: [u64; 9] = [
@@ -34,43 +34,46 @@ const STARTS: usize = 2;
 pub struct Compared<'a> {
     bytes: &'a [u8],
     lent: Guarded,
-    kind: u64,
+    numbers: Numbers,
     second: Calls<'a>,
 }
 
 impl<'a> Compared<'a> {
-    /// A user table.
+    /// A user table in the first dialect.
     pub fn of(bytes: &'a [u8]) -> Compared<'a> {
-        Compared::of_kind(bytes, USER_TABLE)
+        Compared::under(bytes, Kind::User)
     }
 
-    /// A system table.
+    /// A system table in the first dialect.
     pub fn system(bytes: &'a [u8]) -> Compared<'a> {
-        Compared::of_kind(bytes, SYSTEM_TABLE)
+        Compared::under(bytes, Kind::System)
     }
 
-    /// A table under any number as its kind, with its three calls compared, and with those of the same bytes as a table of the
-    /// other kind.
-    pub fn of_kind(bytes: &'a [u8], kind: u64) -> Compared<'a> {
-        let other = Kind::of(kind).other();
-        let mut compared = Compared {
+    /// A table under any numbers, with its three calls compared, and with those of the same bytes under all other rules.
+    pub fn under(bytes: &'a [u8], numbers: impl Into<Numbers>) -> Compared<'a> {
+        let numbers = numbers.into();
+        let mut lent = Guarded::read_only(bytes);
+        for rules in Rules::ALL {
+            if rules != numbers.rules() {
+                lent = Compared::judged(bytes, lent, rules.into()).lent;
+            }
+        }
+        Compared::judged(bytes, lent, numbers)
+    }
+
+    /// A table that is lent already, with its three calls compared.
+    fn judged(bytes: &'a [u8], lent: Guarded, numbers: Numbers) -> Compared<'a> {
+        let compared = Compared {
             bytes,
-            lent: Guarded::read_only(bytes),
-            kind: other.number(),
-            second: Calls::of(bytes, other),
+            lent,
+            numbers,
+            second: Calls::of(bytes, numbers.rules()),
         };
-        compared.judged();
-        compared.kind = kind;
-        compared.second = Calls::of(bytes, Kind::of(kind));
-        compared.judged();
+        let (table, second) = (compared.table(), &compared.second);
+        let _ = compared.agree("check", table.check(), second.check());
+        compared.agree("fault_line", table.fault_line(), second.fault_line());
+        compared.agree("fault_column", table.fault_column(), second.fault_column());
         compared
-    }
-
-    fn judged(&self) {
-        let (table, second) = (self.table(), &self.second);
-        let _ = self.agree("check", table.check(), second.check());
-        self.agree("fault_line", table.fault_line(), second.fault_line());
-        self.agree("fault_column", table.fault_column(), second.fault_column());
     }
 
     /// Number, line and column of the table's refusal.
@@ -256,16 +259,17 @@ impl<'a> Compared<'a> {
     }
 
     fn table(&self) -> Table<'_> {
-        Table::of(&self.lent).of_kind(self.kind)
+        Table::of(&self.lent).under(self.numbers)
     }
 
     fn shown(&self) -> String {
         const MOST: usize = 2_000;
         let start = &self.bytes[..self.bytes.len().min(MOST)];
-        let (bytes, kind) = (self.bytes.len(), self.kind);
         format!(
-            "the table \"{}\" ({bytes} bytes, kind {kind})",
-            start.escape_ascii()
+            "the table \"{}\" ({} bytes, {:?})",
+            start.escape_ascii(),
+            self.bytes.len(),
+            self.numbers
         )
     }
 }

@@ -1,7 +1,7 @@
 //! The run queue of the library against the second program's list.
 
 use compare::queue::{drain, refused, Case, Compared};
-use compare::samples::{alike, any_kind, busy_table, kind_number, of_kind};
+use compare::samples::{alike, any_rules, busy_table, numbers, of_kind};
 use eremothyn::Table;
 use guard::filled;
 use second::calendar::LAST_MINUTE;
@@ -23,7 +23,7 @@ const OFF_CALENDAR: [u64; 6] = [
 fn in_both_kinds(table: &str, test: impl Fn(&Case)) {
     for kind in Kind::BOTH {
         let table = of_kind(table, kind);
-        test(&Case::of_kind(table.as_bytes(), kind.number()));
+        test(&Case::under(table.as_bytes(), kind));
     }
 }
 
@@ -82,9 +82,9 @@ fn reboot_entries_wait_at_first_and_never_join() {
 fn a_fresh_line_is_the_same_whatever_the_room_held() {
     let mut random = Random::seeded();
     for entries in 0..40 {
-        let kind = any_kind(&mut random);
-        let table = busy_table(&mut random, kind, entries);
-        let case = Case::of_kind(&table, kind.number());
+        let rules = any_rules(&mut random);
+        let table = busy_table(&mut random, rules, entries);
+        let case = Case::under(&table, rules);
         let length = case.enough() + 10;
         let fills = [0, 0xff, 0x55, 0xaa].map(|byte| vec![byte; length]);
         let drawn = (0..length).map(|_| random.number() as u8).collect();
@@ -210,11 +210,11 @@ fn long_runs_with_one_table() {
         } else {
             random.below(12)
         };
-        let kind = any_kind(&mut random);
-        let table = busy_table(&mut random, kind, entries);
+        let rules = any_rules(&mut random);
+        let table = busy_table(&mut random, rules, entries);
         let calls = if entries > 100 { 300 } else { 500 };
-        let number = kind_number(&mut random, kind);
-        long_run(&mut random, &[Case::of_kind(&table, number)], calls);
+        let number = numbers(&mut random, rules);
+        long_run(&mut random, &[Case::under(&table, number)], calls);
     }
 }
 
@@ -224,14 +224,14 @@ fn long_runs_with_tables_that_change() {
     for _ in 0..300 {
         // Of either kind: a line has only numbers.
         let tables = [(); 4].map(|_| {
-            let kind = any_kind(&mut random);
+            let rules = any_rules(&mut random);
             let entries = random.below(9);
-            let table = busy_table(&mut random, kind, entries);
-            (table, kind_number(&mut random, kind))
+            let table = busy_table(&mut random, rules, entries);
+            (table, numbers(&mut random, rules))
         });
         let cases = tables
             .each_ref()
-            .map(|(table, kind)| Case::of_kind(table, *kind));
+            .map(|(table, rules)| Case::under(table, *rules));
         long_run(&mut random, &cases, 500);
     }
 }
@@ -252,7 +252,7 @@ fn a_line_left([left, found]: [Kind; 2]) {
     ];
     let [five, three, none] = tables
         .each_ref()
-        .map(|(table, kind)| Case::of_kind(table, kind.number()));
+        .map(|(table, kind)| Case::under(table, *kind));
     let room = five.enough();
     let mut line = Compared::fresh(&five, room);
     assert_eq!(line.pop(&three, room), Ok(None));
@@ -305,13 +305,13 @@ fn a_rare_entry_is_named_within_the_bound() {
     let mut random = Random::seeded();
     for (fields, about) in rare {
         for place in [0, 1, 127, 128, 510, 511] {
-            let kind = any_kind(&mut random);
-            let often = of_kind("* * * * * ~often\n", kind);
+            let rules = any_rules(&mut random);
+            let often = of_kind("* * * * * ~often\n", rules);
             let mut lines = vec![&often[..]; ENTRIES as usize];
-            let line = of_kind(&format!("{fields} ~rare\n"), kind);
+            let line = of_kind(&format!("{fields} ~rare\n"), rules);
             lines[place as usize] = &line;
             let table = lines.concat();
-            let case = Case::of_kind(table.as_bytes(), kind.number());
+            let case = Case::under(table.as_bytes(), rules);
             let firing = case.next(place, about - 1).expect("a firing");
 
             let room = case.enough();
@@ -366,7 +366,7 @@ fn sample_tables_have_their_lines() {
     for kind in Kind::BOTH.repeat(200) {
         let count = random.below(8);
         let table = samples::table(&mut random, kind, count);
-        let number = kind_number(&mut random, kind);
-        long_run(&mut random, &[Case::of_kind(&table, number)], 100);
+        let number = numbers(&mut random, kind);
+        long_run(&mut random, &[Case::under(&table, number)], 100);
     }
 }

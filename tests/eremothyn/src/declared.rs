@@ -1,41 +1,79 @@
 //! A table, and the C functions that take one. What a table is to C stands in this file alone.
 
+use second::table::{Dialect, Kind, Rules};
 use std::marker::PhantomData;
 
-/// What C says a table is: a user's, or the system's. Any other number is a system table, too.
-pub const USER_TABLE: u64 = 0;
-pub const SYSTEM_TABLE: u64 = 1;
+/// How C says that a table is read. A kind other than 0 is a system table, a dialect other than 0 the second.
+#[derive(Clone, Copy, Debug, Default, PartialEq, Eq)]
+pub struct Numbers {
+    pub kind: u64,
+    pub dialect: u64,
+}
+
+impl Numbers {
+    /// What they mean.
+    pub fn rules(self) -> Rules {
+        Rules::of(Kind::of(self.kind), Dialect::of(self.dialect))
+    }
+}
+
+/// A kind's number, in the first dialect.
+impl From<u64> for Numbers {
+    fn from(kind: u64) -> Numbers {
+        Numbers { kind, dialect: 0 }
+    }
+}
+
+impl From<Rules> for Numbers {
+    fn from(rules: Rules) -> Numbers {
+        Numbers {
+            kind: rules.kind.number(),
+            dialect: rules.dialect.number(),
+        }
+    }
+}
+
+/// In the first dialect.
+impl From<Kind> for Numbers {
+    fn from(kind: Kind) -> Numbers {
+        Rules::from(kind).into()
+    }
+}
+
+/// Of a user table.
+impl From<Dialect> for Numbers {
+    fn from(dialect: Dialect) -> Numbers {
+        Rules::from(dialect).into()
+    }
+}
 
 /// A table for a call.
 #[derive(Clone, Copy)]
 pub struct Table<'a> {
     start: *const u8,
     length: u64,
-    kind: u64,
+    numbers: Numbers,
     lent: PhantomData<&'a [u8]>,
 }
 
 impl<'a> Table<'a> {
-    /// A user table.
+    /// A user table in the first dialect.
     #[inline]
     pub fn of(bytes: &'a [u8]) -> Table<'a> {
         // SAFETY: the bytes are borrowed for as long as the table lives.
         unsafe { Table::at(bytes.as_ptr(), bytes.len() as u64) }
     }
 
-    /// A system table.
+    /// The same bytes under any numbers.
     #[inline]
-    pub fn system(bytes: &'a [u8]) -> Table<'a> {
-        Table::of(bytes).of_kind(SYSTEM_TABLE)
+    pub fn under(self, numbers: impl Into<Numbers>) -> Table<'a> {
+        Table {
+            numbers: numbers.into(),
+            ..self
+        }
     }
 
-    /// The same bytes under any number as their kind.
-    #[inline]
-    pub fn of_kind(self, kind: u64) -> Table<'a> {
-        Table { kind, ..self }
-    }
-
-    /// A user table at any place, of any length.
+    /// A user table in the first dialect, at any place, of any length.
     ///
     /// # Safety
     /// What a call touches of it may be read, and nobody writes to it.
@@ -44,7 +82,7 @@ impl<'a> Table<'a> {
         Table {
             start,
             length,
-            kind: USER_TABLE,
+            numbers: Numbers::default(),
             lent: PhantomData,
         }
     }
@@ -68,14 +106,14 @@ macro_rules! function_of_a_table {
         impl Table<'_> {
             #[inline]
             pub(crate) unsafe fn $name(self, $($parameter: $type),*) -> u64 {
-                unsafe { $name(self.start, self.length, $(self.$number,)* $($parameter),*) }
+                unsafe { $name(self.start, self.length, $(self.numbers.$number,)* $($parameter),*) }
             }
         }
     };
 }
 
 functions_of_a_table! {
-    [kind]
+    [kind, dialect]
     eremothyn_check();
     eremothyn_fault_line();
     eremothyn_fault_column();
@@ -111,7 +149,7 @@ functions_of_a_table! {
 
 // These take a user table, whatever the table's kind is.
 functions_of_a_table! {
-    []
+    [dialect]
     eremothyn_normal_form(text: *mut u8, text_length: u64);
     eremothyn_compile(records: *mut u8, records_length: u64);
 }

@@ -11,7 +11,7 @@ mod table;
 pub use calendar::{
     day, hour, minute_of_date, minute_of_hour, month, weekday, year, NOT_ON_CALENDAR,
 };
-pub use declared::{Table, SYSTEM_TABLE, USER_TABLE};
+pub use declared::{Numbers, Table};
 pub use records::Records;
 pub use run::Run;
 pub use second::answer::{Answer, Filled, MORE, REFUSED};

@@ -1,5 +1,5 @@
 //! The paper's "A table, line by line": a table is cut into lines, a line into words, a field into elements, and an
-//! element into numbers. The sets are gathered value by value.
+//! element into numbers. The sets are gathered value by value, round the field where a range goes on from its first.
 
 pub mod calls;
 pub mod documents;
@@ -7,13 +7,16 @@ pub mod firings;
 pub mod normal;
 pub mod offset;
 pub mod records;
+mod rules;
 pub mod samples;
 mod user_column;
 
+pub use rules::{Dialect, Rules};
 pub use user_column::{Kind, UserColumn, NAME_BYTES};
 
 use crate::answer::Answer;
 use crate::schedule::Schedule;
+use std::iter;
 
 /// Limits of a table, of a line without its newline, and of a table's entries.
 pub const TABLE_BYTES: usize = 49_152;
@@ -44,6 +47,12 @@ pub struct Fault {
     pub line: u64,
     pub column: u64,
 }
+
+const TOO_LONG: Fault = Fault {
+    number: TABLE_TOO_LONG,
+    line: 0,
+    column: 0,
+};
 
 #[derive(Clone, Debug, Default)]
 pub struct Table<'a> {
@@ -121,13 +130,10 @@ impl Entry<'_> {
 }
 
 /// Reads a table, up to its first fault.
-pub fn read(bytes: &[u8], kind: Kind) -> Result<Table<'_>, Fault> {
+pub fn read(bytes: &[u8], rules: impl Into<Rules>) -> Result<Table<'_>, Fault> {
+    let rules = rules.into();
     if bytes.len() > TABLE_BYTES {
-        return Err(Fault {
-            number: TABLE_TOO_LONG,
-            line: 0,
-            column: 0,
-        });
+        return Err(TOO_LONG);
     }
     let mut table = Table::default();
     let mut start = 0;
@@ -139,7 +145,7 @@ pub fn read(bytes: &[u8], kind: Kind) -> Result<Table<'_>, Fault> {
             line: number,
             column: at as u64 + 1,
         };
-        match meaning(line, kind).map_err(fault)? {
+        match meaning(line, rules).map_err(fault)? {
             Line::Ignored => {}
             Line::Setting(setting, given) => {
                 table.settings.push((number, setting.later(start)));
@@ -194,7 +200,7 @@ fn lines(bytes: &[u8]) -> impl Iterator<Item = &[u8]> {
         .map(|line| line.strip_suffix(b"\n").unwrap_or(line))
 }
 
-fn meaning(line: &[u8], kind: Kind) -> Result<Line<'_>, Bad> {
+fn meaning(line: &[u8], rules: Rules) -> Result<Line<'_>, Bad> {
     if line.len() > LINE_BYTES {
         return Err(Bad(LINE_TOO_LONG, LINE_BYTES));
     }
@@ -204,7 +210,7 @@ fn meaning(line: &[u8], kind: Kind) -> Result<Line<'_>, Bad> {
     if let Some(at) = line.iter().position(|&byte| is_control(byte)) {
         return Err(Bad(CONTROL_BYTE, at));
     }
-    content(line, kind)
+    content(line, rules)
 }
 
 /// No line has these: the control characters of ASCII but for the tab. Byte 0 has a refusal of its own, and a newline ends
@@ -214,17 +220,17 @@ fn is_control(byte: u8) -> bool {
 }
 
 /// What a line says, whatever its length and its bytes.
-fn content(line: &[u8], kind: Kind) -> Result<Line<'_>, Bad> {
+fn content(line: &[u8], rules: Rules) -> Result<Line<'_>, Bad> {
     let mut words = Words { line, at: 0 };
     let Some(first) = words.next() else {
         return Ok(Line::Ignored);
     };
     let when = match first.text[0] {
         b'#' => return Ok(Line::Ignored),
-        b'@' => at_word(first)?,
+        b'@' => at_word(rules.dialect, first)?,
         b'*' | b'0'..=b'9' => {
             let fields = [first].into_iter().chain(words.by_ref());
-            When::Times(schedule(line.len(), fields)?)
+            When::Times(schedule(rules.dialect, line.len(), fields)?)
         }
         _ => {
             let setting = setting(line, first.at).ok_or(Bad(BAD_SETTING, first.at))?;
@@ -232,7 +238,7 @@ fn content(line: &[u8], kind: Kind) -> Result<Line<'_>, Bad> {
             return Ok(Line::Setting(setting, offset));
         }
     };
-    let (column, command) = after_time(line, kind, words)?;
+    let (column, command) = after_time(line, rules.kind, words)?;
     Ok(Line::Entry(Entry {
         when,
         offset: 0,
@@ -293,7 +299,7 @@ fn after_time<'a>(
 }
 
 /// What an `@` word stands for.
-fn at_word(word: Word) -> Result<When, Bad> {
+fn at_word(dialect: Dialect, word: Word) -> Result<When, Bad> {
     let fields = match word.text {
         b"@reboot" => return Ok(When::Reboot),
         b"@yearly" | b"@annually" => "0 0 1 1 *",
@@ -304,54 +310,50 @@ fn at_word(word: Word) -> Result<When, Bad> {
         _ => return Err(Bad(UNKNOWN_WORD, word.at)),
     };
     let line = fields.as_bytes();
-    schedule(line.len(), Words { line, at: 0 }).map(When::Times)
+    schedule(dialect, line.len(), Words { line, at: 0 }).map(When::Times)
 }
 
-/// A field's first and last value, and the names of its values from the first on.
+/// A field as a dialect has it: its first and last value, and the names of its values from the first on.
 struct Limits {
     first: u64,
     last: u64,
     names: &'static [&'static str],
+    dialect: Dialect,
 }
 
-const FIELDS: [Limits; 5] = [
-    Limits {
-        first: 0,
-        last: 59,
-        names: &[],
-    },
-    Limits {
-        first: 0,
-        last: 23,
-        names: &[],
-    },
-    Limits {
-        first: 1,
-        last: 31,
-        names: &[],
-    },
-    Limits {
-        first: 1,
-        last: 12,
-        names: &[
-            "jan", "feb", "mar", "apr", "may", "jun", "jul", "aug", "sep", "oct", "nov", "dec",
-        ],
-    },
-    Limits {
-        first: 0,
-        last: 7,
-        names: &["sun", "mon", "tue", "wed", "thu", "fri", "sat"],
-    },
-];
+fn limits(dialect: Dialect) -> [Limits; 5] {
+    let months: &[&str] = &[
+        "jan", "feb", "mar", "apr", "may", "jun", "jul", "aug", "sep", "oct", "nov", "dec",
+    ];
+    let weekdays: &[&str] = &["sun", "mon", "tue", "wed", "thu", "fri", "sat"];
+    let last_weekday = match dialect {
+        Dialect::Rising => 7,
+        Dialect::Wrapping => 6,
+    };
+    [
+        (0, 59, &[][..]),
+        (0, 23, &[]),
+        (1, 31, &[]),
+        (1, 12, months),
+        (0, last_weekday, weekdays),
+    ]
+    .map(|(first, last, names)| Limits {
+        first,
+        last,
+        names,
+        dialect,
+    })
+}
 
 /// The first five words as fields. A word too few is at the end of the line, whose length is given.
 fn schedule<'a>(
+    dialect: Dialect,
     length: usize,
     mut fields: impl Iterator<Item = Word<'a>>,
 ) -> Result<Schedule, Bad> {
     let mut sets = [0; 5];
     let mut stars = [false; 5];
-    for (field, limits) in FIELDS.iter().enumerate() {
+    for (field, limits) in limits(dialect).iter().enumerate() {
         let word = fields.next().ok_or(Bad(TOO_FEW_FIELDS, length))?;
         sets[field] =
             set(limits, word.text).map_err(|Bad(number, at)| Bad(number, word.at + at))?;
@@ -428,7 +430,7 @@ fn element(limits: &Limits, text: &[u8]) -> Option<Element> {
             let (high, step) = cut(rest, b'/');
             Some(Element {
                 low: end(limits, low)?,
-                high: match names_sunday(limits, high) && !names_sunday(limits, low) {
+                high: match ends_the_week(limits, low, high) {
                     true => limits.last,
                     false => end(limits, high)?,
                 },
@@ -442,6 +444,12 @@ fn end(limits: &Limits, text: &[u8]) -> Option<u64> {
     number(text).or_else(|| named(limits, text))
 }
 
+/// Whether `sun` as the upper end of a range is the last day, and not the first: in the first dialect, where the lower end isn't
+/// `sun`.
+fn ends_the_week(limits: &Limits, low: &[u8], high: &[u8]) -> bool {
+    limits.dialect == Dialect::Rising && names_sunday(limits, high) && !names_sunday(limits, low)
+}
+
 /// `sun`, in the field that has it.
 fn names_sunday(limits: &Limits, text: &[u8]) -> bool {
     limits.names.first() == Some(&"sun") && named(limits, text) == Some(0)
@@ -453,14 +461,25 @@ impl Element {
         if !within.contains(&self.low) || !within.contains(&self.high) {
             return Err(OUT_OF_LIMITS);
         }
-        if self.low > self.high {
+        if self.low > self.high && limits.dialect == Dialect::Rising {
             return Err(HIGH_TO_LOW);
         }
         if self.step == 0 {
             return Err(STEP_ZERO);
         }
-        let values = (self.low..=self.high).step_by(self.step as usize);
+        let values = limits.walk(self.low, self.high).step_by(self.step as usize);
         Ok(values.fold(0, |set, value| set | 1 << value))
+    }
+}
+
+impl Limits {
+    /// The values of the field from one up to another, one by one; the first comes after the last.
+    fn walk(&self, from: u64, to: u64) -> impl Iterator<Item = u64> + '_ {
+        iter::successors(Some(from), move |&value| match value {
+            _ if value == to => None,
+            _ if value == self.last => Some(self.first),
+            _ => Some(value + 1),
+        })
     }
 }
 

@@ -64,7 +64,7 @@ fn several_files_are_printed_one_behind_the_other() {
     format.write("two", "A = b\n");
     format.write("bad", "# a\n60 0 * * * x\n");
     let limits =
-        "a number outside its limits: minute 0-59, hour 0-23, day 1-31, month 1-12, weekday 0-7";
+        "a number outside its limits: minute 0-59, hour 0-23, day 1-31, month 1-12, weekday 0-7, or 0-6 in the wrapping dialect";
     let bad = format!("bad:2:1: refused 6: {limits}\n");
     let missing = "eremothyn format: missing: No such file or directory\n";
     let output = format.run(&["one", "two", "one"]);

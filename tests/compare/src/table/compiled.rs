@@ -4,7 +4,7 @@ use super::Compared;
 use crate::records;
 use crate::writing::{lengths, written};
 use eremothyn::Answer;
-use second::table::records::compiled;
+use second::table::records::compiled_of;
 
 impl Compared<'_> {
     /// Writes the records into a buffer of a given length. Every byte of it is compared.
@@ -14,7 +14,7 @@ impl Compared<'_> {
 
     /// The records by the second program, or the refusal that no buffer helps against.
     pub fn records(&self) -> Result<Vec<u8>, u64> {
-        compiled(self.bytes)
+        compiled_of(self.bytes, self.numbers.rules().dialect)
     }
 
     /// Writes into buffers that are just long enough, longer, and too short.

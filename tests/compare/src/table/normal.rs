@@ -3,7 +3,7 @@
 use super::Compared;
 use crate::writing::{lengths, written};
 use eremothyn::Answer;
-use second::table::normal::normal_text;
+use second::table::normal::normal_text_of;
 
 impl Compared<'_> {
     /// Writes the normal text into a buffer of a given length. Every byte of it is compared.
@@ -13,7 +13,7 @@ impl Compared<'_> {
 
     /// The normal text by the second program, or the refusal that no buffer helps against.
     pub fn normal_text(&self) -> Result<Vec<u8>, u64> {
-        normal_text(self.bytes)
+        normal_text_of(self.bytes, self.numbers.rules().dialect)
     }
 
     /// Writes into buffers that are just long enough, longer, and too short.

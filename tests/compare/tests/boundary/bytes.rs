@@ -3,15 +3,15 @@
 use compare::samples::ended;
 use second::random::Random;
 use second::table::documents::{ENTRIES, SETTINGS, SYSTEM_ENTRIES};
-use second::table::{samples, Kind};
+use second::table::{samples, Kind, Rules};
 
 /// So many bytes, each as likely as another.
 pub fn any(random: &mut Random, length: usize) -> Vec<u8> {
     (0..length).map(|_| random.number() as u8).collect()
 }
 
-/// A table of some lines or some bytes, of a kind: good or not.
-pub fn table(random: &mut Random, kind: Kind) -> Vec<u8> {
+/// A table of some lines or some bytes, of a kind and a dialect: good or not.
+pub fn table(random: &mut Random, rules: Rules) -> Vec<u8> {
     let length = random.below(60);
     match random.below(16) {
         0 => any(random, length as usize),
@@ -21,12 +21,12 @@ pub fn table(random: &mut Random, kind: Kind) -> Vec<u8> {
             [start.as_bytes(), &samples::noise(random, length)].concat()
         }
         6 => {
-            let (line, _, _) = samples::bad_line(random, kind);
-            [good(random, kind), line].join(&b'\n')
+            let (line, _, _) = samples::bad_line(random, rules);
+            [good(random, rules), line].join(&b'\n')
         }
-        7 => good(random, kind),
+        7 => good(random, rules),
         _ => {
-            let table = good(random, kind);
+            let table = good(random, rules);
             damaged(random, table)
         }
     }
@@ -49,19 +49,19 @@ const STARTS: [&str; 12] = [
 ];
 
 /// A good table, or one of lines that stand in the documents.
-fn good(random: &mut Random, kind: Kind) -> Vec<u8> {
+fn good(random: &mut Random, rules: Rules) -> Vec<u8> {
     let lines = random.below(5);
     match random.below(3) {
         0 => {
             let line = |random: &mut Random| match random.below(4) {
                 0 => random.pick(&SETTINGS).0.as_bytes(),
-                _ if kind == Kind::System => random.pick(&SYSTEM_ENTRIES).0.as_bytes(),
+                _ if rules.kind == Kind::System => random.pick(&SYSTEM_ENTRIES).0.as_bytes(),
                 _ => random.pick(&ENTRIES).0.as_bytes(),
             };
             let lines: Vec<&[u8]> = (0..lines).map(|_| line(random)).collect();
             ended(lines.join(&b'\n'))
         }
-        _ => samples::table(random, kind, lines),
+        _ => samples::table(random, rules, lines),
     }
 }
 

@@ -2,26 +2,27 @@
 
 use crate::{numbers, rooms};
 use compare::records;
-use compare::samples::kind_number;
+use compare::samples;
 use compare::table::Compared;
+use eremothyn::Numbers;
 use second::random::Random;
-use second::table::Kind;
+use second::table::Rules;
 
-/// Every call with a table, under any number as its kind, with numbers of every size, and with buffers and rooms about as
+/// Every call with a table, under any numbers for its rules, with numbers of every size, and with buffers and rooms about as
 /// long as is needed; and the same bytes as records.
-pub fn every_call(random: &mut Random, table: &[u8], kind: u64) {
-    let compared = Compared::of_kind(table, kind);
+pub fn every_call(random: &mut Random, table: &[u8], under: Numbers) {
+    let compared = Compared::under(table, under);
     compared.everything(random);
     any_numbers(random, &compared);
-    rooms::every_call(random, table, kind, compared.check());
+    rooms::every_call(random, table, under, compared.check());
     records::Compared::of(table).decompile_into_all();
 }
 
-/// The same bytes as a table of either kind.
-pub fn every_call_in_both_kinds(random: &mut Random, table: &[u8]) {
-    for kind in Kind::BOTH {
-        let number = kind_number(random, kind);
-        every_call(random, table, number);
+/// The same bytes under all rules.
+pub fn every_call_under_all(random: &mut Random, table: &[u8]) {
+    for rules in Rules::ALL {
+        let under = samples::numbers(random, rules);
+        every_call(random, table, under);
     }
 }
 

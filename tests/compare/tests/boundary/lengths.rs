@@ -1,7 +1,7 @@
 //! Lent lengths that are 0, or little, in their low 8, 16 or 32 bits.
 
 use crate::raw::{
-    decompiled, fit, judged, lists, queue_answers, split, table_answers, texts, Place, KINDS,
+    all_numbers, decompiled, fit, judged, lists, queue_answers, split, table_answers, texts, Place,
 };
 use compare::queue::{Case, Compared as Line};
 use compare::records;
@@ -22,8 +22,8 @@ fn many_bytes() {
 }
 
 fn many_bytes_of(table: &[u8], kind: u64) {
-    let compared = Compared::of_kind(table, kind);
-    let case = Case::of_kind(table, kind);
+    let compared = Compared::under(table, kind);
+    let case = Case::under(table, kind);
     for length in [1 << 8, 1 << 16, (1 << 16) + 1] {
         for lengths in [[length, 1], [1, length], [length, length]] {
             assert_eq!(compared.split_command(0, lengths), Ok(1));
@@ -48,8 +48,8 @@ fn vast_tables() {
     let [mut table, mut other] = [TABLE, b""].map(Vast::of);
     let other = Place(other.start(), VAST);
     for length in [VAST - 1, VAST, VAST + TABLE.len() as u64] {
-        for kind in KINDS {
-            let table = Place(table.start(), length).table().of_kind(kind);
+        for numbers in all_numbers() {
+            let table = Place(table.start(), length).table().under(numbers);
             assert_eq!(judged(table), (TOO_LONG, 0, 0));
             assert_eq!(table_answers(table, 0, 3), [TOO_LONG; 13]);
             assert_eq!(split(table, 0, other, Place::of(b"")), TOO_LONG);
@@ -70,7 +70,7 @@ fn vast_buffers_and_rooms() {
         (SYSTEM_TABLE, 1, 0),
         (SYSTEM_TABLE, 1, 1),
     ] {
-        let table = Place::of(bytes).table().of_kind(kind);
+        let table = Place::of(bytes).table().under(kind);
         let mut runs = [(); 5].map(|_| Vast::of(b"---"));
         let [shell, input, room, text, records] =
             runs.each_mut().map(|vast| Place(vast.start(), VAST + more));
@@ -94,7 +94,7 @@ fn vast_buffers_and_rooms() {
 #[test]
 fn vast_runs() {
     for (bytes, kind) in [(TABLE, 0), (SYSTEM_TABLE, 1)] {
-        let table = Place::of(bytes).table().of_kind(kind);
+        let table = Place::of(bytes).table().under(kind);
         for places in [VAST - 1, VAST, VAST + 1] {
             let mut runs = [(); 2].map(|_| Vast::of(&[0x55; 16]));
             let [minutes, entries] = runs.each_mut().map(|vast| Place(vast.start(), places));

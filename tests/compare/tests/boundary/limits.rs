@@ -134,9 +134,9 @@ fn tables_at_the_limits() {
     for kind in Kind::BOTH {
         for (table, fault) in rows(kind) {
             let shown = table[..table.len().min(50)].escape_ascii();
-            let found = Compared::of_kind(&table, kind.number()).fault();
+            let found = Compared::under(&table, kind).fault();
             assert_eq!(found, fault, "{kind:?} {shown}, {} bytes", table.len());
-            every_call(&mut random, &table, kind.number());
+            every_call(&mut random, &table, kind.into());
         }
     }
 }
@@ -150,7 +150,7 @@ fn tables_at_the_limits_with_one_byte_changed() {
                 let at = random.below(table.len() as u64) as usize;
                 let byte = random.pick(b"\0\x01\r\x7f\n \t%\\*@#='\"1a\xff:/-");
                 let before = std::mem::replace(&mut table[at], byte);
-                Compared::of_kind(&table, kind.number()).everything(&mut random);
+                Compared::under(&table, kind).everything(&mut random);
                 table[at] = before;
             }
         }

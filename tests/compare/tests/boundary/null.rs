@@ -1,7 +1,7 @@
 //! A null pointer with length 0 is an empty run of bytes like any other, for every pointer of every function.
 
 use crate::raw::{
-    decompiled, fit, judged, lists, queue_answers, split, table_answers, texts, Place, KINDS,
+    all_numbers, decompiled, fit, judged, lists, queue_answers, split, table_answers, texts, Place,
 };
 use compare::queue::Case;
 use eremothyn::{Answer, Table, REFUSED};
@@ -22,8 +22,8 @@ fn for_each_empty(test: impl Fn(Place)) {
 #[test]
 fn no_table() {
     for_each_empty(|empty| {
-        for kind in KINDS {
-            let table = empty.table().of_kind(kind);
+        for numbers in all_numbers() {
+            let table = empty.table().under(numbers);
             assert_eq!(judged(table), (Ok(0), 0, 0));
             let mut bytes = [7];
             assert_eq!(texts(table, [empty; 2]), [Ok(0); 2]);
@@ -51,7 +51,7 @@ fn no_buffer() {
     let system = b"@daily u a%b\n@daily u a\n@daily u a%\n@daily u %\n@daily u %b\n";
     let [user, system] = [&user[..], system].map(Guarded::read_only);
     no_buffer_for(Place::of(&user).table());
-    no_buffer_for(Place::of(&system).table().of_kind(1));
+    no_buffer_for(Place::of(&system).table().under(1));
 }
 
 fn no_buffer_for(table: Table) {
@@ -87,8 +87,8 @@ fn no_run() {
     for_each_empty(|empty| {
         for (table, answers) in rows {
             let table = Guarded::read_only(table);
-            for kind in KINDS {
-                let table = Place::of(&table).table().of_kind(kind);
+            for numbers in all_numbers() {
+                let table = Place::of(&table).table().under(numbers);
                 assert_eq!(lists(table, 0, [empty; 2]), answers);
                 let mut minutes = [7u32];
                 let some = Place(minutes.as_mut_ptr().cast(), 1);
@@ -154,10 +154,10 @@ fn no_room() {
     let entry = Place::of(&entry).table();
     let least = Case::of(b"").least;
     for_each_empty(|empty| {
-        for kind in KINDS {
-            assert_eq!(queue_answers(entry.of_kind(kind), empty), [NO_LINE; 3]);
+        for numbers in all_numbers() {
+            assert_eq!(queue_answers(entry.under(numbers), empty), [NO_LINE; 3]);
             // A table without entries has a line, too, and its mark needs room.
-            let table = empty.table().of_kind(kind);
+            let table = empty.table().under(numbers);
             let mut room = vec![7; least];
             let answers = queue_answers(table, Place::of_mut(&mut room));
             assert_eq!(answers, [Ok(0), Ok(0), Ok(REFUSED)]);

@@ -1,9 +1,15 @@
 //! The C functions with any pointers and lengths, as no slice has them.
 
-use eremothyn::{Answer, Filled, Records, Run, Table};
+use eremothyn::{Answer, Filled, Numbers, Records, Run, Table};
 
-/// Numbers of both kinds.
-pub const KINDS: [u64; 5] = [0, 1, 2, 1 << 32, u64::MAX];
+/// Numbers of both kinds and both dialects.
+const NUMBERS: [u64; 5] = [0, 1, 2, 1 << 32, u64::MAX];
+
+/// Each as a kind with each as a dialect.
+pub fn all_numbers() -> impl Iterator<Item = Numbers> {
+    let of = |kind| NUMBERS.map(|dialect| Numbers { kind, dialect });
+    NUMBERS.into_iter().flat_map(of)
+}
 
 /// Where bytes start, and how many they are said to be.
 #[derive(Clone, Copy)]

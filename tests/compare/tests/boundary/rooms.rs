@@ -2,23 +2,23 @@
 
 use crate::{bytes, numbers};
 use compare::queue::{judge, refused, Case, Compared};
-use compare::samples::{alike, any_kind, busy_table, damage};
-use eremothyn::{Answer, Table};
+use compare::samples::{alike, any_rules, busy_table, damage};
+use eremothyn::{Answer, Numbers, Table};
 use guard::filled;
 use second::queue::Queue;
 use second::random::Random;
 use second::table::{Kind, ENTRIES};
 
 /// Every call of the run queue with a table, whose check answered so, in some room.
-pub fn every_call(random: &mut Random, table: &[u8], kind: u64, check: Answer) {
+pub fn every_call(random: &mut Random, table: &[u8], under: Numbers, check: Answer) {
     let minute = numbers::minute(random);
     match check {
         Err(number) => {
             let length = random.below(100) as usize;
-            refused(table, kind, number, &bytes::any(random, length), minute);
+            refused(table, under, number, &bytes::any(random, length), minute);
         }
         Ok(_) => {
-            let case = Case::of_kind(table, kind);
+            let case = Case::under(table, under);
             for _ in 0..3 {
                 let length = near(random, case.least);
                 let _ = every_call_in(random, &case, length);
@@ -76,9 +76,9 @@ fn rooms_of_every_length() {
     let mut random = Random::seeded();
     let (mut lines, mut others) = (0, 0);
     for entries in [0, 1, 2, 3, 4, 5, 8, 13, 31, 64, 128, 129, ENTRIES] {
-        let kind = any_kind(&mut random);
-        let table = busy_table(&mut random, kind, entries as u64);
-        let case = Case::of_kind(&table, kind.number());
+        let rules = any_rules(&mut random);
+        let table = busy_table(&mut random, rules, entries as u64);
+        let case = Case::under(&table, rules);
         let times = if entries < 10 { 40 } else { 2 };
         // Every length, but of a room for many only some, and those about the least.
         let step = 1 + entries / 40;
@@ -107,7 +107,7 @@ fn the_least_room_holds_all_entries() {
         let tables = all_alike(entries);
         let cases = tables
             .each_ref()
-            .map(|(table, kind)| Case::of_kind(table, kind.number()));
+            .map(|(table, kind)| Case::under(table, *kind));
         let room = cases[0].least;
         assert!(cases.iter().all(|case| case.least == room));
         least.push(room);
@@ -134,7 +134,7 @@ fn all_alike(entries: usize) -> [(Vec<u8>, Kind); 4] {
 fn a_line_lent_in_parts_of_every_length() {
     for entries in [0, 1, 2, 7, 20, 65, 129, ENTRIES] {
         for (table, kind) in all_alike(entries) {
-            let case = Case::of_kind(&table, kind.number());
+            let case = Case::under(&table, kind);
             let most = case.enough() + 70;
             let about = case.least.saturating_sub(1)..=case.least + 1;
             for length in (0..=most)
@@ -157,14 +157,14 @@ fn a_line_lent_in_parts_of_every_length() {
 fn bytes_behind_what_a_fresh_line_writes_stay() {
     let mut random = Random::seeded();
     for entries in 0..40 {
-        let kind = any_kind(&mut random);
-        let table = busy_table(&mut random, kind, entries);
-        let case = Case::of_kind(&table, kind.number());
+        let rules = any_rules(&mut random);
+        let table = busy_table(&mut random, rules, entries);
+        let case = Case::under(&table, rules);
         // A byte that is written is the same in both rooms, and no other is.
         let before = filled(case.enough());
         let rooms = [before.clone(), before.iter().map(|byte| !byte).collect()];
         let after = rooms.clone().map(|mut room: Vec<u8>| {
-            let table = Table::of(&table).of_kind(kind.number());
+            let table = Table::of(&table).under(rules);
             let answer = table.queue_init(&mut room[..]);
             assert!(answer.is_ok());
             room
@@ -188,7 +188,7 @@ fn rooms_with_any_two_bytes() {
         (b"* * * * * a\n0 * * * * b\n@reboot c\n", 0),
         (b"* * * * * u a\n@reboot u b\n", 1),
     ] {
-        let case = Case::of_kind(table, kind);
+        let case = Case::under(table, kind);
         let mut line = Compared::fresh(&case, case.least);
         for minute in [None, Some(1), Some(0)] {
             if let Some(minute) = minute {

@@ -1,6 +1,6 @@
 //! Commands split into buffers of every length about what is needed.
 
-use compare::samples::{any_kind, of_kind};
+use compare::samples::{any_rules, of_kind};
 use compare::table::Compared;
 use second::random::Random;
 use second::table::LINE_BYTES;
@@ -28,11 +28,11 @@ fn split_into_every(compared: &Compared, entry: u64, before: usize, beyond: usiz
 fn short_commands_into_all_buffers() {
     let mut random = Random::seeded();
     for _ in 0..2_000 {
-        let kind = any_kind(&mut random);
+        let rules = any_rules(&mut random);
         let length = 1 + random.below(14) as usize;
-        let start = of_kind("@daily ~", kind);
+        let start = of_kind("@daily ~", rules);
         let table = [start.as_bytes(), &command(&mut random, length), b"\n"].concat();
-        let compared = Compared::of_kind(&table, kind.number());
+        let compared = Compared::under(&table, rules);
         split_into_every(&compared, 0, length, 2);
     }
 }
@@ -41,8 +41,8 @@ fn short_commands_into_all_buffers() {
 fn long_commands_into_buffers_about_the_needed_length() {
     let mut random = Random::seeded();
     for _ in 0..500 {
-        let kind = any_kind(&mut random);
-        let start = of_kind("@reboot\t~", kind);
+        let rules = any_rules(&mut random);
+        let start = of_kind("@reboot\t~", rules);
         let length = LINE_BYTES - start.len() - random.below(3) as usize;
         let rare = random.below(2) == 0;
         let mut command = command(&mut random, length);
@@ -53,7 +53,7 @@ fn long_commands_into_buffers_about_the_needed_length() {
         }
         let line = [start.as_bytes(), &command].concat();
         let table = [&line[..], b"@daily a b", &line, b""].join(&b'\n');
-        let compared = Compared::of_kind(&table, kind.number());
+        let compared = Compared::under(&table, rules);
         for entry in [0, 2] {
             split_into_every(&compared, entry, 2, 2);
             // A command's length is always room enough.

@@ -1,22 +1,22 @@
-//! Every call with tables of every sort, under any number as their kind.
+//! Every call with tables of every sort, under any numbers for their kind and their dialect.
 
 use crate::bytes;
-use crate::every::{every_call, every_call_in_both_kinds};
-use compare::samples::{any_kind, kind_number};
+use crate::every::{every_call, every_call_under_all};
+use compare::samples::{any_rules, numbers};
 use second::random::Random;
 
 #[test]
 fn every_call_with_small_tables() {
     let mut random = Random::seeded();
     for _ in 0..80_000 {
-        let kind = any_kind(&mut random);
-        let table = bytes::table(&mut random, kind);
-        // Now and then it is read as one of the other kind.
-        let read_as = match random.below(8) {
-            0 => kind.other(),
-            _ => kind,
+        let rules = any_rules(&mut random);
+        let table = bytes::table(&mut random, rules);
+        // Now and then it is read as one of others.
+        let read_as = match random.below(6) {
+            0 => any_rules(&mut random),
+            _ => rules,
         };
-        let number = kind_number(&mut random, read_as);
+        let number = numbers(&mut random, read_as);
         every_call(&mut random, &table, number);
     }
 }
@@ -29,7 +29,7 @@ fn every_call_with_any_bytes_of_all_lengths() {
     for length in (0..300).chain(pages) {
         for _ in 0..10 {
             let table = bytes::any(&mut random, length);
-            every_call_in_both_kinds(&mut random, &table);
+            every_call_under_all(&mut random, &table);
         }
     }
 }
@@ -46,7 +46,7 @@ fn every_call_with_tables_cut_at_every_place() {
     for table in [user, system, offsets] {
         for length in 0..=table.len() {
             for start in 0..=length {
-                every_call_in_both_kinds(&mut random, &table[start..length]);
+                every_call_under_all(&mut random, &table[start..length]);
             }
         }
     }

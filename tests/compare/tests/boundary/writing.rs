@@ -5,7 +5,7 @@ use compare::records;
 use compare::table::Compared;
 use second::random::Random;
 use second::table::normal::samples;
-use second::table::{Kind, LINE_BYTES, TABLE_BYTES};
+use second::table::{Dialect, LINE_BYTES, TABLE_BYTES};
 
 /// A buffer of every length up to so many beyond what is needed, from 0 or from as much before it: for the text, for the
 /// records, and for the text that these mean.
@@ -38,8 +38,9 @@ fn small_tables_into_all_buffers() {
 fn tables_of_every_sort_into_any_buffers() {
     let mut random = Random::seeded();
     for _ in 0..40_000 {
-        let table = bytes::table(&mut random, Kind::User);
-        let compared = Compared::of(&table);
+        let dialect = random.pick(&Dialect::BOTH);
+        let table = bytes::table(&mut random, dialect.into());
+        let compared = Compared::under(&table, dialect);
         for _ in 0..4 {
             let length = random.below(2 * table.len() as u64 + 3);
             let _ = compared.normal_form(length as usize);

@@ -32,6 +32,6 @@ fn more(count: usize) -> Result<Filled, u64> {
 fn in_both_kinds(table: &str, test: impl Fn(&Compared)) {
     for kind in Kind::BOTH {
         let table = of_kind(table, kind);
-        test(&Compared::of_kind(table.as_bytes(), kind.number()));
+        test(&Compared::under(table.as_bytes(), kind));
     }
 }

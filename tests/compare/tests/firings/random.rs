@@ -1,6 +1,6 @@
 //! Random tables of both kinds.
 
-use compare::samples::{any_kind, busy_table, kind_number};
+use compare::samples::{any_rules, busy_table, numbers};
 use compare::spans::{any, near};
 use compare::table::Compared;
 use second::random::Random;
@@ -11,10 +11,10 @@ fn small_tables() {
     let mut random = Random::seeded();
     let mut firings = 0;
     for _ in 0..4_000 {
-        let kind = any_kind(&mut random);
+        let rules = any_rules(&mut random);
         let lines = random.below(6);
-        let table = samples::table(&mut random, kind, lines);
-        let compared = Compared::of_kind(&table, kind_number(&mut random, kind));
+        let table = samples::table(&mut random, rules, lines);
+        let compared = Compared::under(&table, numbers(&mut random, rules));
         let span = near(&mut random);
         firings += compared.merged_list(span, 100).len();
         compared.merged_firings_into_all(span);
@@ -30,10 +30,10 @@ fn small_tables() {
 fn busy_tables() {
     let mut random = Random::seeded();
     for _ in 0..300 {
-        let kind = any_kind(&mut random);
+        let rules = any_rules(&mut random);
         let entries = random.below(60);
-        let table = busy_table(&mut random, kind, entries);
-        let compared = Compared::of_kind(&table, kind_number(&mut random, kind));
+        let table = busy_table(&mut random, rules, entries);
+        let compared = Compared::under(&table, numbers(&mut random, rules));
         let span = near(&mut random);
         compared.merged_firings_into_all(span);
         let rooms = [(); 2].map(|_| random.below(2_000) as usize);
@@ -49,9 +49,9 @@ fn busy_tables() {
 fn full_tables() {
     let mut random = Random::seeded();
     for _ in 0..6 {
-        let kind = any_kind(&mut random);
-        let table = busy_table(&mut random, kind, ENTRIES as u64);
-        let compared = Compared::of_kind(&table, kind.number());
+        let rules = any_rules(&mut random);
+        let table = busy_table(&mut random, rules, ENTRIES as u64);
+        let compared = Compared::under(&table, rules);
         assert_eq!(compared.check(), Ok(ENTRIES as u64));
         for _ in 0..10 {
             let span = near(&mut random);
@@ -67,9 +67,9 @@ fn full_tables() {
 fn long_spans() {
     let mut random = Random::seeded();
     for _ in 0..150 {
-        let kind = any_kind(&mut random);
-        let table = samples::table(&mut random, kind, 3);
-        let compared = Compared::of_kind(&table, kind.number());
+        let rules = any_rules(&mut random);
+        let table = samples::table(&mut random, rules, 3);
+        let compared = Compared::under(&table, rules);
         let span = any(&mut random);
         let room = random.below(400) as usize;
         let _ = compared.merged_firings(span, [room, room]);

@@ -102,7 +102,7 @@ fn bad_tables() {
         let good = samples::table(&mut random, kind, 2);
         let (line, _, _) = samples::bad_line(&mut random, kind);
         let table = [&good[..], &line, b"\n"].concat();
-        let compared = Compared::of_kind(&table, kind.number());
+        let compared = Compared::under(&table, kind);
         let Some([number, _, _]) = compared.fault() else {
             panic!("{} is good", table.escape_ascii());
         };

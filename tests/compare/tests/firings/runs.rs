@@ -1,7 +1,7 @@
 //! Runs of every length, and lists that are had in pieces.
 
 use crate::in_both_kinds;
-use compare::samples::{any_kind, busy_table};
+use compare::samples::{any_rules, busy_table};
 use compare::table::Compared;
 use eremothyn::Table;
 use second::calendar::LAST_MINUTE;
@@ -83,11 +83,11 @@ fn lists_in_pieces() {
     let mut random = Random::seeded();
     let mut pieces = 0;
     for _ in 0..300 {
-        let kind = any_kind(&mut random);
+        let rules = any_rules(&mut random);
         let count = 1 + random.below(8);
-        let bytes = busy_table(&mut random, kind, count);
-        let compared = Compared::of_kind(&bytes, kind.number());
-        let table = Table::of(&bytes).of_kind(kind.number());
+        let bytes = busy_table(&mut random, rules, count);
+        let compared = Compared::under(&bytes, rules);
+        let table = Table::of(&bytes).under(rules);
         let a = random.below(LAST_MINUTE - 2_000);
         let span = [a, a + random.below(2_000)];
         // One place more than there are entries is enough.

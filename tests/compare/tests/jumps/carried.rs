@@ -2,7 +2,7 @@
 
 use crate::{emptied, marked};
 use compare::queue::{Case, Compared};
-use compare::samples::{any_kind, busy_table, kind_number};
+use compare::samples::{any_rules, busy_table, numbers};
 use second::calendar::LAST_MINUTE;
 use second::random::Random;
 use second::schedule::samples::start;
@@ -46,14 +46,14 @@ fn runs_with_tables_that_change() {
     let mut random = Random::seeded();
     for _ in 0..100 {
         let tables = [(); 3].map(|_| {
-            let kind = any_kind(&mut random);
+            let rules = any_rules(&mut random);
             let entries = random.below(9);
-            let table = busy_table(&mut random, kind, entries);
-            (table, kind_number(&mut random, kind))
+            let table = busy_table(&mut random, rules, entries);
+            (table, numbers(&mut random, rules))
         });
         let cases = tables
             .each_ref()
-            .map(|(table, kind)| Case::of_kind(table, *kind));
+            .map(|(table, rules)| Case::under(table, *rules));
         let room = cases.iter().map(Case::enough).max().expect("a table");
         let mut line = Compared::fresh(&cases[0], room);
         let mut last = start(&mut random).min(LAST_MINUTE);

@@ -2,10 +2,11 @@
 
 use crate::marked;
 use compare::queue::{Case, Compared};
-use compare::samples::{any_kind, busy_table, of_kind};
+use compare::samples::{any_rules, busy_table, of_kind};
 use second::calendar::LAST_MINUTE;
 use second::random::Random;
 use second::table::offset::{samples as offsets, text};
+use second::table::Rules;
 
 /// The longest that an entry of every day has to wait until it is due.
 const GAP: u64 = 1_440;
@@ -21,8 +22,8 @@ fn named(case: &Case, line: &mut Compared, entry: u64, t: u64) -> Option<u64> {
 }
 
 /// Some entries, one of which is due once a day by some clock, at its place among the others.
-fn table(random: &mut Random) -> (Vec<u8>, u64, u64) {
-    let kind = any_kind(random);
+fn table(random: &mut Random) -> (Vec<u8>, Rules, u64) {
+    let rules = any_rules(random);
     let [before, behind] = [(); 2].map(|_| random.below(5));
     let [minute, hour] = [60, 24].map(|end| random.below(end));
     let fields = match random.below(4) {
@@ -31,19 +32,19 @@ fn table(random: &mut Random) -> (Vec<u8>, u64, u64) {
     };
     let daily = format!("{}\n{fields} ~daily\n", offsets::any_line(random));
     let table = [
-        busy_table(random, kind, before),
-        of_kind(&daily, kind).into_bytes(),
-        busy_table(random, kind, behind),
+        busy_table(random, rules, before),
+        of_kind(&daily, rules).into_bytes(),
+        busy_table(random, rules, behind),
     ];
-    (table.concat(), kind.number(), before)
+    (table.concat(), rules, before)
 }
 
 #[test]
 fn an_entry_of_every_day_is_named_in_time() {
     let mut random = Random::seeded();
     for _ in 0..100 {
-        let (table, kind, entry) = table(&mut random);
-        let case = Case::of_kind(&table, kind);
+        let (table, rules, entry) = table(&mut random);
+        let case = Case::under(&table, rules);
         let room = case.enough();
         // From 1971 on: then every clock shows a date of the calendar.
         let t = 525_600 + random.below(LAST_MINUTE - 2 * 525_600);

@@ -19,7 +19,7 @@ fn mark_in(room: &[u8]) -> Option<u64> {
 fn rows(table: &str, rows: &[Row]) {
     for kind in Kind::BOTH {
         let table = of_kind(table, kind);
-        let case = Case::of_kind(table.as_bytes(), kind.number());
+        let case = Case::under(table.as_bytes(), kind);
         for &(mark, minute, joined, after) in rows {
             let mut line = marked(&case, mark);
             assert_eq!(mark_in(&line.room), mark);
@@ -45,7 +45,7 @@ fn by_local_clocks() {
 fn the_known_run() {
     for kind in Kind::BOTH {
         let table = of_kind(TABLE, kind);
-        let case = Case::of_kind(table.as_bytes(), kind.number());
+        let case = Case::under(table.as_bytes(), kind);
         let mut line = marked(&case, None);
         for (minute, joined, mark) in RUN {
             let answer = line.tick(&case, case.enough(), minute);
@@ -104,7 +104,7 @@ fn who_is_fixed() {
     for (fields, is_fixed) in rows {
         for kind in Kind::BOTH {
             let table = of_kind(&format!(" \t{fields} ~a\n"), kind);
-            let case = Case::of_kind(table.as_bytes(), kind.number());
+            let case = Case::under(table.as_bytes(), kind);
             let mut line = marked(&case, Some(60));
             let answer = line.tick(&case, case.enough(), 181);
             assert_eq!(answer, Ok(u64::from(is_fixed)), "{fields}");

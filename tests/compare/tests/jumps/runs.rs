@@ -1,7 +1,7 @@
 //! Long runs of a clock that jumps, with requests in between. Every room is compared byte by byte.
 
 use compare::queue::{Case, Compared};
-use compare::samples::{any_kind, busy_table, kind_number, of_kind};
+use compare::samples::{any_rules, busy_table, numbers, of_kind};
 use second::calendar::LAST_MINUTE;
 use second::random::Random;
 use second::schedule::samples::start;
@@ -91,9 +91,9 @@ fn a_clock_that_jumps() {
             0 => ENTRIES as u64,
             _ => random.below(14),
         };
-        let kind = any_kind(&mut random);
-        let table = busy_table(&mut random, kind, entries);
-        let case = Case::of_kind(&table, kind_number(&mut random, kind));
+        let rules = any_rules(&mut random);
+        let table = busy_table(&mut random, rules, entries);
+        let case = Case::under(&table, numbers(&mut random, rules));
         let ticks = if entries > 100 { 100 } else { 2_000 };
         run(&mut random, &case, ticks, &mut seen);
     }
@@ -116,9 +116,9 @@ fn fixed_entries_by_their_own_clocks() {
                 format!("{clock}\n{minute} {hour} {days} ~a\n")
             })
             .collect();
-        let kind = any_kind(&mut random);
-        let table = of_kind(&lines, kind);
-        let case = Case::of_kind(table.as_bytes(), kind.number());
+        let rules = any_rules(&mut random);
+        let table = of_kind(&lines, rules);
+        let case = Case::under(table.as_bytes(), rules);
         let room = case.enough();
         for _ in 0..200 {
             let mut line = Compared::fresh(&case, room);
@@ -144,7 +144,7 @@ fn every_distance_from_the_mark() {
     let table = "0 2 * * * ~a\n*/7 * * * * ~b\n15,45 0-5 * * * ~c\nCRON_TZ=-01:30\n30 1 * * * ~d\n";
     for kind in Kind::BOTH {
         let table = of_kind(table, kind);
-        let case = Case::of_kind(table.as_bytes(), kind.number());
+        let case = Case::under(table.as_bytes(), kind);
         let room = case.enough();
         for mark in [
             0,

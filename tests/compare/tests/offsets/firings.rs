@@ -1,7 +1,7 @@
 //! Whether an entry is due, and when it fires next.
 
 use crate::{ends, minutes};
-use compare::samples::{any_kind, kind_number, of_kind};
+use compare::samples::{any_rules, numbers, of_kind};
 use compare::table::Compared;
 use eremothyn::Answer;
 use second::calendar::LAST_MINUTE;
@@ -10,13 +10,13 @@ use second::schedule::samples::start;
 use second::table::offset::known::{DUE, NEXT, SEVERAL, SEVERAL_NEXT};
 use second::table::offset::samples::{line, offset, OFFSETS};
 use second::table::offset::{text, EAST, WEST};
-use second::table::{samples, Kind};
+use second::table::{samples, Kind, Rules};
 
 /// Runs a test with a table of either kind: `~` is a system table's user.
 fn in_both_kinds(table: &str, test: impl Fn(&Compared)) {
     for kind in Kind::BOTH {
         let table = of_kind(table, kind);
-        test(&Compared::of_kind(table.as_bytes(), kind.number()));
+        test(&Compared::under(table.as_bytes(), kind));
     }
 }
 
@@ -146,9 +146,9 @@ fn a_clock_moves_firings() {
 fn the_last_offset_before_an_entry_counts() {
     let mut random = Random::seeded();
     for _ in 0..2_000 {
-        let kind = any_kind(&mut random);
-        let (table, offsets) = with_offsets(&mut random, kind);
-        let compared = Compared::of_kind(table.as_bytes(), kind_number(&mut random, kind));
+        let rules = any_rules(&mut random);
+        let (table, offsets) = with_offsets(&mut random, rules);
+        let compared = Compared::under(table.as_bytes(), numbers(&mut random, rules));
         assert_eq!(compared.check(), Ok(offsets.len() as u64), "{table}");
         for (entry, &offset) in (0..).zip(&offsets) {
             for end in ends(offset) {
@@ -160,7 +160,7 @@ fn the_last_offset_before_an_entry_counts() {
 }
 
 /// A table with many offsets and entries of every minute, and the offset of each of them.
-fn with_offsets(random: &mut Random, kind: Kind) -> (String, Vec<i64>) {
+fn with_offsets(random: &mut Random, rules: Rules) -> (String, Vec<i64>) {
     let mut table = String::new();
     let mut offsets = Vec::new();
     let mut current = 0;
@@ -172,7 +172,7 @@ fn with_offsets(random: &mut Random, kind: Kind) -> (String, Vec<i64>) {
             }
             1 => table += random.pick(&["A=b", "# CRON_TZ=+01:00", "", "TZ=+01:00"]),
             _ => {
-                table += &of_kind("* * * * * ~a", kind);
+                table += &of_kind("* * * * * ~a", rules);
                 offsets.push(current);
             }
         }

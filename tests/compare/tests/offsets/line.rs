@@ -19,7 +19,7 @@ fn every_minute(kind: Kind) -> String {
 fn who_joins_at_every_minute() {
     for kind in Kind::BOTH {
         let table = every_minute(kind);
-        let case = Case::of_kind(table.as_bytes(), kind.number());
+        let case = Case::under(table.as_bytes(), kind);
         let room = case.enough();
         for minute in minutes() {
             let mut line = Compared::fresh(&case, room);
@@ -48,7 +48,7 @@ fn a_run_up_and_down() {
         let lines = ["0 0 * * *", "*/2 * * * *", "59 23 31 12 *", "@reboot"]
             .map(|time| OFFSETS.map(|offset| format!("CRON_TZ={}\n{time} ~a\n", text(offset))));
         let table = of_kind(&lines.concat().concat(), kind);
-        let case = Case::of_kind(table.as_bytes(), kind.number());
+        let case = Case::under(table.as_bytes(), kind);
         let room = case.enough();
         let mut line = Compared::fresh(&case, room);
         for minute in minutes().into_iter().chain(minutes().into_iter().rev()) {
@@ -64,7 +64,7 @@ fn a_run_up_and_down() {
 fn a_day_with_several_offsets() {
     for kind in Kind::BOTH {
         let table = of_kind(SEVERAL, kind);
-        let case = Case::of_kind(table.as_bytes(), kind.number());
+        let case = Case::under(table.as_bytes(), kind);
         let room = case.enough();
         let mut line = Compared::fresh(&case, room);
         let mut named = Vec::new();

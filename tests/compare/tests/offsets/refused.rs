@@ -8,7 +8,7 @@ use second::table::Kind;
 
 /// The fault of a table, the same in both kinds.
 fn fault(table: &[u8]) -> Option<[u64; 3]> {
-    let [user, system] = Kind::BOTH.map(|kind| Compared::of_kind(table, kind.number()).fault());
+    let [user, system] = Kind::BOTH.map(|kind| Compared::under(table, kind).fault());
     assert_eq!(user, system, "{}", table.escape_ascii());
     user
 }
@@ -35,7 +35,7 @@ fn every_bad_line_at_every_place() {
 fn every_call_is_refused() {
     let table = b"* * * * * u a\nCRON_TZ=Japan\n";
     for kind in [0, 1, u64::MAX] {
-        let compared = Compared::of_kind(table, kind);
+        let compared = Compared::under(table, kind);
         for any in [0, 1, 2, u64::MAX] {
             assert_eq!(compared.due(any, any), Err(25));
             assert_eq!(compared.next(any, any), Err(25));

@@ -53,6 +53,6 @@ fn there_is_no_kind() {
     let table = b"@daily root a\n* * * * * b\n";
     let records = Compared::of(table).there_and_back();
     for kind in [1, 2, 1 << 32, u64::MAX] {
-        assert_eq!(Compared::of_kind(table, kind).there_and_back(), records);
+        assert_eq!(Compared::under(table, kind).there_and_back(), records);
     }
 }

@@ -26,7 +26,7 @@ fn percent_and_backslash_in_every_combination() {
     for text in texts(b"%\\ab ", 6) {
         for (start, kind) in [("@daily x", 0), ("@daily u:g x", 1)] {
             let line = [start.as_bytes(), &text, b"\n"].concat();
-            let table = Compared::of_kind(&line, kind);
+            let table = Compared::under(&line, kind);
             let _ = table.stdin_length(0);
             table.split_into_all(0);
         }
@@ -44,9 +44,9 @@ fn commands_that_are_percent_and_backslash_alone() {
         ] {
             let table = [start.as_bytes(), &text, b"\n\\%%"].concat();
             // What follows is a line of its own, and no good one.
-            assert_eq!(Compared::of_kind(&table, kind).fault(), Some([11, 2, 1]));
+            assert_eq!(Compared::under(&table, kind).fault(), Some([11, 2, 1]));
             let table = &table[..table.len() - 3];
-            let compared = Compared::of_kind(table, kind);
+            let compared = Compared::under(table, kind);
             let _ = compared.stdin_length(0);
             compared.split_into_all(0);
         }
@@ -56,7 +56,7 @@ fn commands_that_are_percent_and_backslash_alone() {
 /// The shell line and the input of a table's first entry.
 fn split(table: &str, kind: Kind) -> [Vec<u8>; 2] {
     let [mut shell, mut input] = [(); 2].map(|_| vec![b'~'; table.len()]);
-    let table = Table::of(table.as_bytes()).of_kind(kind.number());
+    let table = Table::of(table.as_bytes()).under(kind);
     let length = table.split_command(0, &mut shell[..], &mut input[..]);
     let lengths = [length, table.stdin_length(0).map(Option::unwrap_or_default)];
     for (buffer, length) in [&mut shell, &mut input].into_iter().zip(lengths) {
@@ -89,7 +89,7 @@ fn known_commands() {
     for (command, shell, input) in rows {
         for kind in Kind::BOTH {
             let line = of_kind(&format!("* * * * * ~{command}\n"), kind);
-            let table = Compared::of_kind(line.as_bytes(), kind.number());
+            let table = Compared::under(line.as_bytes(), kind);
             let length = input.map(|input| input.len() as u64);
             assert_eq!(table.stdin_length(0), Ok(length), "{line}");
             let lengths = [shell.len(), input.unwrap_or_default().len()];
@@ -147,7 +147,7 @@ fn a_command_starts_after_the_blanks_and_keeps_its_own() {
                 "=\"",
             ] {
                 let line = format!("{start}{blanks}{command}\n");
-                let table = Compared::of_kind(line.as_bytes(), kind);
+                let table = Compared::under(line.as_bytes(), kind);
                 let shell = command.find('%').unwrap_or(command.len());
                 assert_eq!(
                     table.split_command(0, [shell, 0]),
@@ -170,7 +170,7 @@ fn the_command_of_each_entry_is_its_own() {
             let line = format!("@hourly ~{}%{entry}\n", "c".repeat(entry % 50));
             table.extend(of_kind(&line, kind).bytes());
         }
-        let compared = Compared::of_kind(&table, kind.number());
+        let compared = Compared::under(&table, kind);
         assert_eq!(compared.check(), Ok(ENTRIES as u64));
         for entry in 0..ENTRIES as u64 {
             let shell = entry % 50;

@@ -1,7 +1,7 @@
 //! Ticket 2026-11: a table that was cut after any byte is refused, or is a whole table that ends in a newline; and the bytes that no
 //! line has.
 
-use compare::samples::{any_kind, ended, kind_number, of_kind};
+use compare::samples::{any_rules, ended, numbers, of_kind};
 use compare::table::Compared;
 use second::random::Random;
 use second::table::offset::known::SEVERAL;
@@ -15,7 +15,7 @@ fn cut_everywhere(table: &[u8]) {
     for kind in Kind::BOTH {
         for length in 0..=table.len() {
             let prefix = &table[..length];
-            let fault = Compared::of_kind(prefix, kind.number()).fault();
+            let fault = Compared::under(prefix, kind).fault();
             let is_whole = matches!(prefix.last(), None | Some(b'\n'));
             let shown = prefix.escape_ascii();
             assert!(fault.is_some() || is_whole, "{kind:?} {shown}");
@@ -70,9 +70,9 @@ fn known_tables_cut_after_every_byte() {
 fn random_tables_cut_after_every_byte() {
     let mut random = Random::seeded();
     for _ in 0..300 {
-        let kind = any_kind(&mut random);
+        let rules = any_rules(&mut random);
         let lines = random.below(5);
-        cut_everywhere(&samples::table(&mut random, kind, lines));
+        cut_everywhere(&samples::table(&mut random, rules, lines));
     }
 }
 
@@ -89,7 +89,7 @@ fn every_call_refuses_a_cut_table() {
     ];
     for table in tables {
         for kind in Kind::BOTH {
-            let compared = Compared::of_kind(table, kind.number());
+            let compared = Compared::under(table, kind);
             let last = table.rsplit(|&byte| byte == b'\n').next().expect("a line");
             let newlines = table.iter().filter(|&&byte| byte == b'\n').count();
             let place = [26, newlines as u64 + 1, last.len() as u64 + 1];
@@ -104,10 +104,7 @@ fn every_call_refuses_a_cut_table() {
             }
             assert_eq!(compared.normal_form(99), Err(26));
             assert_eq!(compared.compile(99), Err(26));
-            assert_eq!(
-                Compared::of_kind(&ended(table), kind.number()).fault(),
-                None
-            );
+            assert_eq!(Compared::under(&ended(table), kind).fault(), None);
         }
     }
 }
@@ -132,7 +129,7 @@ fn every_byte_at_every_place_of_every_sort_of_line() {
                 with.insert(at, byte);
                 let table = [b"a=b\n", &with[..], b"\n"].concat();
                 for kind in Kind::BOTH {
-                    let fault = Compared::of_kind(&table, kind.number()).fault();
+                    let fault = Compared::under(&table, kind).fault();
                     let refused = matches!(byte, 1..=8 | 11..=31 | 127);
                     let place = [2, at as u64 + 1];
                     let of_bytes = fault.filter(|[number, ..]| [3, 27].contains(number));
@@ -153,8 +150,8 @@ fn every_byte_at_every_place_of_every_sort_of_line() {
 fn the_order_of_the_first_three() {
     let mut random = Random::seeded();
     for _ in 0..5_000 {
-        let kind = any_kind(&mut random);
-        let mut line = samples::line(&mut random, kind);
+        let rules = any_rules(&mut random);
+        let mut line = samples::line(&mut random, rules);
         let mut put = |byte: u8| {
             let at = random.below(line.len() as u64 + 1) as usize;
             line.insert(at, byte);
@@ -164,17 +161,17 @@ fn the_order_of_the_first_three() {
         }
         let zero = line.iter().position(|&byte| byte == 0).expect("a byte 0");
         let table = ended(&line);
-        let number = kind_number(&mut random, kind);
-        let fault = Compared::of_kind(&table, number).fault();
+        let number = numbers(&mut random, rules);
+        let fault = Compared::under(&table, number).fault();
         assert_eq!(fault, Some([3, 1, zero as u64 + 1]));
         let without: Vec<u8> = line.iter().copied().filter(|&byte| byte != 0).collect();
         let first = without.iter().position(|byte| [1, 13, 127].contains(byte));
         let table = ended(&without);
-        let fault = Compared::of_kind(&table, number).fault();
+        let fault = Compared::under(&table, number).fault();
         assert_eq!(fault, Some([27, 1, first.expect("a byte") as u64 + 1]));
         line.resize(1_001, b' ');
         let table = ended(&line);
-        let fault = Compared::of_kind(&table, number).fault();
+        let fault = Compared::under(&table, number).fault();
         assert_eq!(fault, Some([2, 1, 1_001]));
     }
 }

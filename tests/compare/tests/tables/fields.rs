@@ -4,6 +4,7 @@ use compare::table::Compared;
 use second::calendar::minute_of;
 use second::random::Random;
 use second::table::samples::{self, LIMITS};
+use second::table::Dialect;
 
 /// A minute for each value of a field from its first on, in a table whose other fields are `*`.
 fn minutes_of_values(which: usize) -> Vec<u64> {
@@ -118,7 +119,7 @@ fn lists_have_the_values_of_their_elements() {
     for round in 0..10_000 {
         let which = round % 5;
         let texts: Vec<String> = (0..1 + random.below(6))
-            .map(|_| samples::field(&mut random, which))
+            .map(|_| samples::field(&mut random, Dialect::Rising, which))
             .filter(|text| !text.starts_with('*'))
             .collect();
         if texts.is_empty() {

@@ -52,7 +52,7 @@ fn known_days() {
 fn due_is_no_for_reboot_and_refused_off_the_calendar() {
     for kind in [0, 1] {
         // Good in both kinds.
-        let table = Compared::of_kind(b"@reboot a b\n* * * * * c d\n", kind);
+        let table = Compared::under(b"@reboot a b\n* * * * * c d\n", kind);
         for minute in [0, 1, 15_863_040, LAST_MINUTE] {
             assert_eq!(table.due(0, minute), Ok(0));
             assert_eq!(table.due(1, minute), Ok(1));
@@ -68,7 +68,7 @@ fn due_is_no_for_reboot_and_refused_off_the_calendar() {
 #[test]
 fn numbers_of_entries_and_lines_are_never_cut_short() {
     for kind in [0, 1] {
-        never_cut_short(&Compared::of_kind(b"a=b\n* * * * * u c%d\ne=f\n", kind));
+        never_cut_short(&Compared::under(b"a=b\n* * * * * u c%d\ne=f\n", kind));
     }
 }
 

@@ -431,7 +431,7 @@ fn full_tables() {
 fn there_is_no_kind() {
     let table = b"@daily root a\n* * * * * b\n";
     for kind in [0, 1, 2, 1 << 32, u64::MAX] {
-        let compared = Compared::of_kind(table, kind);
+        let compared = Compared::under(table, kind);
         compared.normal_form_into_all();
         let text = compared.normal_text().expect("a good user table");
         assert_eq!(text, b"0 0 * * * root a\n* * * * * b\n");

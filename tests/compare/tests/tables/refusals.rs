@@ -8,7 +8,7 @@ use second::table::{Kind, ENTRIES};
 
 /// Refused, by number, line and column. Every call then refuses so.
 fn refused(kind: Kind, table: &[u8], fault: [u64; 3]) {
-    let compared = Compared::of_kind(table, kind.number());
+    let compared = Compared::under(table, kind);
     let shown = table.escape_ascii();
     assert_eq!(compared.fault(), Some(fault), "{shown}");
     let number = fault[0];
@@ -31,7 +31,7 @@ fn refused_in_both(table: &[u8], fault: [u64; 3]) {
 }
 
 fn good(kind: Kind, table: &[u8], entries: u64) {
-    let compared = Compared::of_kind(table, kind.number());
+    let compared = Compared::under(table, kind);
     assert_eq!(compared.fault(), None);
     assert_eq!(compared.check(), Ok(entries));
 }
@@ -295,7 +295,7 @@ fn every_bad_line_at_every_place_of_a_table() {
                 let fault = [number, at as u64 + 1, column];
                 refused(kind, &table, fault);
                 table.push(b'\n');
-                let compared = Compared::of_kind(&table, kind.number());
+                let compared = Compared::under(&table, kind);
                 assert_eq!(compared.fault(), Some(fault));
             }
         }
@@ -312,7 +312,7 @@ fn the_first_of_two_bad_lines_counts() {
             [(); 2].map(|_| &bad_lines[random.below(bad_lines.len() as u64) as usize]);
         let between = of_kind(random.pick(&GOOD_LINES), kind);
         let table = [b"a=b", &first.0[..], between.as_bytes(), &second.0].join(&b'\n');
-        let fault = Compared::of_kind(&table, kind.number()).fault();
+        let fault = Compared::under(&table, kind).fault();
         assert_eq!(
             fault,
             Some([first.1, 2, first.2]),
@@ -336,7 +336,7 @@ fn the_first_of_two_bad_fields_counts() {
                     for (end, kind) in [(" a", 0), ("", 0), (" a:", 1), (" a b", 1)] {
                         let line = format!("{}{end}", words.join(" "));
                         let column = 2 * left + offset + 1;
-                        let fault = Compared::of_kind(line.as_bytes(), kind).fault();
+                        let fault = Compared::under(line.as_bytes(), kind).fault();
                         assert_eq!(fault, Some([*number, 1, column as u64]), "{line}");
                     }
                 }
@@ -478,5 +478,5 @@ fn one_entry_too_many_of(kind: Kind) {
         good(kind, table.as_bytes(), fewer as u64);
     }
     let table = entry.repeat(ENTRIES);
-    Compared::of_kind(table.as_bytes(), kind.number()).everything(&mut Random::new(4));
+    Compared::under(table.as_bytes(), kind).everything(&mut Random::new(4));
 }

@@ -4,7 +4,7 @@ use compare::table::Compared;
 
 /// Name and value of a line, with where they start in the table, which is good in both kinds or bad in both.
 fn shown(table: &str, line: u64) -> Result<[(usize, &str); 2], u64> {
-    let settings = [0, 1].map(|kind| Compared::of_kind(table.as_bytes(), kind).setting(line));
+    let settings = [0, 1].map(|kind| Compared::under(table.as_bytes(), kind).setting(line));
     assert_eq!(settings[0], settings[1], "{table}");
     let setting = settings[0]?;
     let part =
@@ -102,7 +102,7 @@ fn short_lines_of_the_bytes_that_settings_are_made_of() {
         for line in &lines {
             let table = [b"x=y\n", &line[..], b"\nz='\"'\n"].concat();
             for kind in [0, 1] {
-                let compared = Compared::of_kind(&table, kind);
+                let compared = Compared::under(&table, kind);
                 for number in 1..=3 {
                     let _ = compared.setting(number);
                 }
@@ -124,7 +124,7 @@ fn every_line_of_a_long_table() {
         })
         .collect();
     for kind in [0, 1] {
-        let compared = Compared::of_kind(table.as_bytes(), kind);
+        let compared = Compared::under(table.as_bytes(), kind);
         for line in 0..2_003 {
             let expected = line % 3 == 0 && (1..=2_000).contains(&line);
             assert_eq!(compared.setting(line).is_ok(), expected, "line {line}");

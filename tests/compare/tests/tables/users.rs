@@ -294,11 +294,11 @@ fn every_number_is_a_kind() {
         b"",
     ];
     for table in tables {
-        let user = Compared::of_kind(table, 0).fault();
-        let system = Compared::of_kind(table, 1).fault();
-        Compared::of_kind(table, 0).everything(&mut Random::new(4));
+        let user = Compared::under(table, 0).fault();
+        let system = Compared::under(table, 1).fault();
+        Compared::under(table, 0).everything(&mut Random::new(4));
         for kind in system_kinds() {
-            let compared = Compared::of_kind(table, kind);
+            let compared = Compared::under(table, kind);
             assert_eq!(compared.fault(), system, "kind {kind}");
             compared.everything(&mut Random::new(4));
         }
@@ -307,7 +307,7 @@ fn every_number_is_a_kind() {
     // The two do differ.
     assert_eq!(Compared::of(b"* * * * * a\n").fault(), None);
     for kind in system_kinds() {
-        let fault = Compared::of_kind(b"* * * * * a\n", kind).fault();
+        let fault = Compared::under(b"* * * * * a\n", kind).fault();
         assert_eq!(fault, Some([9, 1, 12]));
     }
 }
@@ -322,8 +322,8 @@ fn the_kinds_agree_on_all_but_the_column() {
         let user = format!("A=b\n{fields} c%d\n@reboot e\n");
         let system = format!("A=b\n{fields} {column} c%d\n@reboot {column}\te\n");
         let tables = [
-            Compared::of_kind(user.as_bytes(), Kind::User.number()),
-            Compared::of_kind(system.as_bytes(), Kind::System.number()),
+            Compared::under(user.as_bytes(), Kind::User.number()),
+            Compared::under(system.as_bytes(), Kind::System.number()),
         ];
         for entry in 0..3 {
             for _ in 0..3 {

@@ -1,6 +1,6 @@
 //! The paper's "What comes back": the calls with a table, each with its refusals in their order.
 
-use super::{read, Entry, Fault, Kind, Setting, Table};
+use super::{read, Entry, Fault, Rules, Setting, Table};
 use crate::answer::Answer;
 use crate::calendar::LAST_MINUTE;
 use crate::command::{split, Command};
@@ -16,9 +16,9 @@ pub struct Calls<'a> {
 }
 
 impl<'a> Calls<'a> {
-    pub fn of(bytes: &'a [u8], kind: Kind) -> Calls<'a> {
+    pub fn of(bytes: &'a [u8], rules: impl Into<Rules>) -> Calls<'a> {
         Calls {
-            table: read(bytes, kind),
+            table: read(bytes, rules),
         }
     }
 

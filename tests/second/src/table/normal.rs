@@ -1,6 +1,6 @@
 //! Ticket 2026-06: what a user table means, and the one text that says it. Nothing is known here of what has to be quoted
 //! or of how a step comes to its values: the ways to write a name, a value or a field are tried in the ticket's order, and
-//! the first that reads as what is meant is taken.
+//! the first that reads as what is meant is taken. They are read in the first dialect; a text reads the same in either.
 
 #[cfg(test)]
 mod tests;
@@ -8,7 +8,7 @@ mod tests;
 pub mod samples;
 
 use super::calls::BUFFER_TOO_SHORT;
-use super::{content, lines, read, schedule, Fault, Kind, Line, When, Words};
+use super::{content, lines, read, schedule, Dialect, Fault, Line, When, Words};
 use super::{LINE_BYTES, TABLE_BYTES};
 use crate::answer::Answer;
 use crate::schedule::Schedule;
@@ -25,15 +25,25 @@ pub enum Item<'a> {
     Entry { when: When, command: &'a [u8] },
 }
 
-/// The settings and entries of a user table as one sequence.
+/// The settings and entries of a user table as one sequence; it is read in the first dialect.
 pub fn meaning(table: &[u8]) -> Result<Vec<Item<'_>>, Fault> {
-    read(table, Kind::User)?;
+    meaning_of(table, Dialect::Rising)
+}
+
+/// The same of a table in any dialect.
+pub fn meaning_of(table: &[u8], dialect: Dialect) -> Result<Vec<Item<'_>>, Fault> {
+    read(table, dialect)?;
+    let item = |line| item_in(line, dialect);
     Ok(lines(table).filter_map(item).collect())
 }
 
-/// What a line means, whatever its length: nothing if it is ignored, or bad.
+/// What a line means in the first dialect, whatever its length: nothing if it is ignored, or bad.
 pub fn item(line: &[u8]) -> Option<Item<'_>> {
-    match content(line, Kind::User) {
+    item_in(line, Dialect::Rising)
+}
+
+fn item_in(line: &[u8], dialect: Dialect) -> Option<Item<'_>> {
+    match content(line, dialect.into()) {
         Ok(Line::Setting(setting, _)) => Some(Item::Setting {
             name: setting.name.of(line),
             value: setting.value.of(line),
@@ -58,9 +68,14 @@ pub fn laid(text: &[u8], buffer: &mut [u8]) -> Answer {
     Ok(text.len() as u64)
 }
 
-/// A user table's normal text, if no limit is passed.
+/// A user table's normal text, if no limit is passed; the table is read in the first dialect.
 pub fn normal_text(table: &[u8]) -> Result<Vec<u8>, u64> {
-    let items = meaning(table).map_err(|fault| fault.number)?;
+    normal_text_of(table, Dialect::Rising)
+}
+
+/// The same of a table in any dialect.
+pub fn normal_text_of(table: &[u8], dialect: Dialect) -> Result<Vec<u8>, u64> {
+    let items = meaning_of(table, dialect).map_err(|fault| fault.number)?;
     within_limits(text(&items))
 }
 
@@ -161,6 +176,6 @@ fn values(which: usize, text: &str) -> Option<u64> {
         line: line.as_bytes(),
         at: 0,
     };
-    let schedule = schedule(line.len(), words).ok()?;
+    let schedule = schedule(Dialect::Rising, line.len(), words).ok()?;
     Some(schedule.numbers()[which])
 }

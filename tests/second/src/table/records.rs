@@ -7,9 +7,9 @@ mod tests;
 pub mod known;
 pub mod samples;
 
-use super::normal::{item, laid, meaning, text, within_limits, Item};
+use super::normal::{item, laid, meaning_of, text, within_limits, Item};
 use super::offset::CRON_TZ;
-use super::{is_control, When, ENTRIES, TOO_MANY_ENTRIES};
+use super::{is_control, Dialect, When, ENTRIES, TOO_MANY_ENTRIES};
 use crate::answer::Answer;
 use crate::schedule::Schedule;
 
@@ -45,9 +45,14 @@ pub fn record_fault(records: &[u8]) -> u64 {
     lines(records).err().map_or(0, |bad| bad.record)
 }
 
-/// A user table's records, if its normal text passes no limit.
+/// A user table's records, if its normal text passes no limit; the table is read in the first dialect.
 pub fn compiled(table: &[u8]) -> Result<Vec<u8>, u64> {
-    let items = meaning(table).map_err(|fault| fault.number)?;
+    compiled_of(table, Dialect::Rising)
+}
+
+/// The same of a table in any dialect.
+pub fn compiled_of(table: &[u8], dialect: Dialect) -> Result<Vec<u8>, u64> {
+    let items = meaning_of(table, dialect).map_err(|fault| fault.number)?;
     within_limits(text(&items))?;
     Ok(items.iter().flat_map(record).collect())
 }

@@ -1,12 +1,21 @@
-//! Tables of both kinds for the comparisons: good ones, bad lines with their place, and tables with some bytes changed.
+//! Tables of both kinds and dialects for the comparisons: good ones, bad lines with their place, and tables with some bytes
+//! changed.
 
 use super::offset::samples as offsets;
-use super::{read, Kind, When, NAME_BYTES};
+use super::{read, Dialect, Kind, Rules, When, NAME_BYTES};
 use crate::random::Random;
 use crate::schedule::Schedule;
 
-/// First and last value of each field.
+/// First and last value of each field in the first dialect.
 pub const LIMITS: [(u64, u64); 5] = [(0, 59), (0, 23), (1, 31), (1, 12), (0, 7)];
+
+/// The same in either dialect.
+pub fn limits(dialect: Dialect) -> [(u64, u64); 5] {
+    match dialect {
+        Dialect::Rising => LIMITS,
+        Dialect::Wrapping => [(0, 59), (0, 23), (1, 31), (1, 12), (0, 6)],
+    }
+}
 
 pub(super) const NAMES: [&[&str]; 5] = [
     &[],
@@ -201,15 +210,17 @@ const CONTROL_BYTES: &[u8] =
     b"\x01\x02\x03\x04\x05\x06\x07\x08\x0b\x0c\r\r\r\x0e\x0f\x10\x11\x12\x13\x14\x15\x16\x17\x18\x19\x1a\x1b\x1c\x1d\x1e\x1f\x7f";
 
 /// A good table of so many lines.
-pub fn table(random: &mut Random, kind: Kind, lines: u64) -> Vec<u8> {
-    let ended = |_| [line(random, kind), b"\n".to_vec()].concat();
+pub fn table(random: &mut Random, rules: impl Into<Rules>, lines: u64) -> Vec<u8> {
+    let rules = rules.into();
+    let ended = |_| [line(random, rules), b"\n".to_vec()].concat();
     (0..lines).flat_map(ended).collect()
 }
 
 /// A table of so many lines that lacks its last newline and is good otherwise; its last line isn't empty.
-pub fn cut_table(random: &mut Random, kind: Kind, lines: u64) -> Vec<u8> {
-    let mut bytes = table(random, kind, lines - 1);
-    let mut last = line(random, kind);
+pub fn cut_table(random: &mut Random, rules: impl Into<Rules>, lines: u64) -> Vec<u8> {
+    let rules = rules.into();
+    let mut bytes = table(random, rules, lines - 1);
+    let mut last = line(random, rules);
     if last.is_empty() {
         last.push(b'#');
     }
@@ -218,7 +229,8 @@ pub fn cut_table(random: &mut Random, kind: Kind, lines: u64) -> Vec<u8> {
 }
 
 /// A good line: an entry more often than not.
-pub fn line(random: &mut Random, kind: Kind) -> Vec<u8> {
+pub fn line(random: &mut Random, rules: impl Into<Rules>) -> Vec<u8> {
+    let Rules { kind, dialect } = rules.into();
     let mut line = match random.below(3) {
         0 => random.pick(&BLANKS).into(),
         _ => Vec::new(),
@@ -235,7 +247,7 @@ pub fn line(random: &mut Random, kind: Kind) -> Vec<u8> {
             line.extend(after_time(random, kind));
         }
         _ => {
-            for field in fields(random) {
+            for field in fields_of(random, dialect) {
                 line.extend(field.bytes());
                 line.extend(random.pick(&BLANKS).bytes());
             }
@@ -245,12 +257,18 @@ pub fn line(random: &mut Random, kind: Kind) -> Vec<u8> {
     line
 }
 
+/// Five good fields of the first dialect.
 pub fn fields(random: &mut Random) -> [String; 5] {
-    [0, 1, 2, 3, 4].map(|which| field(random, which))
+    fields_of(random, Dialect::Rising)
+}
+
+/// Five good fields.
+pub fn fields_of(random: &mut Random, dialect: Dialect) -> [String; 5] {
+    [0, 1, 2, 3, 4].map(|which| field(random, dialect, which))
 }
 
 /// A good field.
-pub fn field(random: &mut Random, which: usize) -> String {
+pub fn field(random: &mut Random, dialect: Dialect, which: usize) -> String {
     match random.below(8) {
         0..=2 => "*".into(),
         3 => {
@@ -260,16 +278,19 @@ pub fn field(random: &mut Random, which: usize) -> String {
         4 if !NAMES[which].is_empty() => random.pick(NAMES[which]).into(),
         _ => {
             let count = 1 + random.below(3);
-            let elements: Vec<String> = (0..count).map(|_| element(random, which)).collect();
-            elements.join(",")
+            let elements = (0..count).map(|_| element(random, dialect, which));
+            elements.collect::<Vec<String>>().join(",")
         }
     }
 }
 
-fn element(random: &mut Random, which: usize) -> String {
-    let (first, last) = LIMITS[which];
+/// The ends of a range rise in the first dialect, and are any in the second.
+fn element(random: &mut Random, dialect: Dialect, which: usize) -> String {
+    let (first, last) = limits(dialect)[which];
     let mut ends = [(); 2].map(|_| first + random.below(last - first + 1));
-    ends.sort();
+    if dialect == Dialect::Rising {
+        ends.sort();
+    }
     let [low, high] = ends.map(|end| written(random, which, end));
     match random.below(4) {
         0 | 1 => low,
@@ -409,13 +430,14 @@ fn command(random: &mut Random) -> Vec<u8> {
 /// A bad line, the number of its refusal, and its column.
 pub type BadLine = (Vec<u8>, u64, u64);
 
-pub fn bad_line(random: &mut Random, kind: Kind) -> BadLine {
+pub fn bad_line(random: &mut Random, rules: impl Into<Rules>) -> BadLine {
+    let rules = rules.into();
     match random.below(11) {
-        0 => long_line(random, kind),
-        1 => line_with_zero(random, kind),
-        10 => line_with_control(random, kind),
-        2 => cut_line(random, kind, 4),
-        3 => cut_line(random, kind, 9),
+        0 => long_line(random, rules),
+        1 => line_with_zero(random, rules),
+        10 => line_with_control(random, rules),
+        2 => cut_line(random, rules, 4),
+        3 => cut_line(random, rules, 9),
         4 => {
             let rest = random.pick(&["", " ", " a", "\tb"]);
             let text = random.pick(&UNKNOWN_WORDS).to_string() + rest;
@@ -429,8 +451,8 @@ pub fn bad_line(random: &mut Random, kind: Kind) -> BadLine {
             let setting = random.pick(&BAD_SETTINGS);
             indented(random, setting, 11, 0)
         }
-        6 | 7 if kind == Kind::System => line_with_bad_user_column(random),
-        _ => line_with_bad_field(random),
+        6 | 7 if rules.kind == Kind::System => line_with_bad_user_column(random, rules.dialect),
+        _ => line_with_bad_field(random, rules.dialect),
     }
 }
 
@@ -441,23 +463,23 @@ fn indented(random: &mut Random, text: &[u8], number: u64, before: usize) -> Bad
     ([indent.as_bytes(), text].concat(), number, column)
 }
 
-fn long_line(random: &mut Random, kind: Kind) -> BadLine {
-    let mut line = line(random, kind);
+fn long_line(random: &mut Random, rules: Rules) -> BadLine {
+    let mut line = line(random, rules);
     let length = 1_001 + random.below(3) as usize;
     line.resize(length, random.pick(b"a\0 #5"));
     (line, 2, 1_001)
 }
 
-fn line_with_zero(random: &mut Random, kind: Kind) -> BadLine {
-    let mut line = line(random, kind);
+fn line_with_zero(random: &mut Random, rules: Rules) -> BadLine {
+    let mut line = line(random, rules);
     let before = random.below(line.len() as u64 + 1);
     line.insert(before as usize, 0);
     (line, 3, before + 1)
 }
 
 /// A control byte somewhere, perhaps with others behind it; a byte 0, before it or behind, comes first.
-fn line_with_control(random: &mut Random, kind: Kind) -> BadLine {
-    let mut line = line(random, kind);
+fn line_with_control(random: &mut Random, rules: Rules) -> BadLine {
+    let mut line = line(random, rules);
     let before = random.below(line.len() as u64 + 1) as usize;
     let behind = random.below((line.len() - before) as u64 + 1) as usize;
     line.insert(before + behind, random.pick(CONTROL_BYTES));
@@ -471,15 +493,15 @@ fn line_with_control(random: &mut Random, kind: Kind) -> BadLine {
 }
 
 /// An entry that ends too early: with fewer than five fields (4), or without a command (9), perhaps after its user.
-fn cut_line(random: &mut Random, kind: Kind, number: u64) -> BadLine {
+fn cut_line(random: &mut Random, rules: Rules, number: u64) -> BadLine {
     let mut text = match number {
         4 => {
             let count = 1 + random.below(4) as usize;
-            fields(random)[..count].join(random.pick(&BLANKS))
+            fields_of(random, rules.dialect)[..count].join(random.pick(&BLANKS))
         }
-        _ => time(random),
+        _ => time(random, rules.dialect),
     };
-    if number == 9 && kind == Kind::System && random.below(3) > 0 {
+    if number == 9 && rules.kind == Kind::System && random.below(3) > 0 {
         text += random.pick(&BLANKS);
         text += &user_column(random);
     }
@@ -488,25 +510,25 @@ fn cut_line(random: &mut Random, kind: Kind, number: u64) -> BadLine {
 }
 
 /// Five good fields, or an `@` word.
-fn time(random: &mut Random) -> String {
+fn time(random: &mut Random, dialect: Dialect) -> String {
     match random.below(2) {
         0 => random.pick(&WORDS).into(),
-        _ => fields(random).join(random.pick(&BLANKS)),
+        _ => fields_of(random, dialect).join(random.pick(&BLANKS)),
     }
 }
 
 /// What comes after the column doesn't count.
-fn line_with_bad_user_column(random: &mut Random) -> BadLine {
-    let before = time(random) + random.pick(&BLANKS);
+fn line_with_bad_user_column(random: &mut Random, dialect: Dialect) -> BadLine {
+    let before = time(random, dialect) + random.pick(&BLANKS);
     let rest = random.pick(&["", " ", " a", "\ta%b", " root a"]);
     let text = [before.as_bytes(), &bad_user_column(random), rest.as_bytes()].concat();
     indented(random, &text, 20, before.len())
 }
 
-fn line_with_bad_field(random: &mut Random) -> BadLine {
-    let mut fields = fields(random);
+fn line_with_bad_field(random: &mut Random, dialect: Dialect) -> BadLine {
+    let mut fields = fields_of(random, dialect);
     let which = random.below(5) as usize;
-    let (text, number, offset) = bad_field(random, which);
+    let (text, number, offset) = bad_field(random, dialect, which);
     fields[which] = text;
     // Only a digit or a star starts an entry.
     if !fields[0].starts_with(|first: char| first == '*' || first.is_ascii_digit()) {
@@ -521,22 +543,26 @@ fn line_with_bad_field(random: &mut Random) -> BadLine {
 }
 
 /// A bad field, the number of its refusal, and how many of its bytes stand before the place.
-pub fn bad_field(random: &mut Random, which: usize) -> (String, u64, usize) {
-    let (first, last) = LIMITS[which];
+fn bad_field(random: &mut Random, dialect: Dialect, which: usize) -> (String, u64, usize) {
+    let (first, last) = limits(dialect)[which];
     let mut text = String::new();
     for _ in 0..random.below(3) {
-        text += &element(random, which);
+        text += &element(random, dialect, which);
         text.push(',');
     }
     let offset = text.len();
     let low = first + random.below(last - first);
     let above = last + 1 + random.below(9_999 - last);
+    let reversed = match dialect {
+        Dialect::Rising => 7,
+        Dialect::Wrapping => 8,
+    };
     let (element, number) = match random.below(7) {
         0 | 1 => return (random.pick(&BAD_FORMS).into(), 5, 0),
         2 if first > 0 && random.below(2) == 0 => ("0".into(), 6),
         2 => (above.to_string(), 6),
         3 => (format!("{low}-{above}/0"), 6),
-        4 => (format!("{}-{low}/0", low + 1), 7),
+        4 => (format!("{}-{low}/0", low + 1), reversed),
         5 => return ("*/0000".into(), 8, 0),
         _ => (format!("{low}-{}/00", low + 1), 8),
     };

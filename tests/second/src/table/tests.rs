@@ -5,8 +5,12 @@ use crate::random::Random;
 use std::iter;
 
 fn sets(fields: &str) -> Schedule {
+    sets_in(Dialect::Rising, fields)
+}
+
+fn sets_in(dialect: Dialect, fields: &str) -> Schedule {
     let line = format!("{fields} a\n");
-    match read(line.as_bytes(), Kind::User).expect(fields).entries[..] {
+    match read(line.as_bytes(), dialect).expect(fields).entries[..] {
         [Entry {
             when: When::Times(schedule),
             command: b"a",
@@ -24,9 +28,12 @@ fn fault(number: u64, line: u64, column: u64) -> Option<Fault> {
     })
 }
 
+fn of(values: &[u64]) -> u64 {
+    values.iter().fold(0, |set, value| set | 1 << value)
+}
+
 #[test]
 fn fields_have_their_sets() {
-    let of = |values: &[u64]| values.iter().fold(0, |set, value| set | 1 << value);
     let rows: [(&str, usize, &[u64]); 18] = [
         ("* * * */2 *", 3, &[1, 3, 5, 7, 9, 11]),
         ("10-10 * * * *", 0, &[10]),
@@ -54,6 +61,89 @@ fn fields_have_their_sets() {
     for (fields, which, values) in rows {
         assert_eq!(sets(fields).numbers()[which], of(values), "{fields}");
     }
+}
+
+/// The words of ticket 2026-13, and what they come to.
+#[test]
+fn ranges_over_the_join_have_their_sets() {
+    let rows: [(&str, usize, &[u64]); 20] = [
+        // Source 001.
+        (
+            "0 8-18/3,19-7 * * *",
+            1,
+            &[8, 11, 14, 17, 19, 20, 21, 22, 23, 0, 1, 2, 3, 4, 5, 6, 7],
+        ),
+        ("0 22-3/2 * * *", 1, &[22, 0, 2]),
+        ("0 23-0 * * *", 1, &[23, 0]),
+        ("0 20-4/3 * * *", 1, &[20, 23, 2]),
+        ("0 5-5 * * *", 1, &[5]),
+        ("0 20-23/2 * * *", 1, &[20, 22]),
+        ("0 23-22/9999 * * *", 1, &[23]),
+        ("59-1 * * * *", 0, &[59, 0, 1]),
+        ("50-10/20 * * * *", 0, &[50, 10]),
+        ("* * 30-2/2 * *", 2, &[30, 1]),
+        ("* * 31-1 * *", 2, &[31, 1]),
+        ("* * * 11-3/3 *", 3, &[11, 2]),
+        ("* * * nov-FEB *", 3, &[11, 12, 1, 2]),
+        ("* * * * fri-sun", 4, &[5, 6, 0]),
+        ("* * * * 5-4", 4, &[0, 1, 2, 3, 4, 5, 6]),
+        ("* * * * 0-sun", 4, &[0]),
+        ("* * * * sun-sun", 4, &[0]),
+        ("* * * * 6-sun/2", 4, &[6]),
+        ("* * * * */4", 4, &[0, 4]),
+        ("* * * * *", 4, &[0, 1, 2, 3, 4, 5, 6]),
+    ];
+    for (fields, which, values) in rows {
+        let found = sets_in(Dialect::Wrapping, fields).numbers()[which];
+        assert_eq!(found, of(values), "{fields}");
+    }
+}
+
+#[test]
+fn the_second_dialect_refuses_7_as_a_weekday_and_never_a_reversed_range() {
+    let found = |table: &str| read(table.as_bytes(), Dialect::Wrapping).err();
+    let rows = [
+        ("* * * * 7 a\n", 6, 9),
+        ("* * * * 7-7 a\n", 6, 9),
+        ("* * * * 1,0-7/0 a\n", 6, 11),
+        ("* * * * sun-7 a\n", 6, 9),
+        ("* * * * 7-sun a\n", 6, 9),
+        ("60-1/0 * * * * a\n", 6, 1),
+        ("9-1/0 * * * * a\n", 8, 1),
+        ("1,9-1/0 * * * * a\n", 8, 3),
+        ("9-1/ * * * * a\n", 5, 1),
+        ("* * 2-0 * * a\n", 6, 5),
+    ];
+    for (table, number, column) in rows {
+        assert_eq!(found(table), fault(number, 1, column), "{table}");
+    }
+    let rising = read(b"9-1/0 * * * * a\n", Dialect::Rising);
+    assert_eq!(rising.err(), fault(7, 1, 1));
+}
+
+/// A field without a range from high to low, without `sun` as an upper end and without 7 is the same in both.
+#[test]
+fn words_and_rising_fields_are_the_same_in_both_dialects() {
+    let rows = ["0-59/7 1-22 1,31 feb-NOV mon-sat", "*/7 * */31 */5 */6"];
+    for fields in rows {
+        let [rising, wrapping] = Dialect::BOTH.map(|dialect| sets_in(dialect, fields));
+        assert_eq!(rising, wrapping, "{fields}");
+    }
+    for word in samples::WORDS {
+        let line = format!("{word} a\n");
+        let [rising, wrapping] =
+            Dialect::BOTH.map(|dialect| read(line.as_bytes(), dialect).expect(word).entries);
+        assert_eq!(rising, wrapping);
+    }
+}
+
+#[test]
+fn any_number_but_0_is_the_second_dialect() {
+    assert_eq!(Dialect::of(0), Dialect::Rising);
+    for number in [1, 2, 1 << 8, 1 << 32, 1 << 63, u64::MAX] {
+        assert_eq!(Dialect::of(number), Dialect::Wrapping);
+    }
+    assert_eq!(Dialect::BOTH.map(Dialect::number), [0, 1]);
 }
 
 #[test]
@@ -144,7 +234,6 @@ fn any_number_but_0_is_a_system_table() {
         assert_eq!(Kind::of(number), Kind::System);
     }
     assert_eq!(Kind::BOTH.map(Kind::number), [0, 1]);
-    assert_eq!(Kind::BOTH.map(Kind::other), [Kind::System, Kind::User]);
 }
 
 #[test]
@@ -289,21 +378,21 @@ fn the_documents_examples() {
 #[test]
 fn samples_are_what_they_say() {
     let mut random = Random::seeded();
-    for kind in [Kind::User, Kind::System].repeat(15_000) {
-        let mut table = samples::table(&mut random, kind, 3);
+    for rules in Rules::ALL.repeat(10_000) {
+        let mut table = samples::table(&mut random, rules, 3);
         let shown = String::from_utf8_lossy(&table).into_owned();
-        assert!(read(&table, kind).is_ok(), "{kind:?} {shown}");
+        assert!(read(&table, rules).is_ok(), "{rules:?} {shown}");
         let lines = lines(&table).count() as u64;
-        let (line, number, column) = samples::bad_line(&mut random, kind);
+        let (line, number, column) = samples::bad_line(&mut random, rules);
         table.extend(&line);
         let shown = String::from_utf8_lossy(&table).into_owned();
-        let found = read(&table, kind).err();
-        assert_eq!(found, fault(number, lines + 1, column), "{kind:?} {shown}");
+        let found = read(&table, rules).err();
+        assert_eq!(found, fault(number, lines + 1, column), "{rules:?} {shown}");
         let count = 1 + random.below(3);
-        let cut = samples::cut_table(&mut random, kind, count);
-        let found = read(&cut, kind)
+        let cut = samples::cut_table(&mut random, rules, count);
+        let found = read(&cut, rules)
             .err()
             .map(|fault| [fault.number, fault.line]);
-        assert_eq!(found, Some([26, count]), "{kind:?} {}", cut.escape_ascii());
+        assert_eq!(found, Some([26, count]), "{rules:?} {}", cut.escape_ascii());
     }
 }

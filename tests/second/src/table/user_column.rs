@@ -26,10 +26,6 @@ impl Kind {
     pub fn number(self) -> u64 {
         u64::from(self == Kind::System)
     }
-
-    pub fn other(self) -> Kind {
-        Kind::of(1 - self.number())
-    }
 }
 
 /// Who an entry runs as, as parts of the table. In a user table all of them are absent.

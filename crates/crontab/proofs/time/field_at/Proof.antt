@@ -15,16 +15,16 @@ unfolding fieldAt
 returns c = rw (le-leb _ _ (c .if1 .taken))
 
 part-read-end : tie.Need-part-read-end
-part-read-end c = let b = c .before .before .before in
-    omega (arith, skipped-within Solid (b .args .s .now) (b .args .at) (omega arith), c .skip .ensures .0)
+part-read-end c = let b = c .before .before .before .before in
+    omega (arith, skipped-within Solid (b .args .s .now) (b .args .at) (omega arith), c .before .skip .ensures .0)
 
 returns-2 : tie.Need-returns-2
 unfolding fieldAt answered between
-returns-2 c = rw (lt-leb _ _ (c .before .before .before .before .before .before .before .if1 .left), ← (c .before .before .before .before .before .before .skip .ensures .0), ← (c .before .before .before .before .read .ensures), c .before .before .answer .given .1, ← (c .skip2 .ensures .0))
+returns-2 c = rw (lt-leb _ _ (c .before .before .before .before .before .before .before .before .if1 .left), ← (c .before .before .before .before .before .before .in-dialect .ensures), ← (c .before .before .before .before .before .before .before .skip .ensures .0), ← (c .before .before .before .before .read .ensures), c .before .before .answer .given .1, ← (c .skip2 .ensures .0))
 
 returns-3 : tie.Need-returns-3
 unfolding fieldAt answered between
-returns-3 c = rw (lt-leb _ _ (c .before .before .before .before .before .before .if1 .left), ← (c .before .before .before .before .before .skip .ensures .0), ← (c .before .before .before .read .ensures), c .before .answer2 .given .1)
+returns-3 c = rw (lt-leb _ _ (c .before .before .before .before .before .before .before .if1 .left), ← (c .before .before .before .before .before .in-dialect .ensures), ← (c .before .before .before .before .before .before .skip .ensures .0), ← (c .before .before .before .read .ensures), c .before .answer2 .given .1)
 
 pub field-at-spec : {M : Type 1} → statement M
 field-at-spec =
@@ -32,6 +32,7 @@ field-at-spec =
     (tie.spec
     (λ c. search needs)
     returns
+    (λ c κs. search needs)
     (λ c κs. search needs)
     (λ c. search needs)
     (λ c. search needs)

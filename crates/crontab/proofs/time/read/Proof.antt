@@ -3,6 +3,7 @@
 use mathlib.Core.Path.{sym, _∙_}
 use native.Mathlib.Omega.{arith}
 use Rattle.field.specs.Limits.{hourLimits, dayLimits, monthLimits, weekdayLimits}
+use Rattle.field.proofs.Theorems.{hour-usual, day-usual, month-usual, weekday-usual}
 use Rattle.crontab.specs.Times.{after, fieldsAt}
 use Rattle.crontab.proofs.Times.{field-fits}
 use borrow.Author.Needs.{needs}
@@ -39,17 +40,17 @@ returns-5 c = let month = c .before .before .before .before .before in
     let minute = hour .before .before .before .before in
     rw (← (minute .before .before .field-at .ensures), minute .values .given .1, ← (hour .before .before .field-at2 .ensures), hour .values2 .given .1, ← (day .before .before .field-at3 .ensures), day .values3 .given .1, ← (month .before .before .field-at4 .ensures), month .values4 .given .1, ← (c .before .before .before .field-at5 .ensures), c .before .fault5 .given .1)
 
-cast-t31 : tie.Need-cast-t31
-cast-t31 c = omega (arith, field-fits hourLimits (omega arith) _ _ (sym (c .before .before .before .before .before .before .before .before .before .before .before .before .before .before .before .before .field-at2 .ensures) ∙ c .before .before .before .before .before .before .before .before .before .before .before .before .before .before .values2 .given .1))
-
 cast-t32 : tie.Need-cast-t32
-cast-t32 c = omega (arith, field-fits dayLimits (omega arith) _ _ (sym (c .before .before .before .before .before .before .before .before .before .before .before .before .before .field-at3 .ensures) ∙ c .before .before .before .before .before .before .before .before .before .before .before .values3 .given .1))
+cast-t32 c = omega (arith, field-fits hourLimits hour-usual _ _ _ (sym (c .before .before .before .before .before .before .before .before .before .before .before .before .before .before .before .before .field-at2 .ensures) ∙ c .before .before .before .before .before .before .before .before .before .before .before .before .before .before .values2 .given .1))
 
 cast-t33 : tie.Need-cast-t33
-cast-t33 c = omega (arith, field-fits monthLimits (omega arith) _ _ (sym (c .before .before .before .before .before .before .before .before .before .before .field-at4 .ensures) ∙ c .before .before .before .before .before .before .before .before .values4 .given .1))
+cast-t33 c = omega (arith, field-fits dayLimits day-usual _ _ _ (sym (c .before .before .before .before .before .before .before .before .before .before .before .before .before .field-at3 .ensures) ∙ c .before .before .before .before .before .before .before .before .before .before .before .values3 .given .1))
 
 cast-t34 : tie.Need-cast-t34
-cast-t34 c = omega (arith, field-fits weekdayLimits (omega arith) _ _ (sym (c .before .before .before .before .before .before .before .field-at5 .ensures) ∙ c .before .before .before .before .before .values5 .given .1))
+cast-t34 c = omega (arith, field-fits monthLimits month-usual _ _ _ (sym (c .before .before .before .before .before .before .before .before .before .before .field-at4 .ensures) ∙ c .before .before .before .before .before .before .before .before .values4 .given .1))
+
+cast-t35 : tie.Need-cast-t35
+cast-t35 c = omega (arith, field-fits weekdayLimits weekday-usual _ _ _ (sym (c .before .before .before .before .before .before .before .field-at5 .ensures) ∙ c .before .before .before .before .before .values5 .given .1))
 
 returns-6 : tie.Need-returns-6
 unfolding fieldsAt after
@@ -83,8 +84,8 @@ read-spec =
     (λ c. search needs)
     (λ c. search needs)
     returns-5
-    cast-t31
     cast-t32
     cast-t33
     cast-t34
+    cast-t35
     returns-6)

@@ -9,8 +9,8 @@ use Rattle.eremothyn.proofs.normal_forms.eremothyn_normal_form.Tie as t
 returns : tie.Need-returns
 returns c =
     let form = c .before .before .before .normal-form .ensures in
-    (c .normal-number .ensures ∙ ap normalNumber (form .0), form .1)
+    rw (← (c .before .before .before .before .before .dialect-of .ensures)) (c .normal-number .ensures ∙ ap normalNumber (form .0), form .1)
 
 pub eremothyn-normal-form-spec : {M : Type 1} → statement M
 eremothyn-normal-form-spec =
-    tie.close (tie.spec (λ c κs. search needs) (λ c κs. search needs) (λ c. search needs) returns)
+    tie.close (tie.spec (λ c κs. search needs) (λ c κs. search needs) (λ c κs. search needs) (λ c. search needs) returns)

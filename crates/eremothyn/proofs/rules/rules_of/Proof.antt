@@ -7,14 +7,14 @@ use Rattle.eremothyn.proofs.rules.rules_of.Statement.{statement}
 use Rattle.eremothyn.proofs.rules.rules_of.Tie as tie
 
 returns : tie.Need-returns
-returns c = rw (c .if1 .taken)
+returns c = rw (c .if1 .taken, c .before .dialect-of .ensures)
 
-other-kind : (kind : ℕ) → (kind ≡ 0 → ⊥) → rulesOf 1 ≡ rulesOf kind
-other-kind zero h = absurd (h refl)
-other-kind (suc n) h = refl
+other-kind : (kind dialect : ℕ) → (kind ≡ 0 → ⊥) → rulesOf 1 dialect ≡ rulesOf kind dialect
+other-kind zero dialect h = absurd (h refl)
+other-kind (suc n) dialect h = refl
 
 returns-2 : tie.Need-returns-2
-returns-2 c = other-kind _ (c .if1 .left)
+returns-2 c = rw (c .before .dialect-of .ensures) (other-kind _ (c .before .before .args .dialect) (c .if1 .left))
 
 pub rules-of-spec : {M : Type 1} → statement M
-rules-of-spec = tie.close (tie.spec returns returns-2)
+rules-of-spec = tie.close (tie.spec (λ c κs. tt) returns returns-2)

@@ -11,10 +11,10 @@ use Rattle.field.proofs.list.read.Statement.{statement}
 use Rattle.field.proofs.list.read.Tie as tie
 
 abbrev Inv-loop : tie.InvT-loop
-Inv-loop s column limits start answer₀ at₀ answer at = (reading limits column s at answer ≡ listField limits column s) × (at ≤ length s)
+Inv-loop s column limits answer₀ at₀ answer at = (reading limits column s at answer ≡ listField limits column s) × (at ≤ length s)
 
 abbrev μ-loop : tie.MeasureT-loop
-μ-loop s column limits start answer₀ at₀ answer at = length s - at
+μ-loop s column limits answer₀ at₀ answer at = length s - at
 
 loop-holds : tie.Need-loop-holds Inv-loop μ-loop
 loop-holds c = (reading-starts _ _ _, omega arith)

@@ -14,7 +14,7 @@ returns c = sym (own-bit _ _ (omega arith))
 
 returns-2 : tie.Need-returns-2
 unfolding bitOf
-returns-2 c = rw (le-ltb (c .before .before .args .value) (c .before .before .args .limits .bits) (omega arith))
+returns-2 c = let a = c .before .before .before .args in rw (le-ltb (a .value) (a .limits .bits) (omega arith))
 
 pub bit-of-spec : {M : Type 1} → statement M
-bit-of-spec = tie.close (tie.spec (λ c. search needs) returns returns-2)
+bit-of-spec = tie.close (tie.spec (λ c. search needs) returns (λ c. search needs) (λ c. omega arith) returns-2)

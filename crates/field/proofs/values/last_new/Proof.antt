@@ -11,9 +11,9 @@ use Rattle.field.proofs.values.last_new.Tie as tie
 
 sub-result : tie.Need-sub-result
 sub-result c =
-    let a = c .before .before .args in
-    let t = and-eq-true-iff (eqb (a .low) 0 && ltb 0 (a .high)) (eqb (a .high) (a .limits .bits)) .0 (c .if1 .taken) in
-    let pos = ltb-true 0 (a .high) (and-eq-true-iff (eqb (a .low) 0) (ltb 0 (a .high)) .0 (t .0) .1) in
+    let a = c .before .before .before .args in
+    let t = and-eq-true-iff (eqb (a .low) 0 && ltb (a .limits .first) (a .high)) (eqb (a .high) (a .limits .bits)) .0 (c .if1 .taken) in
+    let pos = ltb-true (a .limits .first) (a .high) (and-eq-true-iff (eqb (a .low) 0) (ltb (a .limits .first) (a .high)) .0 (t .0) .1) in
     omega arith
 
 returns : tie.Need-returns
@@ -25,4 +25,4 @@ unfolding lastNew
 returns-2 c = rw (c .if1 .left)
 
 pub last-new-spec : {M : Type 1} → statement M
-last-new-spec = tie.close (tie.spec (λ c. search needs) sub-result returns returns-2)
+last-new-spec = tie.close (tie.spec (λ c. search needs) (λ c. search needs) sub-result returns returns-2)

@@ -2,10 +2,10 @@
 -- Assumes nothing.
 use mathlib.Core.Path.{_≡_, sym, _∙_}
 use mathlib.Core.Bool.{and-eq-true-iff}
-use Prim.Native.Nat.{_<_}
-use borrow.Author.Tests.{eqb-true, ltb-true}
+use Prim.Native.Nat.{_≤_, _<_}
+use borrow.Author.Tests.{eqb-true, leb-true, ltb-true}
 use borrow.Author.Needs.{needs}
-use Rattle.field.proofs.Runs.{low-new, run-new}
+use Rattle.field.proofs.Runs.{run-new}
 use Rattle.field.proofs.values.with_values.Statement.{statement}
 use Rattle.field.proofs.values.with_values.Tie as tie
 
@@ -13,6 +13,7 @@ use Rattle.field.proofs.values.with_values.Tie as tie
 record Chosen (c : tie.Then1) : Type 0 where
   empty : c .before .before .before .args .set ≡ 0
   single : c .before .before .before .args .step ≡ 1
+  rising : c .before .before .before .args .low ≤ c .before .before .last-new .result
   small : c .before .before .last-new .result < 63
   own : c .before .before .last-new .result < c .before .before .before .args .limits .bits
 
@@ -21,10 +22,11 @@ chosen c =
     let t = and-eq-true-iff _ _ .0 (c .if1 .taken) in
     let u = and-eq-true-iff _ _ .0 (t .0) in
     let v = and-eq-true-iff _ _ .0 (u .0) in
-    record { empty = eqb-true _ _ (v .0); single = eqb-true _ _ (v .1); small = ltb-true _ _ (u .1); own = ltb-true _ _ (t .1) }
+    let w = and-eq-true-iff _ _ .0 (v .0) in
+    record { empty = eqb-true _ _ (w .0); single = eqb-true _ _ (w .1); rising = leb-true _ _ (v .1); small = ltb-true _ _ (u .1); own = ltb-true _ _ (t .1) }
 
 run-requires : tie.Need-run-requires
-run-requires c κs = (rw (c .before .before .last-new .ensures) (low-new _ _ _ (c .before .before .before .pre .0)), chosen c .small)
+run-requires c κs = (chosen c .rising, chosen c .small)
 
 returns : tie.Need-returns
 returns c =
@@ -32,7 +34,7 @@ returns c =
     let l = b .before .before .last-new .ensures in
     c .run .ensures
     ∙ rw (l, chosen b .empty, chosen b .single)
-    (sym (run-new _ _ _ (b .before .before .before .pre .0) (rw l at (chosen b .small)) (rw l at (chosen b .own))))
+    (sym (run-new _ _ _ (rw l at (chosen b .rising)) (rw l at (chosen b .small)) (rw l at (chosen b .own))))
 
 pub with-values-spec : {M : Type 1} → statement M
 with-values-spec =

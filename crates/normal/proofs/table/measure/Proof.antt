@@ -18,18 +18,18 @@ use Rattle.normal.proofs.table.measure.Statement.{statement}
 use Rattle.normal.proofs.table.measure.Tie as tie
 
 abbrev Inv-loop : tie.InvT-loop
-Inv-loop s size₀ short₀ c₀ size short c =
-    (measureFrom s short size (itemsAt ofUser s c) ≡ measured s) × Going s c × (size ≤ (2 * maxTable + 434) * c .at)
+Inv-loop s rules size₀ short₀ c₀ size short c =
+    (measureFrom s short size (itemsAt (ofUser (rules .dialect)) s c) ≡ measured (rules .dialect) s) × Going (rules .dialect) s c × (size ≤ (2 * maxTable + 434) * c .at)
 
 abbrev μ-loop : tie.MeasureT-loop
-μ-loop s size₀ short₀ c₀ size short c = length s + 1 - c .at
+μ-loop s rules size₀ short₀ c₀ size short c = length s + 1 - c .at
 
 returns : tie.Need-returns Inv-loop μ-loop
 unfolding itemsOf measureFrom
-returns c = sym (sym (measure-whole _) ∙ rw (lt-ltb _ _ (c .if1 .taken)))
+returns c = sym (sym (measure-whole _ _) ∙ rw (lt-ltb _ _ (c .if1 .taken)))
 
 loop-holds : tie.Need-loop-holds Inv-loop μ-loop
-loop-holds c = (rw (items-start _ _ (c .if1 .left)) (measure-whole _), going-starts _ (c .if1 .left), omega arith)
+loop-holds c = (rw (items-start _ _ (c .if1 .left)) (measure-whole _ _), going-starts _ _ (c .if1 .left), omega arith)
 
 advance-requires : tie.Need-advance-requires Inv-loop μ-loop
 advance-requires c κs = (c .before .before .loop .inv .1 .reached, c .if2 .taken)

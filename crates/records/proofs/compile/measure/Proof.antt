@@ -20,27 +20,27 @@ use Rattle.records.proofs.compile.measure.Statement.{statement}
 use Rattle.records.proofs.compile.measure.Tie as tie
 
 abbrev Inv-loop : tie.InvT-loop
-Inv-loop s text₀ size₀ short₀ c₀ text size short c =
-    (measureFrom s short text (itemsAt ofUser s c) ≡ measured s)
-    × Going s c
+Inv-loop s rules text₀ size₀ short₀ c₀ text size short c =
+    (measureFrom s short text (itemsAt (ofUser (rules .dialect)) s c) ≡ measured (rules .dialect) s)
+    × Going (rules .dialect) s c
     × (text ≤ (2 * maxTable + 434) * c .at)
-    × (size + length (recordsOf (meanings s (itemsAt ofUser s c))) ≡ length (recordsOf (meaningOf s)))
+    × (size + length (recordsOf (meanings s (itemsAt (ofUser (rules .dialect)) s c))) ≡ length (recordsOf (meaningOf (rules .dialect) s)))
     × (size ≤ (2 * maxTable + 24) * c .at)
 
 abbrev μ-loop : tie.MeasureT-loop
-μ-loop s text₀ size₀ short₀ c₀ text size short c = length s + 1 - c .at
+μ-loop s rules text₀ size₀ short₀ c₀ text size short c = length s + 1 - c .at
 
 returns : tie.Need-returns Inv-loop μ-loop
 unfolding itemsOf measureFrom
-returns c = packed-refused _ (sym (sym (measure-whole _) ∙ rw (lt-ltb _ _ (c .if1 .taken))))
+returns c = packed-refused _ _ (sym (sym (measure-whole _ _) ∙ rw (lt-ltb _ _ (c .if1 .taken))))
 
 loop-holds : tie.Need-loop-holds Inv-loop μ-loop
 loop-holds c =
     let short = c .if1 .left in (
-      rw (items-start _ _ short) (measure-whole _),
-      going-starts _ short,
+      rw (items-start _ _ short) (measure-whole _ _),
+      going-starts _ _ short,
       omega arith,
-      size-starts (record-parts _) short,
+      size-starts (record-parts _) _ short,
       omega arith,
     )
 
@@ -50,7 +50,7 @@ advance-requires c κs = (c .before .before .loop .inv .1 .reached, c .if2 .take
 returns-2 : tie.Need-returns-2 Inv-loop μ-loop
 returns-2 c =
     let at = c .before .before .before .before .before .before .before .loop in
-    packed-refused _ (measure-refused _ (c .before .before .before .before .advance .ensures) (at .short) (at .text) (c .before .item .given .1) ∙ at .inv .0)
+    packed-refused _ _ (measure-refused _ (c .before .before .before .before .advance .ensures) (at .short) (at .text) (c .before .item .given .1) ∙ at .inv .0)
 
 text-length-requires : tie.Need-text-length-requires Inv-loop μ-loop
 text-length-requires c κs =
@@ -88,11 +88,11 @@ unfolding measureFrom answered
 returns-3 c =
     let at = c .before .before .before .loop in
     let end = c .before .if2 .left in
-    packed-written _ (rw (items-end _ _ (at .c) end, c .if3 .taken) at (at .inv .0)) (sym (size-ends (record-parts _) (at .c) (at .size) end) ∙ at .inv .3)
+    packed-written _ _ (rw (items-end _ _ (at .c) end, c .if3 .taken) at (at .inv .0)) (sym (size-ends (record-parts _) _ (at .c) (at .size) end) ∙ at .inv .3)
 
 returns-4 : tie.Need-returns-4 Inv-loop μ-loop
 unfolding measureFrom answered
-returns-4 c = let at = c .before .before .before .loop in packed-refused _ (rw (items-end _ _ (at .c) (c .before .if2 .left), c .if3 .left) at (at .inv .0))
+returns-4 c = let at = c .before .before .before .loop in packed-refused _ _ (rw (items-end _ _ (at .c) (c .before .if2 .left), c .if3 .left) at (at .inv .0))
 
 pub measure-spec : {M : Type 1} → statement M
 measure-spec =

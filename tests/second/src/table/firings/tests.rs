@@ -3,7 +3,7 @@
 use super::*;
 use crate::random::Random;
 use crate::schedule::samples::start;
-use crate::table::samples;
+use crate::table::{samples, Rules};
 
 /// Every minute of a span, and at each every entry in order.
 fn asked(calls: &Calls, a: u64, b: u64) -> Vec<Firing> {
@@ -22,10 +22,10 @@ fn lists_are_what_every_minute_says() {
     let mut random = Random::seeded();
     let mut cut = 0;
     for _ in 0..2_000 {
-        let kind = random.pick(&Kind::BOTH);
+        let rules = random.pick(&Rules::ALL);
         let lines = random.below(6);
-        let table = samples::table(&mut random, kind, lines);
-        let calls = Calls::of(&table, kind);
+        let table = samples::table(&mut random, rules, lines);
+        let calls = Calls::of(&table, rules);
         if calls.good().is_err() {
             continue;
         }

@@ -1,6 +1,7 @@
 use super::*;
 use crate::random::Random;
 use crate::table::documents;
+use crate::table::samples as tables;
 use crate::table::ENTRIES;
 
 fn written(table: &str) -> String {
@@ -231,7 +232,7 @@ fn obeys(table: &[u8]) {
 
 #[test]
 fn the_documents_tables_are_read_back() {
-    let good = |line: &String| read(line.as_bytes(), Kind::User).is_ok();
+    let good = |line: &String| read(line.as_bytes(), Dialect::Rising).is_ok();
     let entries = documents::ENTRIES.iter().map(|(line, _)| *line);
     let settings = documents::SETTINGS.iter().map(|(line, ..)| *line);
     let ended = entries.chain(settings).map(|line| format!("{line}\n"));
@@ -254,6 +255,22 @@ fn random_tables_are_read_back_and_equal_meanings_have_one_text() {
             let other = samples::respelled(&mut random, &items);
             assert_eq!(meaning(&other).as_ref(), Ok(&items));
             assert_eq!(normal_text(&other), normal_text(&table));
+        }
+    }
+}
+
+/// A normal text has no range, no name and no 7.
+#[test]
+fn a_normal_text_reads_the_same_in_either_dialect() {
+    let mut random = Random::seeded();
+    for dialect in Dialect::BOTH.repeat(5_000) {
+        let count = random.below(6);
+        let table = tables::table(&mut random, dialect, count);
+        let text = normal_text_of(&table, dialect).expect("a short table");
+        let items = meaning_of(&table, dialect);
+        for reader in Dialect::BOTH {
+            assert_eq!(meaning_of(&text, reader), items, "{}", table.escape_ascii());
+            assert_eq!(normal_text_of(&text, reader).as_ref(), Ok(&text));
         }
     }
 }
