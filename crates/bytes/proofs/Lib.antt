@@ -1,4 +1,5 @@
 pub mod Search
+pub mod Passing
 pub mod Each
 pub mod Digits
 pub mod Runs

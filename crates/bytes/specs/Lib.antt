@@ -2,6 +2,7 @@ pub mod Texts
 pub mod Rows
 pub mod Digits
 pub mod Search
+pub mod Passing
 pub mod Classes
 pub mod Runs
 pub mod Laid

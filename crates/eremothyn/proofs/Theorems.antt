@@ -92,8 +92,8 @@ pub local-days :
 unfolding nextNumber told
 local-days = (
   ap nextNumber (zoned west (second evenings 26 27 (negsuc 719)) evenings 0 refl (zoned-entries .0) (lit≤ tt) ∙ ap told (known-days-in .3)),
-  ap nextNumber (zoned east (second everyMinute 25 26 (pos 840)) everyMinute 4223370838 refl (zoned-entries .1) (lit≤ tt) ∙ ap told (known-days-in .5)),
-  ap nextNumber (zoned east (second everyMinute 25 26 (pos 840)) everyMinute 4223370839 refl (zoned-entries .1) (lit≤ tt) ∙ ap told (known-days-in .6)),
+  ap nextNumber (zoned east (second everyMinute 25 26 (pos 840)) everyMinute 4223370838 refl (zoned-entries .1) (lit≤ tt) ∙ ap told (known-days-in .6)),
+  ap nextNumber (zoned east (second everyMinute 25 26 (pos 840)) everyMinute 4223370839 refl (zoned-entries .1) (lit≤ tt) ∙ ap told (known-days-in .7)),
 )
 
 -- the tables of KnownDays, in its order, and the ticket's

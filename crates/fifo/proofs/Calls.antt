@@ -53,7 +53,7 @@ module _ (jobs : Jobs) (l : Line) where
   ticked-entries minute e =
       entries-pick (jobs .count) (l .waiting) (joins jobs minute l) (joins-new jobs minute l) e (jobs .count) (le-refl (jobs .count))
 
-  ticked-proper : (minute : ℕ) → minute ≤ lastMinute → proper (jobs .count) l ≡ true → proper (jobs .count) (ticked jobs minute l) ≡ true
+  pub ticked-proper : (minute : ℕ) → minute ≤ lastMinute → proper (jobs .count) l ≡ true → proper (jobs .count) (ticked jobs minute l) ≡ true
   unfolding ticked
   ticked-proper minute on e =
       let p = is-proper (jobs .count) l e in

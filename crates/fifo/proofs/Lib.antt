@@ -9,6 +9,7 @@ pub mod Filling
 pub mod Calls
 pub mod Fair
 pub mod Outrun
+pub mod OneByOne
 pub mod Buffer
 pub mod Steady
 pub mod Quiet

@@ -1,14 +1,14 @@
 -- Minutes that are announced one by one outrun any hold: the mark is at most 179 after the first of them where it holds fixed entries
 -- back, and it stays until they have passed it. So an entry that matches a minute more than 180 after t is called by it.
 -- Assumes nothing.
-use mathlib.Core.Path.{_≡_, refl, _∙_}
+use mathlib.Core.Path.{_≡_, refl, sym, _∙_}
 use mathlib.Core.Bool.{Bool, true, false, cond}
 use Prim.Native.Nat.{ℕ, zero, suc, _+_, _-_, _≤_, _<_}
 use native.Mathlib.Nat.{lt-of-not-le}
 use native.Mathlib.Decide.{decLe}
 use native.Mathlib.Omega.{arith}
 use Rattle.bytes.specs.Search.{passes}
-use Rattle.bytes.proofs.Search.{some-passes}
+use Rattle.bytes.proofs.Search.{some-passes, none-passes}
 use Rattle.schedule.specs.declared.jump.Mark.{Mark}
 use Rattle.schedule.specs.declared.jump.Mark.the-variants.{None, At}
 use Rattle.schedule.specs.Jumps.{caseOf, judged, markAfter}
@@ -27,7 +27,7 @@ module _ (x m : ℕ) where
   unfolding markAfter
   after-below h = rw (case-below x m h)
 
-  after-next : x < m → m ≤ x + 180 → markAfter (At x) m ≡ At m
+  pub after-next : x < m → m ≤ x + 180 → markAfter (At x) m ≡ At m
   unfolding markAfter
   after-next h k = rw (case-after x m h k)
 
@@ -35,7 +35,7 @@ module _ (x m : ℕ) where
   unfolding markAfter
   after-held h k = rw (case-held x m h k)
 
-after-none : (m : ℕ) → markAfter None m ≡ At m
+pub after-none : (m : ℕ) → markAfter None m ≡ At m
 unfolding markAfter caseOf
 after-none m = refl
 
@@ -83,18 +83,19 @@ outrun (At x) t (suc j) h = elim (decLe (t + 1) x) [ yes p ↦ elim (decLe (t + 
 
 -- ---- who is called
 
--- beside the minute before it, a minute that matches calls
-follows-calls : (jobs : Jobs) (x m e : ℕ) → m ≡ x + 1 → jobs .matches e m ≡ true → calls jobs (At x) m e ≡ true
+-- beside the minute before it, a minute calls just where it matches
+pub follows-calls : (jobs : Jobs) (x m e : ℕ) → m ≡ x + 1 → calls jobs (At x) m e ≡ jobs .matches e m
 unfolding calls judged
-follows-calls jobs x m e q t = rw (case-after x m (omega arith) (omega arith)) (go (jobs .fixed e))
+follows-calls jobs x m e q = rw (case-after x m (omega arith) (omega arith)) (go (jobs .fixed e) (jobs .matches e m) refl)
   where
-    go : (b : Bool) → cond b (passes (jobs .matches e) x m) (jobs .matches e m) ≡ true
-    go true = some-passes (jobs .matches e) x m m (omega arith) (omega arith) t
-    go false = t
+    go : (b c : Bool) → jobs .matches e m ≡ c → cond b (passes (jobs .matches e) x m) (jobs .matches e m) ≡ jobs .matches e m
+    go true true t = some-passes (jobs .matches e) x m m (omega arith) (omega arith) t ∙ sym t
+    go true false t = none-passes (jobs .matches e) x m (λ k u v. let here : k ≡ m = omega arith in rw here t) ∙ sym t
+    go false c t = refl
 
 pub soon-past-hold : (jobs : Jobs) (gap e t m : ℕ) → t + 180 < m → m ≤ t + gap → jobs .matches e m ≡ true → Soon jobs gap e t
 unfolding Soon
 soon-past-hold jobs gap e t m after within matched mark =
     let j = m - (t + 1) in
     let at : t + 1 + j ≡ m = omega arith in
-    (j, omega arith, rw (at, outrun mark t j (omega arith)) (follows-calls jobs (t + j) m e (omega arith) matched))
+    (j, omega arith, rw (at, outrun mark t j (omega arith)) (follows-calls jobs (t + j) m e (omega arith) ∙ matched))

@@ -29,6 +29,9 @@ use Rattle.fifo.proofs.Buffer.{on-follows, started-holds, calls-append}
 use Rattle.fifo.proofs.Steady.{steady-from}
 -- minutes that are announced one by one outrun any hold
 pub use Rattle.fifo.proofs.Outrun.{held-stays, outrun, soon-past-hold}
+-- announced one by one, on a line that is emptied before each, they let just those join that they match
+unfoldable pub use Rattle.fifo.proofs.OneByOne.{isCalled}
+pub use Rattle.fifo.proofs.OneByOne.{Before, fresh-line, without, emptied-line, emptied-is, announced-is, announced-line, announced-mark, announced-stands}
 -- where no minute calls anybody, nobody is named
 pub use Rattle.fifo.proofs.Fair.{Runs}
 pub use Rattle.fifo.proofs.Quiet.{quiet, two-run}

@@ -21,7 +21,7 @@ use Rattle.crontab.specs.Tables.{blankEntry, tableOf, entryIn}
 use Rattle.crontab.specs.Firings.{byWhen, firesAt}
 use Rattle.crontab.proofs.Theorems.{table-sound}
 use Rattle.firings.specs.declared.Filled.the-variants.{All, More}
-use Rattle.firings.specs.Passing.{passing, passingUpTo}
+use Rattle.bytes.specs.Passing.{passing, passingUpTo}
 use Rattle.firings.specs.Lists.{firingsOf, mergedOf}
 use Rattle.firings.specs.Calls.{EntryStep, MergedStep, maxPlaces, filled, fitted, minutesOf, entriesOf, refusedEntry, listedEntry, firingsFound, firingsAnswer, firingsIn, roomIn, refusedMerged, listedMerged, mergedIn}
 use Rattle.firings.specs.Rising.{Few, Fits, Kept}

@@ -7,7 +7,7 @@ use Prim.Native.Nat.{ℕ, zero, suc, _+_, _-_, _*_, _/_, _%_, _≤_, _<_}
 use native.Mathlib.Nat.{lt-of-not-le}
 use native.Mathlib.Decide.{decLe}
 use native.Mathlib.Omega.{arith}
-use Rattle.firings.specs.Passing.{passing, passingUpTo}
+use Rattle.bytes.specs.Passing.{passing, passingUpTo}
 use Rattle.firings.specs.Lists.{Firing, atMinute, entriesFrom, mergedOver, mergedUpTo}
 use Rattle.firings.specs.Keys.{firingOf, isFiring}
 use Rattle.firings.proofs.Waiting.{firing-is, firing-none}

@@ -1,4 +1,3 @@
-pub mod Passing
 pub mod Filling
 pub mod Exits
 pub mod NextFirings

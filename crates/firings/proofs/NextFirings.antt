@@ -18,9 +18,9 @@ use Rattle.schedule.proofs.Theorems.{next-at-in, next-is-in}
 use Rattle.crontab.specs.declared.time.When.the-variants.{Reboot, Timed}
 use Rattle.crontab.specs.declared.entry.Entry.{Entry}
 use Rattle.crontab.specs.Firings.{firesAt}
-use Rattle.firings.specs.Passing.{passingUpTo}
+use Rattle.bytes.specs.Passing.{passingUpTo}
 use Rattle.firings.specs.Keys.{minuteOrEnd}
-use Rattle.firings.proofs.Passing.{up-skip}
+use Rattle.bytes.proofs.Passing.{up-skip}
 
 module _ (e : Entry) (m : ℕ) (on : m ≤ lastMinute) where
   -- an `@reboot` entry has none

@@ -28,7 +28,7 @@ use Rattle.crontab.specs.declared.firing.DueAnswer.the-variants as due
 use Rattle.crontab.specs.Tables.{blankEntry, tableOf, entryIn}
 use Rattle.crontab.specs.Firings.{firesAt, dueOf, dueAnswer, dueIn}
 use Rattle.crontab.proofs.Theorems.{table-sound}
-use Rattle.firings.specs.Passing.{passing, passingUpTo}
+use Rattle.bytes.specs.Passing.{passing, passingUpTo}
 use Rattle.firings.specs.Lists.{Firing, firingsOf, atMinute, entriesFrom, mergedOver, firesIn, mergedUpTo, mergedOf}
 use Rattle.firings.specs.Keys.{firingOf, isFiring}
 use Rattle.firings.specs.Rising.{Among, Rises, Earlier, Exactly}

@@ -16,10 +16,10 @@ use Rattle.calendar.specs.Dates.{lastMinute}
 use Rattle.crontab.specs.declared.entry.Entry.{Entry}
 use Rattle.crontab.specs.Tables.{blankEntry}
 use Rattle.crontab.specs.Firings.{firesAt}
-use Rattle.firings.specs.Passing.{passingUpTo}
+use Rattle.bytes.specs.Passing.{passingUpTo}
 use Rattle.firings.specs.Lists.{firesIn}
 use Rattle.firings.specs.Keys.{isFiring, endKey, Tree, leaf, root, Waits, Planted}
-use Rattle.firings.proofs.Passing.{up-skip}
+use Rattle.bytes.proofs.Passing.{up-skip}
 use Rattle.firings.proofs.Trees.{root-low, root-leaf}
 
 -- ---- keys of an entry

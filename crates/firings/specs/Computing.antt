@@ -2,7 +2,7 @@
 -- Assumes nothing.
 use Rattle.bytes.specs.Laid.{laid}
 use Rattle.crontab.specs.Computing.{zoning}
-use Rattle.firings.specs.Passing.{passing, passingUpTo}
+use Rattle.bytes.specs.Passing.{passing, passingUpTo}
 use Rattle.firings.specs.Lists.{firingsOf, atMinute, entriesFrom, mergedOver, mergedUpTo, firesIn, mergedOf}
 use Rattle.firings.specs.Calls.{filled, fitted, refusedEntry, listedEntry, firingsFound, firingsAnswer, firingsIn, roomIn, refusedMerged, minutesOf, entriesOf, listedMerged, mergedIn}
 

@@ -1,4 +1,3 @@
-pub mod Passing
 pub mod Lists
 pub mod Calls
 pub mod Keys

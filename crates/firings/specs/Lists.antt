@@ -9,7 +9,7 @@ use Rattle.crontab.specs.declared.entry.Entry.{Entry}
 use Rattle.crontab.specs.declared.table.Table.{Table}
 use Rattle.crontab.specs.Tables.{blankEntry}
 use Rattle.crontab.specs.Firings.{firesAt}
-use Rattle.firings.specs.Passing.{passing, passingUpTo}
+use Rattle.bytes.specs.Passing.{passing, passingUpTo}
 
 -- "the firings of one entry after minute a and up to minute b, each once, rising from the first"
 unfoldable pub firingsOf : Entry → ℕ → ℕ → List ℕ

@@ -2,5 +2,9 @@ pub mod Joiners
 pub mod Exits
 pub mod TableJobs
 pub mod TableFair
+pub mod Chains
+pub mod ChainTicks
+pub mod Shifts
+pub mod ChainCases
 pub mod Reached
 pub mod Theorems

@@ -2,6 +2,12 @@
 --   table-fair, table-fair-from, table-fair-in-buffer, table-fair-steady: the third demand and its companions, as specs/Demand has them
 --   table-refused-only: a call is refused only for too little room or for a minute off the calendar
 --   hold-reached: a case in which the demand's bound is met exactly
+--   chain-is-due: "starting from any minute and asking for next firing again and again yields exactly the later calendar minutes that match
+--     the entry", none skipped or added (ticket 2026-14)
+--   chain-is-ticks: "as announcements one by one would find on a line with no mark at first and emptied before each"
+--   next-shifts: "shifting a start by 210,379,680 minutes shifts the answer by the same number, provided the start, the shifted start, both
+--     answers and, under an offset, their local minutes are on the calendar"
+--   fresh-unmarked, shift-met: their hypotheses can be met; mark-needed, shift-fails: and are needed
 --   table-steps, table-steps-good, table-due: the claims speak of what the functions promise
 --   init-told, tick-told, pop-told: what the calls can answer
 --   init-stays, tick-stays, pop-stays: a refused call leaves the room as it was
@@ -33,6 +39,10 @@ use Rattle.runqueue.specs.Demand.{jobsIn, TableDue, TableSteps, TableSte
 use Rattle.runqueue.proofs.Exits.{init-good, tick-good, pop-good}
 pub use Rattle.runqueue.proofs.TableFair.{table-fair, table-fair-from, table-refused-only, table-fair-in-buffer, table-fair-steady}
 pub use Rattle.runqueue.proofs.Reached.{hold-reached}
+pub use Rattle.runqueue.proofs.Chains.{chain-is-due}
+pub use Rattle.runqueue.proofs.ChainTicks.{chain-is-ticks}
+pub use Rattle.runqueue.proofs.Shifts.{next-shifts}
+pub use Rattle.runqueue.proofs.ChainCases.{fresh-unmarked, mark-needed, shift-met, shift-fails}
 
 -- a table that has an entry isn't refused
 pub entry-good : (rules : Rules) (table : List ℕ) (e : ℕ) → e < jobsIn rules table .count → tableOf rules table .refusal ≡ 0

@@ -1,3 +1,4 @@
 pub mod Jobs
 pub mod Calls
 pub mod Demand
+pub mod Chain

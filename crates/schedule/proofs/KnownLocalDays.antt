@@ -51,6 +51,8 @@ pub known-days-in :
     × (nextAfterIn everyMinute 0 719 ≡ At 720)
     × (nextAfterIn everyMinute 0 720 ≡ At 721)
     × (nextAfterIn evenings 0 0 ≡ At 1800)
+    -- 400 years later minute 0 is on the local calendar, and has an evening before it
+    × (nextAfterIn evenings 0 210379680 ≡ At 210380040)
     -- at +14:00 it ends 840 minutes before the last
     × (nextAfterIn mondays 1560 0 ≡ At 4920)
     × (nextAfterIn everyMinute 1560 4223370838 ≡ At 4223370839)
@@ -63,6 +65,7 @@ known-days-in = (
   fires everyMinute 0 719 720 tt,
   fires everyMinute 0 720 721 tt,
   fires evenings 0 0 1800 tt,
+  fires evenings 0 210379680 210380040 tt,
   fires mondays 1560 0 4920 tt,
   fires everyMinute 1560 4223370838 4223370839 tt,
   past everyMinute 1560 4223370839 refl (omega arith),

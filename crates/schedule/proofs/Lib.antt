@@ -11,6 +11,7 @@ pub mod Offsets
 pub mod LocalMinutes
 pub mod LocalFirings
 pub mod LocalTheorems
+pub mod Shifts
 pub mod Jumps
 pub mod SameDay
 pub mod MonthSets

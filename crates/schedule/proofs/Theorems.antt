@@ -15,6 +15,7 @@
 --   next-by: an entry matches a minute after h, up to m, just where its next firing after h comes by m
 --   known-days-in: next firings around the ends of the local calendar
 --   gap-on, gap-before, fires-within-in, next-within-in: silent for at most `gap` minutes, and 720 more from before 1970 locally
+--   matches-shifts-in, next-shifts-in: 400 years later it is the same, where both minutes are on the calendar locally
 --   matches-before, matches-at, matches-after: under an offset a minute matches by its local minute, and by none off the calendar
 -- And beside a mark:
 --   case-above, case-below, case-after, case-held: which case a minute is
@@ -42,6 +43,7 @@ pub use Rattle.schedule.proofs.Clocks.{slow-agrees}
 pub use Rattle.schedule.proofs.KnownLocalDays.{known-days-in}
 pub use Rattle.schedule.proofs.LocalMinutes.{matches-before, matches-at, matches-after}
 pub use Rattle.schedule.proofs.Jumps.{case-above, case-below, case-after, case-held, judged-unfixed, mark-stays}
+pub use Rattle.schedule.proofs.Shifts.{matches-shifts, matches-shifts-in, next-shifts-in}
 pub use Rattle.schedule.proofs.LocalTheorems.{local-date, utc-same, utc-next, next-at-in, next-never-in, next-past-in, next-is-in, matching-fires-in, next-on-calendar-in, next-by, gap-on, gap-before, fires-within-in, next-within-in}
 
 -- the least matching minute after m, up to the calendar's last

@@ -9,10 +9,10 @@ use borrow.Author.Needs.{needs}
 use lib.ListN.{length}
 use Rattle.calendar.specs.Dates.{lastMinute}
 use Rattle.crontab.specs.Firings.{firesAt}
-use Rattle.firings.specs.Passing.{passingUpTo}
+use Rattle.bytes.specs.Passing.{passingUpTo}
 use Rattle.firings.specs.Lists.{firingsOf}
 use Rattle.firings.specs.Calls.{listedEntry}
-use Rattle.firings.proofs.Passing.{up-end, up-here}
+use Rattle.bytes.proofs.Passing.{up-end, up-here}
 use Rattle.firings.proofs.Filling.{Filling, filling-start, filling-ahead, filling-next, all-told, all-laid, more-told, more-laid}
 use Rattle.firings.proofs.NextFirings.{first-from}
 use Rattle.firings.proofs.entry.fill.Statement.{statement}

@@ -14,11 +14,11 @@ use Rattle.calendar.specs.Dates.{lastMinute}
 use Rattle.crontab.specs.declared.entry.Entry.{Entry}
 use Rattle.crontab.specs.Tables.{blankEntry}
 use Rattle.crontab.specs.Firings.{firesAt}
-use Rattle.firings.specs.Passing.{passingUpTo}
+use Rattle.bytes.specs.Passing.{passingUpTo}
 use Rattle.firings.specs.Lists.{firesIn}
 use Rattle.firings.specs.Calls.{roomIn}
 use Rattle.firings.specs.Keys.{isFiring, endKey, Tree, leaf, root, Planted, Good}
-use Rattle.firings.proofs.Passing.{up-end, up-here}
+use Rattle.bytes.proofs.Passing.{up-end, up-here}
 use Rattle.firings.proofs.NextFirings.{first-from}
 use Rattle.firings.proofs.Waiting.{firing-is, firing-entry, waits-after, planted-next, planted-root, root-at, root-skip, root-fires}
 use Rattle.firings.proofs.Keys.{merged-keys}

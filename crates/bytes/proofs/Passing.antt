@@ -6,7 +6,7 @@ use mathlib.Core.List.{[], _∷_}
 use Prim.Native.Nat.{ℕ, zero, suc, _+_, _-_, _≤_, _<_}
 use native.Mathlib.Omega.{arith}
 use native.Mathlib.Numerals.{add-one}
-use Rattle.firings.specs.Passing.{passing, passingUpTo}
+use Rattle.bytes.specs.Passing.{passing, passingUpTo}
 
 module _ (p : ℕ → Bool) (b : ℕ) where
   -- none behind the end

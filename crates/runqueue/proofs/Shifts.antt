@@ -1,0 +1,76 @@
+-- 400 years later the next firing is as much later, by table bytes; and where it isn't.
+-- Assumes nothing.
+use mathlib.Core.Path.{_≡_, refl, ap, _∙_}
+use mathlib.Core.Logic.{_↔_}
+use mathlib.Core.Bool.{Bool, true, false, cond}
+use mathlib.Core.List.{List}
+use Prim.Native.Nat.{ℕ, _+_, _≤_, _<_}
+use native.Mathlib.Omega.{arith}
+use lib.Dec.{eqb, ltb}
+use lib.ListN.{getD}
+use borrow.Author.Tests.{le-leb}
+use Rattle.calendar.specs.Dates.{lastMinute, cycleMinutes}
+use Rattle.schedule.specs.declared.Next.{Next}
+use Rattle.schedule.specs.declared.Next.the-variants as next
+use Rattle.schedule.specs.Local.{ahead, nextAfterIn}
+use Rattle.schedule.proofs.Theorems.{next-shifts-in}
+use Rattle.crontab.specs.declared.Rules.{Rules}
+use Rattle.crontab.specs.declared.time.When.{When}
+use Rattle.crontab.specs.declared.time.When.the-variants.{Reboot, Timed}
+use Rattle.crontab.specs.declared.entry.Entry.{Entry}
+use Rattle.crontab.specs.declared.table.Table.{Table}
+use Rattle.crontab.specs.declared.table.EntryAnswer.{EntryAnswer}
+use Rattle.crontab.specs.declared.table.EntryAnswer.the-variants as answer
+use Rattle.crontab.specs.declared.firing.NextAnswer.the-variants.{At, Refused}
+use Rattle.crontab.specs.Tables.{tableOf, entryIn, blankEntry}
+use Rattle.crontab.specs.Firings.{byWhen, told, nextOf, nextAnswer, nextIn}
+use Rattle.runqueue.specs.Jobs.{jobAt}
+use Rattle.runqueue.specs.Demand.{aheadOf}
+use Rattle.runqueue.specs.Chain.{Shifting, NextShifts}
+
+-- what is told is a firing, and the other way
+told-at : (x : Next) (n : ℕ) → (told x ≡ At n) ↔ (x ≡ next.At n)
+unfolding told
+told-at (next.At m) n = ((λ e. cc), (λ e. cc))
+told-at next.Never n = ((λ e. absurd (let z : _≡_ {A = ℕ} 0 1 = cc in omega arith)), (λ e. absurd (let z : _≡_ {A = ℕ} 0 1 = cc in omega arith)))
+told-at next.PastEnd n = ((λ e. absurd (let z : _≡_ {A = ℕ} 0 1 = cc in omega arith)), (λ e. absurd (let z : _≡_ {A = ℕ} 0 1 = cc in omega arith)))
+
+refused-at : {k j m n : ℕ} → (Refused k ≡ At m) ↔ (Refused j ≡ At n)
+refused-at = ((λ e. absurd (let z : _≡_ {A = ℕ} 0 1 = cc in omega arith)), (λ e. absurd (let z : _≡_ {A = ℕ} 0 1 = cc in omega arith)))
+
+module _ (m n : ℕ) where
+  entry-shifts : (x : Entry) → Shifting (ahead (x .offset)) m n → (nextOf x m ≡ At n) ↔ (nextOf x (m + cycleMinutes) ≡ At (n + cycleMinutes))
+  unfolding nextOf
+  entry-shifts x s = rw (le-leb m lastMinute (s .start .utc), le-leb (m + cycleMinutes) lastMinute (s .shifted .utc)) (go (x .when))
+    where
+      o : ℕ
+      o = ahead (x .offset)
+
+      go : (w : When)
+          → (byWhen w (Refused 15) (λ r. told (nextAfterIn r o m)) ≡ At n)
+          ↔ (byWhen w (Refused 15) (λ r. told (nextAfterIn r o (m + cycleMinutes))) ≡ At (n + cycleMinutes))
+      go Reboot = refused-at
+      go (Timed r) =
+          let shifts = next-shifts-in r o m n (s .start .from) (s .other .utc) (s .other .to) in
+          let here = told-at (nextAfterIn r o m) n in
+          let there = told-at (nextAfterIn r o (m + cycleMinutes)) (n + cycleMinutes) in
+          ((λ e. there .1 (shifts .0 (here .0 e))), (λ e. here .1 (shifts .1 (there .0 e))))
+
+  table-shifts : (t : Table) (e : ℕ) → Shifting (ahead (jobAt t e .offset)) m n
+      → (nextIn t e m ≡ At n) ↔ (nextIn t e (m + cycleMinutes) ≡ At (n + cycleMinutes))
+  unfolding jobAt nextIn entryIn nextAnswer
+  table-shifts t e s = go (eqb (t .refusal) 0) (ltb e (t .count))
+    where
+      x : Entry
+      x = getD (t .entries) e blankEntry
+
+      found : Bool → Bool → EntryAnswer
+      found good there = cond good (cond there (answer.Found x) (answer.Refused 13)) (answer.Refused (t .refusal))
+
+      go : (good there : Bool) → (nextAnswer (found good there) m ≡ At n) ↔ (nextAnswer (found good there) (m + cycleMinutes) ≡ At (n + cycleMinutes))
+      go false there = refused-at
+      go true false = refused-at
+      go true true = entry-shifts x s
+
+pub next-shifts : NextShifts
+next-shifts rules table e m n s = table-shifts m n (tableOf rules table) e s
