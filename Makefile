@@ -24,7 +24,8 @@ FUNCTIONS := $(shell sed -n '/^uint64_t\|^static inline/s/.*\(eremothyn_[a-z_]*\
 PAGES_1 := $(wildcard packaging/*.1)
 PAGES_3 := target/man/eremothyn.3 $(FUNCTIONS:%=target/man/%.3)
 PAGES_5 := $(wildcard packaging/*.5)
-EXAMPLES := daemon.c date.c table_file.h observatory.crontab system.crontab two_sites.crontab over_midnight.crontab broken.crontab
+EXAMPLES := daemon.c site_daemon.c date.c table_file.h log.h observatory.crontab system.crontab two_sites.crontab over_midnight.crontab night.crontab night_changed.crontab \
+  broken.crontab
 
 LIB := $(DESTDIR)$(LIBDIR)
 INCLUDE := $(DESTDIR)$(PREFIX)/include
@@ -37,7 +38,7 @@ COMPILE = mkdir -p $(@D) && $(CC) -std=c99 $(CPPFLAGS) $(CFLAGS) -Iinclude $(LDF
 
 .PHONY: all example install uninstall test bench clean
 
-all: $(LIBRARY) $(COMMAND) $(LISTER) target/c/daemon target/c/date
+all: $(LIBRARY) $(COMMAND) $(LISTER) target/c/daemon target/c/site_daemon target/c/date
 
 target/staticlib/lib%.a: $(SOURCES)
 	rt staticlib $*
@@ -50,7 +51,7 @@ target/bin/%: $(SOURCES) | $(LIBRARY)
 $(COMMAND): $(COMMAND_SOURCES) $(wildcard programs/*.h) $(HEADER) $(LIBRARY)
 	$(COMPILE) $(COMMAND_SOURCES) $(LIBRARY)
 
-target/c/%: examples/%.c examples/table_file.h $(HEADER) $(LIBRARY)
+target/c/%: examples/%.c examples/table_file.h examples/log.h $(HEADER) $(LIBRARY)
 	$(COMPILE) $< $(LIBRARY)
 
 # The clock wakes in 1970; when the time job has had its turn, it is right. Then it jumps two hours forward, and back.

@@ -24,10 +24,9 @@
  * If it is only a few minutes late, it first announces each of those that it slept through, in their order, and no job is
  * missed. After a longer sleep or a jump it doesn't, or a job of every minute could run again and again for minutes long gone.
  *
- * When its crontab changes, it makes a new queue: the numbers in the old one mean other entries.
+ * site_daemon.c, beside this one, has that clock, and goes on with the same queue when its crontab changes.
  */
 
-#include <errno.h>
 #include <inttypes.h>
 #include <stdbool.h>
 #include <stdint.h>
@@ -36,6 +35,7 @@
 #include <string.h>
 
 #include "eremothyn.h"
+#include "log.h"
 #include "table_file.h"
 
 enum { DONE = 0, REFUSED = 1, FAILED = 2 };
@@ -64,15 +64,6 @@ static uint64_t answered(const char *call, uint64_t answer)
     return answer;
 }
 
-static void print_date(uint64_t minute)
-{
-    static const char weekdays[7][4] = { "Sun", "Mon", "Tue", "Wed", "Thu", "Fri", "Sat" };
-    printf("%04" PRIu64 "-%02" PRIu64 "-%02" PRIu64 " %s %02" PRIu64 ":%02" PRIu64, answered("year", eremothyn_year(minute)),
-           answered("month", eremothyn_month(minute)), answered("day", eremothyn_day(minute)),
-           weekdays[answered("weekday", eremothyn_weekday(minute))], answered("hour", eremothyn_hour(minute)),
-           answered("minute_of_hour", eremothyn_minute_of_hour(minute)));
-}
-
 /* What an entry's own clock shows at a minute, if that isn't UTC. At the calendar's ends it may show a date off it. */
 static void print_local(const struct site *site, uint64_t entry, uint64_t minute)
 {
@@ -81,28 +72,7 @@ static void print_local(const struct site *site, uint64_t entry, uint64_t minute
         return;
     fputs("  local ", stdout);
     /* A minute below 0 becomes a large number. */
-    uint64_t local = minute + (uint64_t)ahead;
-    if (local > EREMOTHYN_LAST_MINUTE)
-        fputs("off the calendar", stdout);
-    else
-        print_date(local);
-}
-
-/* A text between bars: a newline as \n, a backslash as \\, and what a terminal would not show as itself as \xHH. */
-static void print_text(const uint8_t *text, uint64_t length)
-{
-    putchar('|');
-    for (uint64_t i = 0; i < length; i++) {
-        if (text[i] == '\n')
-            fputs("\\n", stdout);
-        else if (text[i] == '\\')
-            fputs("\\\\", stdout);
-        else if (text[i] < ' ' || text[i] > '~')
-            printf("\\x%02x", (unsigned)text[i]);
-        else
-            putchar(text[i]);
-    }
-    putchar('|');
+    print_date(minute + (uint64_t)ahead);
 }
 
 /* A name or a value of a setting. */
@@ -138,18 +108,14 @@ static void set_clocks(struct site *site, struct part name, struct part value)
         site->ahead[entry] = value.text[0] == '-' ? -minutes : minutes;
 }
 
-/* Takes the settings of a table, by the numbers of its lines: a line that has none is refused, and that is no fault. */
+/* Takes the settings of a table, line by line; that there is no next one is refused, and no fault. */
 static void take_settings(struct site *site)
 {
     const uint8_t *table = site->table.bytes;
     uint64_t length = site->table.length, kind = site->kind, dialect = site->dialect;
-    uint64_t lines = 1;
-    for (uint64_t i = 0; i < length; i++)
-        lines += table[i] == '\n';
-    for (uint64_t line = 1; line <= lines; line++) {
+    uint64_t line = eremothyn_next_setting(table, length, kind, dialect, 1);
+    for (; !EREMOTHYN_IS_REFUSED(line); line = eremothyn_next_setting(table, length, kind, dialect, line + 1)) {
         uint64_t offset = eremothyn_setting_name_offset(table, length, kind, dialect, line);
-        if (offset == EREMOTHYN_REFUSED + EREMOTHYN_NO_SETTING)
-            continue;
         uint64_t name_length = eremothyn_setting_name_length(table, length, kind, dialect, line);
         uint64_t value_offset = eremothyn_setting_value_offset(table, length, kind, dialect, line);
         uint64_t value_length = eremothyn_setting_value_length(table, length, kind, dialect, line);
@@ -254,19 +220,12 @@ static void live(struct site *site, uint64_t minute, uint64_t pace)
 /* Reads the crontab, shows its settings and when its entries fire next, sets their clocks, and makes the queue. */
 static int boot(struct site *site, const char *name, uint64_t first)
 {
-    if (!read_table(name, &site->table)) {
-        fprintf(stderr, "daemon: %s: %s\n", name, strerror(errno));
-        return FAILED;
-    }
+    int status = read_good_table(name, &site->table, site->kind, site->dialect, stderr);
+    if (status != DONE)
+        return status;
     const uint8_t *table = site->table.bytes;
     uint64_t length = site->table.length, kind = site->kind, dialect = site->dialect;
-    uint64_t entries = eremothyn_check(table, length, kind, dialect);
-    if (EREMOTHYN_IS_REFUSED(entries)) {
-        fprintf(stderr, "%s:%" PRIu64 ":%" PRIu64 ": refused %" PRIu64 ": %s\n", name,
-                eremothyn_fault_line(table, length, kind, dialect), eremothyn_fault_column(table, length, kind, dialect),
-                EREMOTHYN_REFUSAL(entries), eremothyn_words(EREMOTHYN_REFUSAL(entries)));
-        return REFUSED;
-    }
+    uint64_t entries = answered("check", eremothyn_check(table, length, kind, dialect));
     take_settings(site);
     for (uint64_t entry = 0; entry < entries; entry++)
         print_next(site, entry, first);

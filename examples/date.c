@@ -48,19 +48,17 @@ static int print_date(uint64_t minute)
     static const char *const weekdays[] = {
         "Sunday", "Monday", "Tuesday", "Wednesday", "Thursday", "Friday", "Saturday",
     };
-    uint64_t year = eremothyn_year(minute);
-    /* The other parts are refused for the same minutes as the year. */
-    if (EREMOTHYN_IS_REFUSED(year)) {
+    uint16_t date[6];
+    uint64_t answer = eremothyn_date(minute, date, 6);
+    if (EREMOTHYN_IS_REFUSED(answer)) {
         fprintf(stderr,
                 "date: minute %" PRIu64 " has no date: the calendar's last minute is %" PRIu64
                 " (refusal %" PRIu64 ")\n",
-                minute, EREMOTHYN_LAST_MINUTE, EREMOTHYN_REFUSAL(year));
+                minute, EREMOTHYN_LAST_MINUTE, EREMOTHYN_REFUSAL(answer));
         return REFUSED;
     }
-    printf("%04" PRIu64 "-%02" PRIu64 "-%02" PRIu64 " %02" PRIu64 ":%02" PRIu64 " %s\n",
-           year, eremothyn_month(minute), eremothyn_day(minute),
-           eremothyn_hour(minute), eremothyn_minute_of_hour(minute),
-           weekdays[eremothyn_weekday(minute)]);
+    printf("%04u-%02u-%02u %02u:%02u %s\n", (unsigned)date[0], (unsigned)date[1], (unsigned)date[2],
+           (unsigned)date[3], (unsigned)date[4], weekdays[date[5]]);
     return DONE;
 }
 

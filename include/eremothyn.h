@@ -2,7 +2,8 @@
  * Eremothyn: a crontab engine. C99 and C++; link with liberemothyn.a.
  *
  * All minutes are UTC: those that are announced, asked about and answered. They count from 0, which is 1970-01-01 00:00, a
- * Thursday, to EREMOTHYN_LAST_MINUTE, which is 9999-12-31 23:59. The calendar is the proleptic Gregorian one.
+ * Thursday, to EREMOTHYN_LAST_MINUTE, which is 9999-12-31 23:59. The calendar is the proleptic Gregorian one. Where time_t
+ * counts seconds since 1970, as in POSIX, time(NULL) / 60 is the minute that the clock shows.
  *
  * A setting CRON_TZ in a table gives the entries after it a local clock, until the next one: its value is what that clock is
  * ahead of UTC, as +05:30 or -03:00. An entry fires by its own clock, and before the first CRON_TZ that is UTC. There are no
@@ -36,7 +37,10 @@ extern "C" {
 /* The last minute of the calendar, 9999-12-31 23:59. */
 #define EREMOTHYN_LAST_MINUTE UINT64_C(4223371679)
 
-/* What a table may have: bytes, bytes in a line without its newline, entries, bytes in a name of the user column. */
+/*
+ * What a table may have: bytes, bytes in a line without its newline, entries, bytes in a name of the user column. So
+ * EREMOTHYN_MAX_LINE bytes are room enough for either part of a command.
+ */
 #define EREMOTHYN_MAX_TABLE 49152
 #define EREMOTHYN_MAX_LINE 1000
 #define EREMOTHYN_MAX_ENTRIES 512
@@ -75,7 +79,7 @@ extern "C" {
 #define EREMOTHYN_FILLED(answer) ((answer) % EREMOTHYN_MORE)
 #define EREMOTHYN_HAS_MORE(answer) ((answer) >= EREMOTHYN_MORE)
 
-/* Where a request finds nothing waiting, and where a command has no standard input: no refusals. */
+/* Where nothing waits, at the front or at a place, and where a command has no standard input: no refusals. */
 #define EREMOTHYN_NOTHING_WAITS EREMOTHYN_REFUSED
 #define EREMOTHYN_NO_INPUT EREMOTHYN_REFUSED
 
@@ -108,7 +112,7 @@ extern "C" {
 #define EREMOTHYN_NEVER UINT64_C(16)           /* no minute of the 400-year cycle matches */
 #define EREMOTHYN_PAST_THE_END UINT64_C(17)    /* would fire, but not before the calendar ends */
 #define EREMOTHYN_TOO_SHORT UINT64_C(18)       /* a lent buffer is too short for what is written */
-#define EREMOTHYN_NO_SETTING UINT64_C(19)      /* the line asked for is no setting, or isn't there */
+#define EREMOTHYN_NO_SETTING UINT64_C(19)      /* the line asked for is no setting, or isn't there; or none comes from it on */
 #define EREMOTHYN_TEXT_TOO_LONG UINT64_C(21)   /* a line of the normal text, or all of it, would pass a table's limits */
 #define EREMOTHYN_RECORD_CUT UINT64_C(22)      /* fewer bytes than a record's length says, or a length below 2 */
 #define EREMOTHYN_RECORD_UNKNOWN UINT64_C(23)  /* a kind of record below 32,768 that isn't 1 to 4 */
@@ -141,7 +145,7 @@ static inline const char *eremothyn_words(uint64_t refusal)
     case EREMOTHYN_NEVER: return "never fires";
     case EREMOTHYN_PAST_THE_END: return "fires no more before the year 10000";
     case EREMOTHYN_TOO_SHORT: return "a buffer is too short for what is written";
-    case EREMOTHYN_NO_SETTING: return "no setting on this line";
+    case EREMOTHYN_NO_SETTING: return "no setting there";
     case EREMOTHYN_USER_MALFORMED:
         return "not a user column: user, user:group, user/class or user:group/class, each of 1 to 32 letters, digits, "
                "_, - and ., and - not first";
@@ -188,6 +192,16 @@ uint64_t eremothyn_minute_of_hour(uint64_t minute);
 uint64_t eremothyn_weekday(uint64_t minute);
 
 /*
+ * All six in one call, in about the time of one: year, month, day, hour, minute and weekday go to the front of a run, in this
+ * order; the numbers behind stay. Answers 6. Refused with EREMOTHYN_NOT_ON_CALENDAR, then with EREMOTHYN_TOO_SHORT for a run
+ * of fewer than six.
+ *
+ *     uint16_t date[6];
+ *     eremothyn_date((uint64_t)time(NULL) / 60, date, 6);
+ */
+uint64_t eremothyn_date(uint64_t minute, uint16_t *run, uint64_t run_length);
+
+/*
  * Tables. A table is the bytes of a crontab, and two numbers behind them say how they are read: its kind,
  * EREMOTHYN_USER_TABLE or EREMOTHYN_SYSTEM_TABLE, and its dialect, EREMOTHYN_RISING or EREMOTHYN_WRAPPING.
  * (eremothyn_normal_form and eremothyn_compile take no kind.) Its entries have the numbers 0, 1 and on, in file order. Every
@@ -195,7 +209,7 @@ uint64_t eremothyn_weekday(uint64_t minute);
  * does, before anything else.
  */
 
-/* How many entries the table has. */
+/* How many entries the table has, 0 to EREMOTHYN_MAX_ENTRIES. */
 uint64_t eremothyn_check(const uint8_t *table, uint64_t table_length, uint64_t kind, uint64_t dialect);
 
 /* The line and the column of the table's fault; 0 where it is good, and for EREMOTHYN_TABLE_TOO_LONG. */
@@ -242,9 +256,19 @@ uint64_t eremothyn_firings(const uint8_t *table, uint64_t table_length, uint64_t
  * to the front of one run, and the numbers of the entries to the same places of the other. If the two differ in length, the
  * shorter counts. All else is as in eremothyn_firings. @reboot entries never appear.
  *
- * With one place it says which entry fires first after a, and when. For a whole list, lend at least one place more than the
- * table has entries; EREMOTHYN_MAX_ENTRIES + 1 will do for any. Where more remain, the last minute that was filled in may lack
- * some of its entries: leave its places out, and call again with the minute before it as a.
+ * How long may a daemon sleep? With one place the call says which entry fires first after a, and when. If a was announced, and
+ * no minute after a before it, nothing has to be announced before that minute. Where nothing fires up to b, the answer is 0.
+ *
+ *     uint32_t minute;
+ *     uint16_t entry;
+ *     uint64_t answer = eremothyn_merged_firings(table, length, EREMOTHYN_USER_TABLE, EREMOTHYN_RISING, now,
+ *                                                EREMOTHYN_LAST_MINUTE, &minute, 1, &entry, 1);
+ *     if (!EREMOTHYN_IS_REFUSED(answer) && EREMOTHYN_FILLED(answer) == 1)
+ *         printf("%lu minutes\n", (unsigned long)(minute - now));
+ *
+ * For a whole list, lend at least one place more than the table has entries; EREMOTHYN_MAX_ENTRIES + 1 will do for any. Where
+ * more remain, the last minute that was filled in may lack some of its entries: leave its places out, and call again with the
+ * minute before it as a.
  *
  * Refused with EREMOTHYN_NOT_ON_CALENDAR for a, then for b.
  */
@@ -253,10 +277,25 @@ uint64_t eremothyn_merged_firings(const uint8_t *table, uint64_t table_length, u
                                   uint64_t entries_length);
 
 /*
+ * The line that an entry stands on, counted from 1: for messages, and to know which settings stand before it. Refused with
+ * EREMOTHYN_NO_SUCH_ENTRY.
+ */
+uint64_t eremothyn_entry_line(const uint8_t *table, uint64_t table_length, uint64_t kind, uint64_t dialect, uint64_t entry);
+
+/*
+ * An entry's command as it stands in the table, with every % and backslash: where it starts, counted from 0, and its length, 1
+ * or more and below EREMOTHYN_MAX_LINE. It ends with its line. Refused with EREMOTHYN_NO_SUCH_ENTRY.
+ */
+uint64_t eremothyn_command_offset(const uint8_t *table, uint64_t table_length, uint64_t kind, uint64_t dialect,
+                                  uint64_t entry);
+uint64_t eremothyn_command_length(const uint8_t *table, uint64_t table_length, uint64_t kind, uint64_t dialect,
+                                  uint64_t entry);
+
+/*
  * Splits an entry's command: the shell line goes to the front of one buffer and the standard input to the front of the
  * other; the bytes behind stay. Answers the length of the shell line. Refused with EREMOTHYN_NO_SUCH_ENTRY, or with
- * EREMOTHYN_TOO_SHORT if either buffer is too short. A command's length is always room enough for both; where there is no
- * input, none is needed. eremothyn_stdin_length answers how long the input is.
+ * EREMOTHYN_TOO_SHORT if either buffer is too short. The command's own length is always room enough for either, and so is
+ * EREMOTHYN_MAX_LINE; where there is no input, none is needed. eremothyn_stdin_length answers how long the input is.
  */
 uint64_t eremothyn_split_command(const uint8_t *table, uint64_t table_length, uint64_t kind, uint64_t dialect,
                                  uint64_t entry, uint8_t *shell, uint64_t shell_length, uint8_t *input,
@@ -300,6 +339,19 @@ uint64_t eremothyn_setting_value_offset(const uint8_t *table, uint64_t table_len
                                         uint64_t line);
 uint64_t eremothyn_setting_value_length(const uint8_t *table, uint64_t table_length, uint64_t kind, uint64_t dialect,
                                         uint64_t line);
+
+/*
+ * The first line from a line on that has a setting, that line included; line 0 counts as from the start. Refused with
+ * EREMOTHYN_NO_SETTING where there is none. So a loop has all settings, or those before an entry, without asking every line:
+ *
+ *     uint64_t line = eremothyn_next_setting(table, length, EREMOTHYN_USER_TABLE, EREMOTHYN_RISING, 1);
+ *     for (; !EREMOTHYN_IS_REFUSED(line) && line < end;
+ *          line = eremothyn_next_setting(table, length, EREMOTHYN_USER_TABLE, EREMOTHYN_RISING, line + 1))
+ *         take(line);
+ *
+ * with eremothyn_entry_line(..) as the end. Where a name is set twice, the later one counts for what stands behind it.
+ */
+uint64_t eremothyn_next_setting(const uint8_t *table, uint64_t table_length, uint64_t kind, uint64_t dialect, uint64_t line);
 
 /*
  * Writes a user table back in its normal form, to the front of a buffer; the bytes behind stay. Answers the length of the
@@ -356,8 +408,9 @@ uint64_t eremothyn_record_fault(const uint8_t *records, uint64_t records_length)
  * The run queue: a table's waiting jobs, in a room of bytes that the caller lends. An entry stands in the
  * queue at most once, and whoever has stood longest goes next. EREMOTHYN_ROOM(entries) bytes are always room enough; what
  * they hold is the library's. Each call is refused with EREMOTHYN_NOT_A_QUEUE for room that can't hold all of the table's
- * entries. A queue keeps the numbers of entries and a mark: one that another table left is taken if its numbers fit, so make a
- * fresh one when the table changes.
+ * entries. A queue keeps the numbers of entries and a mark. When the table changes, a number means another entry: hand both
+ * tables to eremothyn_queue_reload before any other call with the new one. A queue that another table left is taken if its
+ * numbers fit, and then the wrong job is popped. Whoever makes a fresh one forgets who waited, and @reboot jobs run again.
  *
  * The mark is the minute up to which fixed entries have been judged; a fresh queue has none. An entry is fixed if neither its
  * minute nor its hour field begins with a star: it has its set times of the day. @daily is fixed, @hourly and @reboot aren't.
@@ -392,6 +445,27 @@ uint64_t eremothyn_queue_tick(const uint8_t *table, uint64_t table_length, uint6
  */
 uint64_t eremothyn_queue_pop(const uint8_t *table, uint64_t table_length, uint64_t kind, uint64_t dialect, uint8_t *room,
                              uint64_t room_length);
+
+/*
+ * Who stands at a place of the queue, 0 the front: the entry's number, or EREMOTHYN_NOTHING_WAITS from its end on. Nobody is
+ * removed, and the room stays as it is. Refused with EREMOTHYN_NOT_A_QUEUE as eremothyn_queue_tick is.
+ */
+uint64_t eremothyn_queue_entry(const uint8_t *table, uint64_t table_length, uint64_t kind, uint64_t dialect,
+                               const uint8_t *room, uint64_t room_length, uint64_t place);
+
+/*
+ * Goes on with a changed table, of the same kind and dialect. Each waiting entry keeps its place as the entry of the new
+ * table that means the same: the same values in its time, with the same fields that begin with a star, or @reboot; the same
+ * offset from UTC, the same user column, and the same command, byte by byte. Where several mean the same, the first waits on
+ * as the first, the second as the second, and so on. One that isn't there any more leaves. Nobody joins, a new @reboot entry
+ * neither, and the mark stays. Answers how many wait. The bytes behind the queue stay, and the same table changes no byte.
+ *
+ * The room must be a queue of the old table, and hold all entries of the new one; EREMOTHYN_ROOM(EREMOTHYN_MAX_ENTRIES)
+ * bytes do for any two. Refused for the old table, then for the new one, then with EREMOTHYN_NOT_A_QUEUE; go on with the old
+ * table then.
+ */
+uint64_t eremothyn_queue_reload(const uint8_t *old_table, uint64_t old_length, const uint8_t *new_table, uint64_t new_length,
+                                uint64_t kind, uint64_t dialect, uint8_t *room, uint64_t room_length);
 
 #ifdef __cplusplus
 }

@@ -1,5 +1,5 @@
-//! A minute's date in all six parts, and a date's minute. First as a C caller asks for it, by a call for each part, beside
-//! the second program and glibc. Then a whole date in one call, beside the walk year by year, glibc, and the plain Rust
+//! A minute's date in all six parts, and a date's minute. First as a C caller asks for it, by a call for each part and by one
+//! for all, beside the second program and glibc. Then a whole date in one call, beside the walk year by year, glibc, and the plain Rust
 //! versions of two well-known algorithms, which check nothing.
 
 use crate::glibc;
@@ -40,7 +40,7 @@ pub fn run() {
 fn by_parts(which: &str, minutes: &[u64]) {
     let dates: Vec<Parts> = minutes.iter().map(|&minute| library_date(minute)).collect();
     for (&minute, &date) in minutes.iter().zip(&dates) {
-        for other in [second_date, glibc::date] {
+        for other in [one_call, second_date, glibc::date] {
             assert_eq!(other(minute), date, "minute {minute}");
         }
         for back in [library_minute, second_minute, glibc::minute] {
@@ -53,12 +53,22 @@ fn by_parts(which: &str, minutes: &[u64]) {
         &|| round(minutes, second_date),
         &|| round(minutes, glibc::date),
     ]);
+    let at_once = in_turn(&[
+        &|| round(minutes, one_call),
+        &|| round(minutes, second_date),
+        &|| round(minutes, glibc::date),
+    ]);
     let back = in_turn(&[
         &|| round(&dates, library_minute),
         &|| round(&dates, second_minute),
         &|| round(&dates, glibc::minute),
     ]);
     print_row(&format!("{which}: date"), there[0], &there[1..]);
+    print_row(
+        &format!("{which}: by eremothyn_date"),
+        at_once[0],
+        &at_once[1..],
+    );
     print_row(&format!("{which}: and back"), back[0], &back[1..]);
 }
 
@@ -111,6 +121,13 @@ fn library_date(minute: u64) -> Parts {
         eremothyn::weekday(minute),
     ]
     .map(|part| part.expect(OFF))
+}
+
+/// All six parts at once, in a lent run.
+fn one_call(minute: u64) -> Parts {
+    let mut run = [0u16; 6];
+    eremothyn::date(minute, &mut run[..]).expect(OFF);
+    run.map(u64::from)
 }
 
 fn library_minute([year, month, day, hour, minute, _]: Parts) -> u64 {

@@ -1,7 +1,7 @@
 -- Laws of the entries that are chosen, entry by entry.
 -- Assumes nothing.
 use mathlib.Core.Path.{_≡_, refl, sym, ap, _∙_}
-use mathlib.Core.Bool.{false, cond}
+use mathlib.Core.Bool.{Bool, false, cond}
 use mathlib.Core.List.{List}
 use Prim.Native.Nat.{ℕ, _+_, _≤_, _<_}
 use native.Mathlib.Numerals.{add-one}
@@ -23,24 +23,24 @@ use Rattle.crontab.specs.declared.entry.Entry.{Entry}
 use Rattle.crontab.specs.declared.chosen.Which.{Which}
 use Rattle.crontab.specs.declared.chosen.Which.the-variants.{At}
 use Rattle.crontab.specs.Tables.{blankEntry, refusedTable}
-use Rattle.crontab.specs.Choices.{isChosen, dateUnder, markWords, refusedChoice, choice, chosenIn}
+use Rattle.crontab.specs.Choices.{isChosen, dateUnder, markWords, refusedChoice, choice, chosenBy}
 use Rattle.crontab.specs.Firings.{isFixed, firesAt}
 use Rattle.crontab.proofs.Offsets.{kept}
 
 -- one entry more
-pub chosen-more : (which : Which) (es : List Entry) (k : ℕ) (e : Entry) → k < length es
-    → let before = marksOf markWords (choice which es) k in
-    marksOf markWords (choice which (set es k e)) (k + 1) ≡ cond (isChosen which e) (mark before k) before
+pub chosen-more : (p : Entry → Bool) (es : List Entry) (k : ℕ) (e : Entry) → k < length es
+    → let before = marksOf markWords (choice p es) k in
+    marksOf markWords (choice p (set es k e)) (k + 1) ≡ cond (p e) (mark before k) before
 unfolding marksOf choice
-chosen-more which es k e h =
-    rw (add-one k, getD-set-same es k e blankEntry h, marks-same markWords (choice which (set es k e)) (choice which es) k same)
+chosen-more p es k e h =
+    rw (add-one k, getD-set-same es k e blankEntry h, marks-same markWords (choice p (set es k e)) (choice p es) k same)
   where
-    same : (x : ℕ) → x < k → choice which (set es k e) x ≡ choice which es x
+    same : (x : ℕ) → x < k → choice p (set es k e) x ≡ choice p es x
     same x j = rw (getD-set-other es k x e blankEntry (λ q. omega (arith, q)))
 
-pub chosen-refused : (which : Which) (number line column : ℕ) → refusedChoice number ≡ chosenIn which (refusedTable number line column)
-unfolding refusedChoice chosenIn refusedTable marksOf
-chosen-refused which number line column = refl
+pub chosen-refused : (p : Entry → Bool) (number line column : ℕ) → refusedChoice number ≡ chosenBy p (refusedTable number line column)
+unfolding refusedChoice chosenBy refusedTable marksOf
+chosen-refused p number line column = refl
 
 -- an announced minute off the calendar calls nobody; on it, the local date is the minute's
 module _ {which : Which} {m : ℕ} {case : Case} (e : Entry) (is : which ≡ At m case) where

@@ -12,6 +12,7 @@ pub mod Sound
 pub mod Cuts
 pub mod Tables
 pub mod Walks
+pub mod LineNumbers
 pub mod Firings
 pub mod Choices
 pub mod Reversed

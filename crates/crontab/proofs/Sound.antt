@@ -6,7 +6,7 @@ use mathlib.Core.Bool.{Bool, true, false, cond, _&&_}
 use mathlib.Core.List.{List, [], _∷_}
 use Prim.Native.Nat.{ℕ, suc, _+_, _≤_, _<_}
 use native.Mathlib.Omega.{arith}
-use lib.ListN.{length}
+use lib.ListN.{length, drop, length-drop}
 use lib.Dec.{eqb, ltb}
 use lib.IntN.{ℤ}
 use borrow.Author.Tests.{ltb-true, ltb-false}
@@ -15,6 +15,9 @@ use Rattle.crontab.specs.declared.Part.{Part}
 use Rattle.crontab.specs.declared.entry.Entry.{Entry}
 use Rattle.crontab.specs.declared.line.Line.{Line}
 use Rattle.crontab.specs.declared.line.Line.the-variants as line
+use Rattle.crontab.specs.declared.item.Cursor.{Cursor}
+use Rattle.crontab.specs.declared.item.Item.the-variants as item
+use Rattle.crontab.specs.declared.item.Step.{Step}
 use Rattle.schedule.specs.Local.{InZones}
 use Rattle.crontab.specs.Offsets.{utc, inForce}
 use Rattle.crontab.specs.Limits.{maxTable, maxLine, maxEntries}
@@ -22,11 +25,13 @@ use Rattle.crontab.specs.Lines.{onto, linesOf, isCut, isLast, readLine}
 use Rattle.crontab.specs.Items.{Items, done, fault, setting, entry, moved, placed, afterLine, lastFault, faultOf, itemsFrom, itemsOf}
 use Rattle.crontab.proofs.Offsets.{force-in}
 use Rattle.crontab.proofs.Proper.{Inside, Proper, line-proper}
+use Rattle.crontab.specs.Steps.{itemsAt, given, Reached, StepIs}
+pub use Rattle.crontab.specs.Steps.{Sound}
 
 -- ---- where lines stand
 
 -- lines that start at a place of n bytes, each a newline after the one before it
-abbrev Placed : ℕ → ℕ → List (List ℕ) → Type 0
+abbrev pub Placed : ℕ → ℕ → List (List ℕ) → Type 0
 Placed n at [] = Unit {0}
 Placed n at (l ∷ ls) = (at + length l ≤ n) × Placed n (at + length l + 1) ls
 
@@ -38,7 +43,7 @@ onto-placed n at b (l ∷ ls) h p =
     let k : at + 1 + length l ≤ n = p .0 in
     (omega arith, rw e (p .1))
 
-lines-placed : (s : List ℕ) (n at : ℕ) → at + length s ≤ n → Placed n at (linesOf s)
+pub lines-placed : (s : List ℕ) (n at : ℕ) → at + length s ≤ n → Placed n at (linesOf s)
 unfolding linesOf
 lines-placed [] n at h = tt
 lines-placed (b ∷ s) n at h = go (eqb b 10) (lines-placed s n (at + 1) (omega arith))
@@ -48,14 +53,6 @@ lines-placed (b ∷ s) n at h = go (eqb b 10) (lines-placed s n (at + 1) (omega 
     go false p = onto-placed n at b (linesOf s) (omega arith) p
 
 -- ---- items of n bytes, behind k entries
-
--- an entry's command is some bytes of n, on a line that isn't too long, and its offset is one that may be
-pub record Sound (n : ℕ) (e : Entry) : Type 0 where
-  pub line : e .at ≤ e .start
-  pub short : e .end ≤ e .at + maxLine
-  pub some : e .start < e .end
-  pub within : e .end ≤ n
-  pub zone : InZones (e .offset)
 
 abbrev pub SoundItems : ℕ → ℕ → Items → Type 0
 SoundItems n k done = Unit {0}
@@ -118,3 +115,12 @@ items-sound rules s = go (ltb maxTable (length s)) refl
     go : (t : Bool) → ltb maxTable (length s) ≡ t → SoundItems (length s) 0 (cond t (fault 1 0 0) (itemsFrom rules (isCut s) 0 1 0 utc (linesOf s)))
     go true e = (omega arith, omega arith, omega arith, omega arith)
     go false e = from-sound rules (isCut s) (length s) 0 1 0 utc (linesOf s) (ltb-false maxTable (length s) e) (omega arith) (omega arith) (lines-placed s (length s) 0 (omega arith))
+
+-- an entry that a step of the walk comes to
+pub here-sound : {rules : Rules} {s : List ℕ} {c : Cursor} {r : Step} {e : Entry} → StepIs rules s c r → Reached s c → c .at < length s
+    → r .item ≡ item.Entry e → Sound (length s) e
+unfolding itemsAt given
+here-sound {rules} {s} {c} {r} {e} step reached inside is =
+    let all = from-sound rules (isCut s) (length s) (c .at) (c .line) (c .count) (c .offset) (linesOf (drop (c .at) s)) (reached .short) (reached .lines) (reached .zone)
+    (lines-placed (drop (c .at) s) (length s) (c .at) (omega (arith, length-drop (c .at) s))) in
+    (rw (step .gives, is) at all) .0

@@ -4,7 +4,10 @@
 --   entry-sound, entry-told: an entry that is found, and the answer to a number
 --   owner-inside, owner-short: where an owner's parts stand
 --   behind-time: an owner is read from the column that was judged, the one behind the time
+--   entry-on-line: it stands on a line of its table
 --   setting-inside, setting-short: where name and value stand
+--   next-setting: the first line from a line on that has a setting is the least one, and where there is none no line has one
+--   line-told: what is answered there, refused or not
 --   zoned-is, setting-says: what a setting says of the offset, by its shown name and value; one that is read may stand
 --   due-told, next-told: what is said of an entry, refused or not
 --   next-in-gap: a next firing that is told is at most 21,036,960 minutes ahead, and 720 more from before 1970 locally
@@ -50,6 +53,8 @@ use Rattle.crontab.specs.declared.table.Table.{Table}
 use Rattle.crontab.specs.declared.table.EntryAnswer.{EntryAnswer}
 use Rattle.crontab.specs.declared.table.EntryAnswer.the-variants as answer
 use Rattle.crontab.specs.declared.setting.SettingAnswer.{SettingAnswer}
+use Rattle.crontab.specs.declared.setting.LineAnswer.{LineAnswer}
+use Rattle.crontab.specs.declared.setting.LineAnswer.the-variants as nextLine
 use Rattle.crontab.specs.declared.firing.DueAnswer.{DueAnswer}
 use Rattle.crontab.specs.declared.firing.DueAnswer.the-variants as due
 use Rattle.crontab.specs.declared.firing.NextAnswer.{NextAnswer}
@@ -59,7 +64,7 @@ use Rattle.crontab.specs.Lines.{linesOf, isCut}
 use Rattle.crontab.specs.Offsets.{utc}
 use Rattle.crontab.specs.Items.{Items, done, fault, setting, entry, moved, itemsFrom, itemsOf}
 use Rattle.crontab.specs.Tables.{blankEntry, noEntries, refusedTable, emptyTable, withEntry, withItems, tableOf, entryIn}
-use Rattle.crontab.specs.Settings.{refusedSetting, shown, settingFrom, settingIn}
+use Rattle.crontab.specs.Settings.{refusedSetting, shown, settingFrom, settingIn, nextLineIn}
 use Rattle.crontab.specs.Firings.{byWhen, firesAt, dueOf, told, nextOf, dueAnswer, dueIn, nextAnswer, nextIn}
 use Rattle.crontab.proofs.Proper.{Inside}
 use Rattle.crontab.proofs.Sound.{Sound, SoundItems, items-sound}
@@ -68,6 +73,7 @@ pub use Rattle.crontab.proofs.Cuts.{cut-refused}
 pub use Rattle.crontab.proofs.Owners.{behind-time}
 pub use Rattle.crontab.proofs.Reversed.{never-reversed, verdict-never-reversed}
 pub use Rattle.crontab.proofs.FirstDialect.{first-dialect-same}
+pub use Rattle.crontab.proofs.LineNumbers.{entry-on-line, HasSetting, HasNone, NextSetting, next-setting}
 pub use Rattle.crontab.proofs.Zones.{zoned-is, setting-says}
 
 -- ---- a table
@@ -220,7 +226,7 @@ nobody-inside n =
       class = record { order = omega arith; within = omega arith };
     }
 
-of-inside : (rules : Rules) (s : List ℕ) (e : Entry) → Sound (length s) e → OwnerInside (length s) (ownerOf rules s e)
+pub of-inside : (rules : Rules) (s : List ℕ) (e : Entry) → Sound (length s) e → OwnerInside (length s) (ownerOf rules s e)
 unfolding ownerOf ownerFrom between
 of-inside rules s e h = go (rules .kind)
   where
@@ -296,6 +302,22 @@ setting-short rules s k = go (ltb maxTable (length s)) refl
         → settingFrom (refusedSetting 19) k (cond b (fault 1 0 0) (itemsFrom rules (isCut s) 0 1 0 utc (linesOf s))) .refusal ≡ 0 → length s ≤ maxTable
     go true e z = absurd (omega arith)
     go false e z = ltb-false maxTable (length s) e
+
+-- a line of the table, or a refusal
+abbrev pub LineTold : LineAnswer → Type 0
+LineTold (nextLine.At k) = k ≤ maxTable + 1
+LineTold (nextLine.Refused number) = 1 ≤ number
+
+pub line-told : (rules : Rules) (s : List ℕ) (n : ℕ) → LineTold (nextLineIn (itemsOf rules s) n)
+line-told rules s n = go (nextLineIn (itemsOf rules s) n) (next-setting rules s n)
+  where
+    go : (a : LineAnswer) → NextSetting rules s n a → LineTold a
+    go (nextLine.At k) h = omega (arith, h .2, table-short rules s (h .0))
+    go (nextLine.Refused number) h =
+        elim (decLe (tableOf rules s .refusal) 0) [
+          | yes z ↦ omega (arith, h .1 (omega arith) .0)
+          | no z ↦ let l = lt-of-not-le z in omega (arith, h .0 (λ e. omega (arith, e, l)))
+        ]
 
 -- ---- what is said of an entry: yes, no, a minute of the calendar, or a refusal
 

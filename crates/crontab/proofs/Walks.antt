@@ -1,4 +1,5 @@
--- A walk over a table's lines goes on: after a step what is left gives the same, for an entry, for a setting and for the table whole.
+-- A walk over a table's lines goes on: after a step what is left gives the same, for an entry, for a setting, for the line of the next one and
+-- for the table whole.
 -- Assumes nothing.
 use mathlib.Core.Path.{_≡_, _∙_}
 use mathlib.Core.Bool.{cond}
@@ -14,6 +15,8 @@ use Rattle.crontab.specs.declared.line.Fault.{Fault}
 use Rattle.crontab.specs.declared.table.EntryAnswer.{EntryAnswer}
 use Rattle.crontab.specs.declared.table.EntryAnswer.the-variants.{Found, Refused}
 use Rattle.crontab.specs.declared.setting.SettingAnswer.{SettingAnswer}
+use Rattle.crontab.specs.declared.setting.LineAnswer.{LineAnswer}
+use Rattle.crontab.specs.declared.setting.LineAnswer.the-variants as nextLine
 use Rattle.crontab.specs.declared.item.Cursor.{Cursor}
 use Rattle.crontab.specs.declared.item.Item.{Item}
 use Rattle.crontab.specs.declared.item.Item.the-variants as item
@@ -21,7 +24,7 @@ use Rattle.crontab.specs.declared.item.Step.{Step}
 use Rattle.crontab.specs.Limits.{maxEntries}
 use Rattle.crontab.specs.Steps.{itemsAt, given, counted, StepIs}
 use Rattle.crontab.specs.Tables.{refusedTable, withEntry, withItems}
-use Rattle.crontab.specs.Settings.{refusedSetting, shown, settingFrom}
+use Rattle.crontab.specs.Settings.{refusedSetting, shown, settingFrom, lineOr, nextLineFrom}
 use Rattle.crontab.proofs.Tables.{good, verdictFrom, entryFrom}
 
 module _ {rules : Rules} {s : List ℕ} {c : Cursor} {r : Step} (step : StepIs rules s c r) where
@@ -98,6 +101,24 @@ module _ {rules : Rules} {s : List ℕ} {c : Cursor} {r : Step} (step : StepIs r
     pub setting-refused : {fault : Fault} → r .item ≡ item.Refused fault → refusedSetting (fault .number) ≡ settingFrom f n (itemsAt rules s c)
     unfolding given settingFrom
     setting-refused is = rw (left is)
+
+  module _ (f : LineAnswer) (n : ℕ) where
+    pub line-here : {name value : Part} → r .item ≡ item.Setting name value
+        → nextLineFrom (lineOr f n (c .line)) n (itemsAt rules s (r .next)) ≡ nextLineFrom f n (itemsAt rules s c)
+    unfolding given nextLineFrom
+    line-here is = rw (left is)
+
+    pub line-entry : {e : Entry} → r .item ≡ item.Entry e → nextLineFrom f n (itemsAt rules s (r .next)) ≡ nextLineFrom f n (itemsAt rules s c)
+    unfolding given nextLineFrom
+    line-entry is = rw (left is)
+
+    pub line-nothing : r .item ≡ item.Nothing → nextLineFrom f n (itemsAt rules s (r .next)) ≡ nextLineFrom f n (itemsAt rules s c)
+    unfolding given nextLineFrom
+    line-nothing is = rw (left is)
+
+    pub line-refused : {fault : Fault} → r .item ≡ item.Refused fault → nextLine.Refused (fault .number) ≡ nextLineFrom f n (itemsAt rules s c)
+    unfolding given nextLineFrom
+    line-refused is = rw (left is)
 
   pub entry-under : {e : Entry} → r .item ≡ item.Entry e → e .offset ≡ c .offset
   entry-under is = rw is at (step .under)

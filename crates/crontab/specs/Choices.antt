@@ -38,8 +38,12 @@ markWords = 8
 unfoldable pub refusedChoice : ℕ → Chosen
 refusedChoice number = record { refusal = number; count = 0; marks = replicate markWords 0 }
 
-unfoldable pub choice : Which → List Entry → ℕ → Bool
-choice which entries e = isChosen which (getD entries e blankEntry)
+-- the entries that pass a test, by number
+unfoldable pub choice : (Entry → Bool) → List Entry → ℕ → Bool
+choice p entries e = p (getD entries e blankEntry)
 
-unfoldable pub chosenIn : Which → Table → Chosen
-chosenIn which t = record { refusal = t .refusal; count = t .count; marks = marksOf markWords (choice which (t .entries)) (t .count) }
+unfoldable pub chosenBy : (Entry → Bool) → Table → Chosen
+chosenBy p t = record { refusal = t .refusal; count = t .count; marks = marksOf markWords (choice p (t .entries)) (t .count) }
+
+abbrev pub chosenIn : Which → Table → Chosen
+chosenIn which t = chosenBy (isChosen which) t

@@ -14,14 +14,14 @@ use Rattle.crontab.specs.Lines.{onto, linesOf, isCut, isLast, startsEntr
 use Rattle.crontab.specs.Items.{afterLine, lastFault, itemsFrom, itemsOf}
 use Rattle.crontab.specs.Tables.{noEntries, refusedTable, emptyTable, withEntry, withItems, tableOf, entryIn, commandIn}
 use Rattle.crontab.specs.Owners.{namedOwner, behind, timeRuns, lineOwner, shifted, ownerFrom, ownerOf, ownerAnswer}
-use Rattle.crontab.specs.Settings.{refusedSetting, settingFrom, settingIn}
+use Rattle.crontab.specs.Settings.{refusedSetting, settingFrom, settingIn, lineOr, nextLineFrom, nextLineIn}
 use Rattle.crontab.specs.Firings.{isBoot, isFixed, firesOn, firesAt, dueOf, dueAnswer, dueIn}
 
 unfoldable pub reading : Unit {0}
 unfolding field.reading isAccount isControl skipped trimmed between quotedAt nonEmpty nameAt closed valueAt afterEquals afterName settingAt answered
     fieldAt after fieldsAt same meanings known wordFor chosen wordIn wordOf afterWord wordAt accountAt accountAfter andThen ended columnAt
     timeAt withCommand afterOwner withUser afterTime entryAt onto linesOf isCut isLast startsEntry contentFrom contentOf byteFault readLine afterLine lastFault itemsFrom
-    itemsOf noEntries refusedTable emptyTable withEntry withItems tableOf entryIn commandIn refusedSetting settingFrom settingIn
+    itemsOf noEntries refusedTable emptyTable withEntry withItems tableOf entryIn commandIn refusedSetting settingFrom settingIn lineOr nextLineFrom nextLineIn
     isFormed twoDigits hoursOf restOf minutesOf isBehind furthest isOffset signed offsetOf readOffset zoneOf mayStand inForce afterOffset withOffset zoned
     namedOwner behind timeRuns lineOwner shifted ownerFrom ownerOf ownerAnswer
 reading = tt

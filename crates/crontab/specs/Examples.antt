@@ -24,6 +24,7 @@ use Rattle.crontab.specs.declared.firing.DueAnswer.the-variants.{Yes, No
 use Rattle.crontab.specs.declared.firing.DueAnswer.the-variants as due
 use Rattle.crontab.specs.declared.table.EntryAnswer.{EntryAnswer}
 use Rattle.crontab.specs.declared.table.EntryAnswer.the-variants as answer
+use Rattle.crontab.specs.declared.setting.LineAnswer.the-variants as line
 use Rattle.crontab.specs.Limits.{maxTable, maxLine, maxEntries, maxAccount}
 use Rattle.crontab.specs.Users.{absent}
 use Rattle.crontab.specs.Offsets.{utc}
@@ -31,7 +32,7 @@ use Rattle.crontab.specs.Owners.{ownerIn}
 use Rattle.crontab.specs.Lines.{readLine}
 use Rattle.crontab.specs.Items.{itemsOf}
 use Rattle.crontab.specs.Tables.{tableOf, entryIn, commandIn}
-use Rattle.crontab.specs.Settings.{settingIn, partBytes}
+use Rattle.crontab.specs.Settings.{settingIn, partBytes, nextLineIn}
 use Rattle.schedule.specs.Next.{canFire}
 use Rattle.schedule.specs.Local.{firingFromIn, firingAfterIn, nextAfterIn}
 use Rattle.crontab.specs.declared.firing.NextAnswer.{NextAnswer}
@@ -335,6 +336,23 @@ settings-found : Hold named
     ∷ [])
 unfolding reading
 settings-found = refl
+
+-- the first setting from a line on, which may be that line; 0 is before all of them
+next-found : Hold (λ (n : ℕ). nextLineIn (itemsOf ofUser three) n)
+    ((0, line.At 1) ∷ (1, line.At 1) ∷ (2, line.At 4) ∷ (4, line.At 4) ∷ (5, line.Refused 19) ∷ [])
+unfolding reading
+next-found = refl
+
+-- two settings of one name; no setting at all; a fault behind the setting, and a table that is cut
+next-in : Hold (λ (s : List ℕ). nextLineIn (itemsOf ofUser s) 1)
+    ((text "#\nA=b\nA=c\n", line.At 2)
+    ∷ (text "@reboot x\n", line.Refused 19)
+    ∷ ([], line.Refused 19)
+    ∷ (text "A=b\n60\n", line.Refused 6)
+    ∷ (text "A=b", line.Refused 26)
+    ∷ [])
+unfolding reading
+next-in = refl
 
 -- ---- ticket 2026-04: owners, by the number of their entry: a refusal, and user, group and class
 

@@ -3,10 +3,12 @@
 use Prim.Native.Nat.{ℕ}
 use mathlib.Core.Bool.{cond}
 use mathlib.Core.List.{List}
-use lib.Dec.{eqb}
+use lib.Dec.{eqb, leb}
 use Rattle.bytes.specs.Runs.{between}
 use Rattle.crontab.specs.declared.Part.{Part}
 use Rattle.crontab.specs.declared.setting.SettingAnswer.{SettingAnswer}
+use Rattle.crontab.specs.declared.setting.LineAnswer.{LineAnswer}
+use Rattle.crontab.specs.declared.setting.LineAnswer.the-variants.{At, Refused}
 use Rattle.crontab.specs.Refusals.{noSetting}
 use Rattle.crontab.specs.Items.{Items, done, fault, setting, entry}
 
@@ -30,3 +32,21 @@ settingIn items n = settingFrom (refusedSetting noSetting) n items
 -- the bytes of a part
 abbrev pub partBytes : List ℕ → Part → List ℕ
 partBytes s p = between s (p .start) (p .end)
+
+-- ---- the first setting from a line on
+
+-- a line, unless one was found before it or it is before line n
+unfoldable pub lineOr : LineAnswer → ℕ → ℕ → LineAnswer
+lineOr (At k) n line = At k
+lineOr (Refused number) n line = cond (leb n line) (At line) (Refused number)
+
+-- the first line from n on that has a setting, or what was found so far; a fault refuses the table whole
+unfoldable pub nextLineFrom : LineAnswer → ℕ → Items → LineAnswer
+nextLineFrom so-far n done = so-far
+nextLineFrom so-far n (fault number line column) = Refused number
+nextLineFrom so-far n (setting line name value later) = nextLineFrom (lineOr so-far n line) n later
+nextLineFrom so-far n (entry e later) = nextLineFrom so-far n later
+
+-- without recursion it is `next-setting` of proofs/Theorems
+unfoldable pub nextLineIn : Items → ℕ → LineAnswer
+nextLineIn items n = nextLineFrom (Refused noSetting) n items

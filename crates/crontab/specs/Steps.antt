@@ -10,11 +10,12 @@ use Rattle.bytes.specs.Classes.{newline}
 use Rattle.bytes.specs.Runs.{skipped}
 use Rattle.schedule.specs.Local.{InZones}
 use Rattle.crontab.specs.declared.Rules.{Rules}
+use Rattle.crontab.specs.declared.entry.Entry.{Entry}
 use Rattle.crontab.specs.declared.item.Cursor.{Cursor}
 use Rattle.crontab.specs.declared.item.Item.{Item}
 use Rattle.crontab.specs.declared.item.Item.the-variants as item
 use Rattle.crontab.specs.declared.item.Step.{Step}
-use Rattle.crontab.specs.Limits.{maxTable, maxEntries}
+use Rattle.crontab.specs.Limits.{maxTable, maxLine, maxEntries}
 use Rattle.crontab.specs.Lines.{linesOf, isCut}
 use Rattle.crontab.specs.Items.{Items, fault, setting, entry, itemsFrom}
 
@@ -68,3 +69,11 @@ pub record StepIs (rules : Rules) (s : List ℕ) (c : Cursor) (r : Step) : Type 
   pub reached : Reached s (r .next)
   pub counts : r .next .count ≡ counted (r .item) (c .count)
   pub under : Under (c .offset) (r .item)
+
+-- an entry's command is some bytes of n, on a line that isn't too long, and its offset is one that may be
+pub record Sound (n : ℕ) (e : Entry) : Type 0 where
+  pub line : e .at ≤ e .start
+  pub short : e .end ≤ e .at + maxLine
+  pub some : e .start < e .end
+  pub within : e .end ≤ n
+  pub zone : InZones (e .offset)

@@ -27,7 +27,7 @@ pub enum Which {
     At { minute: u64, case: Case },
 }
 
-const WORDS: usize = MAX_ENTRIES / 64;
+pub const WORDS: usize = MAX_ENTRIES / 64;
 
 // How many entries a table has, and those that were asked for, by a bit for each number. A refused table has none.
 pub struct Chosen {
@@ -78,7 +78,7 @@ fn is_chosen(entry: Entry, which: Which, date: LocalDate) -> bool
 }
 
 // Marks n, if it is chosen.
-fn mark_if(marks: &mut [u64; WORDS], n: usize, chosen: bool)
+pub fn mark_if(marks: &mut [u64; WORDS], n: usize, chosen: bool)
     ensures { λ _. ⌜ now (marks .exit) ≡ cond chosen (mark (now (marks .entry)) n) (now (marks .entry)) ⌝ }
 {
     if chosen {
@@ -86,7 +86,7 @@ fn mark_if(marks: &mut [u64; WORDS], n: usize, chosen: bool)
     }
 }
 
-fn refused(number: u8) -> Chosen
+pub fn refused(number: u8) -> Chosen
     ensures { λ r. ⌜ r ≡ refusedChoice number ⌝ }
 {
     Chosen {

@@ -3,10 +3,12 @@ ghost use mathlib.Core.Path.{_≡_};
 ghost use Prim.Native.Nat.{_^_, _≤_, _<_};
 ghost use lib.ListN.{length};
 ghost use Rattle.crontab.specs.Limits.{maxLine};
-ghost use Rattle.crontab.specs.Owners.{behind, timeRuns, lineOwner, shifted, ownerFrom, ownerIn};
+ghost use Rattle.crontab.specs.Owners.{behind, timeRuns, lineOwner, shifted, ownerFrom, ownerOf, ownerIn};
+ghost use Rattle.crontab.specs.Steps.{Sound};
 use crate::Kind;
 use crate::Part;
 use crate::Rules;
+use crate::entry::Entry;
 use crate::table::EntryAnswer;
 use crate::table::find_entry;
 use crate::user;
@@ -94,17 +96,25 @@ fn owner_from(l: &[u8], rules: Rules, at: usize) -> Owner
     }
 }
 
+// The owner of an entry of a table.
+pub fn of_entry(s: &[u8], rules: Rules, entry: Entry) -> Owner
+    requires { ⌜ Sound (length (now s)) entry ⌝ }
+    ensures { λ r. ⌜ r ≡ ownerOf rules (now (s .entry)) entry ⌝ }
+{
+    let at = entry.at as usize;
+    let end = entry.end as usize;
+    owner_from(&s[at..end], rules, at)
+}
+
 // The owner of the entry of a number, counted from 0.
 pub fn read(s: &[u8], rules: Rules, entry: u64) -> OwnerAnswer
     ensures { λ r. ⌜ r ≡ ownerIn rules (now (s .entry)) entry ⌝ }
 {
     match find_entry(s, rules, entry) {
         EntryAnswer::Found(found) => {
-            let at = found.at as usize;
-            let end = found.end as usize;
             OwnerAnswer {
                 refusal: 0,
-                owner: owner_from(&s[at..end], rules, at),
+                owner: of_entry(s, rules, found),
             }
         }
         EntryAnswer::Refused(number) => OwnerAnswer {

@@ -2,7 +2,7 @@
 ghost use mathlib.Core.Path.{_≡_};
 ghost use mathlib.Core.Bool.{cond};
 ghost use Rattle.crontab.specs.Items.{itemsOf};
-ghost use Rattle.crontab.specs.Settings.{refusedSetting, shown, settingIn, partBytes};
+ghost use Rattle.crontab.specs.Settings.{refusedSetting, shown, settingIn, partBytes, lineOr, nextLineIn};
 use crate::MAX_TABLE;
 use crate::NO_SETTING;
 use crate::Part;
@@ -67,7 +67,52 @@ pub fn read(s: &[u8], rules: Rules, line: u64) -> SettingAnswer
     found
 }
 
-// Its name as a part of the table, empty where it is refused.
+// The line of a setting.
+pub enum LineAnswer {
+    At(u64),
+    Refused(u8),
+}
+
+// A line if it is the first that was found and isn't before the one asked for, otherwise what was found so far.
+fn line_or(found: LineAnswer, from: u64, line: u64) -> LineAnswer
+    ensures { λ r. ⌜ r ≡ lineOr found from line ⌝ }
+{
+    match found {
+        LineAnswer::At(k) => LineAnswer::At(k),
+        LineAnswer::Refused(number) => {
+            if from <= line {
+                return LineAnswer::At(line);
+            }
+            LineAnswer::Refused(number)
+        }
+    }
+}
+
+// The first line from a line on that has a setting, that line included.
+pub fn next(s: &[u8], rules: Rules, line: u64) -> LineAnswer
+    ensures { λ r. ⌜ r ≡ nextLineIn (itemsOf rules (now (s .entry))) line ⌝ }
+{
+    if MAX_TABLE < s.len() {
+        return LineAnswer::Refused(TABLE_TOO_LONG);
+    }
+    let mut found = LineAnswer::Refused(NO_SETTING);
+    let mut c = item::START;
+    while c.at < s.len() {
+        let at_line = c.line as u64;
+        let step = item::advance(s, rules, c);
+        c = step.next;
+        let item = step.item;
+        match item {
+            Item::Refused(fault) => return LineAnswer::Refused(fault.number),
+            Item::Setting { name: _, value: _ } => found = line_or(found, line, at_line),
+            Item::Entry(_) => {}
+            Item::Nothing => {}
+        }
+    }
+    found
+}
+
+// A setting's name as a part of the table, empty where it is refused.
 pub fn name(s: &[u8], rules: Rules, line: u64) -> &[u8]
     ensures { λ r. ⌜ now r ≡ partBytes (now (s .entry)) (settingIn (itemsOf rules (now (s .entry))) line .name) ⌝ }
 {

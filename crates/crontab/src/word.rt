@@ -110,7 +110,7 @@ const HOURLY: Schedule = Schedule {
 };
 
 // Whether s is the word.
-pub(crate) fn is_word(s: &[u8], word: &[u8]) -> bool
+pub fn is_word(s: &[u8], word: &[u8]) -> bool
     ensures { λ r. ⌜ r ≡ same (now (s .entry)) (now (word .entry)) ⌝ }
 {
     if s.len() == word.len() {

@@ -3,13 +3,13 @@
 -- Assumes nothing.
 use mathlib.Core.Path.{_≡_, refl}
 use mathlib.Core.Bool.{Bool, true, false, cond}
-use Prim.Native.Nat.{ℕ, zero, suc, _-_, _≤_}
+use Prim.Native.Nat.{ℕ, zero, suc, _+_, _-_, _≤_}
 use mathlib.Core.List.{List}
 use native.Mathlib.Omega.{arith}
-use lib.Dec.{leb}
+use lib.Dec.{eqb, leb}
 use lib.ListN.{length, drop, length-drop}
 use lib.Seq.{length-take-le}
-use borrow.Author.Tests.{leb-true}
+use borrow.Author.Tests.{ne-eqb, leb-true}
 use Rattle.bytes.specs.Runs.{between}
 use Rattle.bytes.specs.Laid.{laid}
 use Rattle.calendar.specs.declared.DateAnswer.{DateAnswer}
@@ -19,6 +19,8 @@ use Rattle.crontab.specs.declared.Rules.{Rules}
 use Rattle.crontab.specs.declared.entry.Entry.{Entry}
 use Rattle.crontab.specs.declared.table.EntryAnswer.{EntryAnswer}
 use Rattle.crontab.specs.declared.table.EntryAnswer.the-variants as entry
+use Rattle.crontab.specs.declared.setting.LineAnswer.{LineAnswer}
+use Rattle.crontab.specs.declared.setting.LineAnswer.the-variants as line
 use Rattle.crontab.specs.declared.firing.DueAnswer.{DueAnswer}
 use Rattle.crontab.specs.declared.firing.DueAnswer.the-variants as due
 use Rattle.crontab.specs.declared.firing.NextAnswer.{NextAnswer}
@@ -33,7 +35,7 @@ use Rattle.crontab.specs.Owners.{ownerIn}
 use Rattle.eremothyn.specs.declared.owners.Owned.{Owned}
 use Rattle.eremothyn.specs.declared.owners.Owned.the-variants.{UserOffset, UserLength, GroupOffset, GroupLength, ClassOffset, ClassLength}
 use Rattle.eremothyn.specs.Owners.{ownedIn, ownerNumber}
-use Rattle.crontab.proofs.Theorems.{OwnerInside, owner-inside, owner-short, EntryTold, DueTold, NextTold, table-sound, entry-told, setting-inside, setting-short}
+use Rattle.crontab.proofs.Theorems.{OwnerInside, owner-inside, owner-short, EntryTold, LineTold, DueTold, NextTold, table-sound, entry-told, entry-on-line, setting-inside, setting-short}
 use Rattle.command.specs.declared.SplitAnswer.the-variants as split
 use Rattle.command.specs.Parts.{Stdin, absent, given, shellLine, inputOf, textOf, inputLength}
 use Rattle.command.specs.Buffers.{Split, haveRoom, splitStep}
@@ -55,15 +57,17 @@ use Rattle.eremothyn.specs.declared.dates.DatePart.the-variants.{Year, M
 use Rattle.eremothyn.specs.declared.settings.Shown.{Shown}
 use Rattle.eremothyn.specs.declared.settings.Shown.the-variants.{NameOffset, NameLength, ValueOffset, ValueLength}
 use Rattle.eremothyn.specs.Answer.{refusedFrom, answerOf}
-use Rattle.eremothyn.specs.Dates.{partIn, datePart, dateMinute}
+use Rattle.eremothyn.specs.Dates.{partIn, datePart, dateMinute, partsOf, dateRefusal, dateAnswer, dateRun}
 use Rattle.eremothyn.specs.Tables.{checkNumber}
-use Rattle.eremothyn.specs.Entries.{dueNumber, nextNumber}
-use Rattle.eremothyn.specs.Settings.{shownIn, settingNumber}
+use Rattle.eremothyn.specs.declared.entries.Place.{Place}
+use Rattle.eremothyn.specs.declared.entries.Place.the-variants.{Line, CommandOffset, CommandLength}
+use Rattle.eremothyn.specs.Entries.{dueNumber, nextNumber, placeIn, placeNumber}
+use Rattle.eremothyn.specs.Settings.{shownIn, settingNumber, lineNumber}
 use Rattle.eremothyn.specs.Commands.{splitNumber, inputNumber, splitIn, splitOf, stdinIn, stdinLength}
 use Rattle.eremothyn.specs.NormalForms.{normalNumber}
 use Rattle.eremothyn.specs.Queue.{tickNumber, popNumber}
 use Rattle.eremothyn.specs.Lists.{filledNumber}
-use Rattle.eremothyn.specs.Apart.{Tells, TellsFilled, byRefusal, byEntry, byDue, byNext, bySplit, byForm, byTick, byPop, Stays}
+use Rattle.eremothyn.specs.Apart.{Tells, TellsFilled, byRefusal, byEntry, byLine, byDue, byNext, bySplit, byForm, byTick, byPop, Stays}
 
 -- a record's answer, where its value is small unless it is refused
 answer-tells : (refusal value : ℕ) → (refusal ≡ 0 → value ≤ refusedFrom) → Tells (byRefusal refusal) (answerOf refusal value)
@@ -98,6 +102,10 @@ minute-tells year month day hour minute =
     answer-tells (minuteOf year month day hour minute .refusal) (minuteOf year month day hour minute .minute)
     (λ z. omega (arith, date-minute-date year month day hour minute z .0))
 
+pub date-tells : (minute : ℕ) (run : List ℕ) → Tells (byRefusal (dateRefusal minute run)) (dateAnswer minute run)
+unfolding dateAnswer
+date-tells minute run = answer-tells (dateRefusal minute run) 6 (λ z. omega arith)
+
 -- ---- tables and settings
 
 pub check-tells : (rules : Rules) (table : List ℕ) → Tells (byRefusal (tableOf rules table .refusal)) (checkNumber (tableOf rules table))
@@ -116,6 +124,11 @@ setting-tells rules table line what =
     small NameLength h = let i = setting-inside rules table line .name in omega (arith, i .order, i .within)
     small ValueOffset h = let i = setting-inside rules table line .value in omega (arith, i .order, i .within)
     small ValueLength h = let i = setting-inside rules table line .value in omega (arith, i .order, i .within)
+
+pub line-tells : (a : LineAnswer) → LineTold a → Tells (byLine a) (lineNumber a)
+unfolding lineNumber
+line-tells (line.At k) h = omega arith
+line-tells (line.Refused number) h = (h, refl)
 
 -- ---- owners
 
@@ -148,6 +161,21 @@ pub next-tells : (a : NextAnswer) → NextTold a → Tells (byNext a) (nextNumbe
 unfolding nextNumber
 next-tells (next.At m) h = omega arith
 next-tells (next.Refused number) h = (h, refl)
+
+pub place-tells : (rules : Rules) (table : List ℕ) (i : ℕ) (what : Place)
+    → let a = entryIn (tableOf rules table) i in Tells (byEntry a) (placeNumber a what)
+unfolding placeNumber
+place-tells rules table i what = go (entryIn (tableOf rules table) i) (entry-told rules table i) (λ e. entry-on-line rules table i)
+  where
+    small : (what : Place) (e : Entry) → Sound (length table) e → length table ≤ maxTable → e .line ≤ length table + 1 → placeIn e what ≤ refusedFrom
+    small Line e s h l = omega arith
+    small CommandOffset e s h l = omega (arith, s .some, s .within)
+    small CommandLength e s h l = omega (arith, s .some, s .within)
+
+    go : (a : EntryAnswer) → EntryTold (length table) a → ((e : Entry) → a ≡ entry.Found e → (1 ≤ e .line) × (e .line ≤ length table + 1))
+        → Tells (byEntry a) (placeNumber a what)
+    go (entry.Found e) (s, h) on = small what e s h (on e refl .1)
+    go (entry.Refused number) h on = (h, refl)
 
 -- ---- commands
 
@@ -262,6 +290,14 @@ split-stays rules table i shell input = go (entryIn (tableOf rules table) i)
         → let s = splitIn table x shell input in Stays (bySplit (s .answer)) shell (s .shell) × Stays (bySplit (s .answer)) input (s .input)
     go (entry.Found e) = step-stays (between table (e .start) (e .end)) shell input
     go (entry.Refused number) = (refl, refl)
+
+pub date-stays : (minute : ℕ) (run : List ℕ) → Stays (byRefusal (dateRefusal minute run)) run (dateRun minute run)
+unfolding dateRun
+date-stays minute run = go (dateRefusal minute run)
+  where
+    go : (n : ℕ) → Stays (byRefusal n) run (cond (eqb n 0) (laid (partsOf (dateOf minute .date)) run) run)
+    go zero = tt
+    go (suc n) = rw (ne-eqb (suc n) 0 (λ e. omega (arith, e)))
 
 pub form-stays : (most : ℕ) (before : List ℕ) (f : NormalForm) → FormTold most before f → Stays (byForm (f .answer)) before (f .buffer)
 form-stays most before f = go (f .answer)

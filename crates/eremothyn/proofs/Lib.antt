@@ -1,2 +1,3 @@
+pub mod DateRuns
 pub mod Apart
 pub mod Theorems

@@ -3,16 +3,19 @@
 --   local-days: next firings under an offset, around the ends of the local calendar
 --   gap-reached, february-30: the gap exactly reached, and a day that never comes
 --   never-reversed: a check in the second dialect never answers refusal 7 (ticket 2026-13)
+--   command-placed: the bytes from a command's offset on, as many as its length, are the command
+--   date-parts: the six numbers of a date are what the six calls for its parts answer
 --   told-apart: every number tells whether the call was refused
---   refused-stays: and then no byte was changed
+--   refused-stays: and then no byte and no number was changed
 -- Assumes nothing.
 use mathlib.Core.Path.{_≡_, refl, ap, _∙_}
 use mathlib.Core.List.{List}
-use Prim.Native.Nat.{ℕ, zero, suc, _≤_}
+use Prim.Native.Nat.{ℕ, zero, suc, _+_, _-_, _≤_}
 use native.Mathlib.Omega.{arith}
 use borrow.Author.Tests.{le-leb}
 use lib.Dec.{lit≤}
 use Rattle.bytes.specs.Texts.{text}
+use Rattle.bytes.specs.Runs.{between}
 use Rattle.calendar.specs.Dates.{lastMinute}
 use Rattle.calendar.specs.Computing.{dating}
 use Rattle.schedule.specs.declared.Schedule.{Schedule}
@@ -20,6 +23,7 @@ use Rattle.schedule.specs.Next.{nextAfter}
 use Rattle.schedule.specs.Local.{ahead, nextAfterIn}
 use Rattle.schedule.proofs.Theorems.{utc-next, known-days-in}
 use lib.IntN.{ℤ, pos, negsuc}
+use Rattle.crontab.specs.declared.Rules.{Rules}
 use Rattle.crontab.specs.declared.entry.Entry.{Entry}
 use Rattle.crontab.specs.Offsets.{utc}
 use Rattle.schedule.specs.Examples.{leapDay, fridays, february30, mondays30, lastDay, leapSundays, evenings, everyMinute, schedules}
@@ -28,16 +32,20 @@ use Rattle.field.specs.Computing as field
 use Rattle.crontab.specs.declared.time.When.the-variants.{Timed}
 use Rattle.crontab.specs.declared.table.EntryAnswer.the-variants.{Found}
 use Rattle.crontab.specs.Limits.{maxTable, maxEntries}
-use Rattle.crontab.specs.Tables.{tableOf, entryIn}
+use Rattle.crontab.specs.Items.{itemsOf}
+use Rattle.crontab.specs.Tables.{tableOf, entryIn, commandIn}
+use Rattle.crontab.specs.Settings.{nextLineIn}
 use Rattle.crontab.specs.Firings.{told, nextOf, nextAnswer, nextIn, dueIn}
-use Rattle.crontab.proofs.Theorems.{table-sound, due-told, next-told}
+use Rattle.crontab.proofs.Theorems.{table-sound, entry-sound, line-told, due-told, next-told}
 use Rattle.crontab.proofs.Theorems as tables
 use Rattle.normal.specs.NormalForms.{normalForm}
 use Rattle.normal.proofs.Theorems.{form-told}
 use Rattle.records.specs.Calls.{compiled, decompiled}
 use Rattle.records.proofs.Theorems.{mostRecords, compiled-told, decompiled-told, fault-told}
-use Rattle.runqueue.specs.Calls.{initTable, tickTable, popTable}
-use Rattle.runqueue.proofs.Theorems.{init-told, tick-told, pop-told, init-stays, tick-stays, pop-stays}
+use Rattle.runqueue.specs.Calls.{initTable, tickTable, popTable, entryTable}
+use Rattle.reload.specs.Calls.{reloadTables}
+use Rattle.reload.proofs.Theorems.{reload-told, reload-stays}
+use Rattle.runqueue.proofs.Theorems.{init-told, tick-told, pop-told, entry-told, init-stays, tick-stays, pop-stays}
 use Rattle.firings.specs.Calls.{firingsIn, mergedIn}
 use Rattle.firings.proofs.Theorems.{firings-few, firings-kept, merged-few, merged-kept}
 use Rattle.crontab.specs.Computing.{reading}
@@ -45,11 +53,13 @@ use Rattle.command.specs.Computing.{splitting}
 use Rattle.eremothyn.specs.Rules.{rulesOf}
 use Rattle.eremothyn.specs.Answer.{answerOf}
 use Rattle.eremothyn.specs.Tables.{checkNumber}
-use Rattle.eremothyn.specs.Entries.{nextNumber}
+use Rattle.eremothyn.specs.declared.entries.Place.the-variants.{CommandOffset, CommandLength}
+use Rattle.eremothyn.specs.Entries.{nextNumber, placeNumber}
 use Rattle.eremothyn.specs.KnownDays.{KnownDays}
 use Rattle.eremothyn.specs.Apart.{ToldApart, RefusedStays}
-use Rattle.eremothyn.proofs.Apart.{part-tells, minute-tells, check-tells, setting-tells, owner-tells, due-tells, next-tells}
-use Rattle.eremothyn.proofs.Apart.{split-tells, stdin-tells, form-tells, tick-tells, pop-tells, list-tells, split-stays, form-stays, tick-keeps, pop-keeps}
+pub use Rattle.eremothyn.proofs.DateRuns.{date-parts}
+use Rattle.eremothyn.proofs.Apart.{part-tells, minute-tells, date-tells, check-tells, place-tells, setting-tells, line-tells, owner-tells, due-tells, next-tells}
+use Rattle.eremothyn.proofs.Apart.{split-tells, stdin-tells, form-tells, tick-tells, pop-tells, list-tells, date-stays, split-stays, form-stays, tick-keeps, pop-keeps}
 
 -- the table's first entry is timed, and its command ends a byte behind its start
 abbrev reads : List ℕ → Schedule → ℕ → ℕ → Type 0
@@ -153,18 +163,31 @@ never-reversed kind (suc n) table second =
     answer-other (tableOf (rulesOf kind (suc n)) table .refusal) (tableOf (rulesOf kind (suc n)) table .count)
     (tables.never-reversed (rulesOf kind (suc n)) refl table) (table-sound (rulesOf kind (suc n)) table .few)
 
+-- the part of the table that a command's offset and length say is the entry's raw command
+pub command-placed : (rules : Rules) (table : List ℕ) (i : ℕ) (e : Entry)
+    → let a = entryIn (tableOf rules table) i in
+    a ≡ Found e → between table (placeNumber a CommandOffset) (placeNumber a CommandOffset + placeNumber a CommandLength) ≡ commandIn table a
+unfolding placeNumber commandIn
+command-placed rules table i e found =
+    let s = entry-sound rules table i found in
+    let p : e .start + (e .end - e .start) ≡ e .end = omega (arith, s .some) in
+    rw (found, p)
+
 -- a refusal is 4,294,967,296 plus its number, and no other answer is above 4,294,967,296
 pub told-apart : ToldApart
 told-apart =
     record {
       year-to-weekday = part-tells;
       minute-of-date = minute-tells;
+      date = date-tells;
       check = check-tells;
       fault-line = λ rules table. omega (arith, table-sound rules table .line-few);
       fault-column = λ rules table. omega (arith, table-sound rules table .column-few);
       due = λ rules table i minute. due-tells (dueIn (tableOf rules table) i minute) (due-told rules table i minute);
       next = λ rules table i minute. next-tells (nextIn (tableOf rules table) i minute) (next-told rules table i minute);
+      line-to-command = place-tells;
       setting = setting-tells;
+      next-setting = λ rules table line. line-tells (nextLineIn (itemsOf rules table) line) (line-told rules table line);
       owner = owner-tells;
       split-command = split-tells;
       stdin-length = stdin-tells;
@@ -175,25 +198,36 @@ told-apart =
       queue-init =
           λ rules table room. let t = tableOf rules table in
           tick-tells (t .count) (initTable t room .answer) (table-sound rules table .few) (init-told t room);
+      queue-reload =
+          λ rules old new room.
+          tick-tells (tableOf rules new .count) (reloadTables rules old new room .answer) (table-sound rules new .few) (reload-told rules old new room);
       queue-tick =
           λ rules table room minute. let t = tableOf rules table in
           tick-tells (t .count) (tickTable t minute room .answer) (table-sound rules table .few) (tick-told t room minute);
       queue-pop =
           λ rules table room. let t = tableOf rules table in
           pop-tells (t .count) (popTable t room .answer) (table-sound rules table .few) (pop-told t room);
+      queue-entry =
+          λ rules table room place. let t = tableOf rules table in
+          pop-tells (t .count) (entryTable t place room) (table-sound rules table .few) (entry-told t room place);
       firings = λ rules table i a b run. list-tells (firingsIn (tableOf rules table) i a b run .answer) (firings-few rules table i a b run);
       merged-firings = λ rules table a b minutes entries. list-tells (mergedIn (tableOf rules table) a b minutes entries .answer) (merged-few rules table a b minutes entries);
     }
 
--- a refused call changes no byte
+-- a refused call changes no byte and no number
 pub refused-stays : RefusedStays
 refused-stays =
     record {
+      date = date-stays;
       split-command = split-stays;
       normal-form = λ d table text. form-stays maxTable text (normalForm d table text) (form-told d table text);
       compile = λ d table records. form-stays mostRecords records (compiled d table records) (compiled-told d table records);
       decompile = λ records text. form-stays maxTable text (decompiled records text) (decompiled-told records text);
       queue-init = λ rules table room. let s = initTable (tableOf rules table) room in tick-keeps (s .answer) room (s .room) (init-stays (tableOf rules table) room);
+      queue-reload =
+          λ rules old new room.
+          let s = reloadTables rules old new room in
+          tick-keeps (s .answer) room (s .room) (reload-stays rules old new room);
       queue-tick =
           λ rules table room minute.
           let s = tickTable (tableOf rules table) minute room in

@@ -11,13 +11,15 @@ use Rattle.field.specs.declared.Dialect.{Dialect}
 use Rattle.crontab.specs.declared.Rules.{Rules}
 use Rattle.crontab.specs.declared.table.EntryAnswer.{EntryAnswer}
 use Rattle.crontab.specs.declared.table.EntryAnswer.the-variants as entry
+use Rattle.crontab.specs.declared.setting.LineAnswer.{LineAnswer}
+use Rattle.crontab.specs.declared.setting.LineAnswer.the-variants as line
 use Rattle.crontab.specs.declared.firing.DueAnswer.{DueAnswer}
 use Rattle.crontab.specs.declared.firing.DueAnswer.the-variants as due
 use Rattle.crontab.specs.declared.firing.NextAnswer.{NextAnswer}
 use Rattle.crontab.specs.declared.firing.NextAnswer.the-variants as next
 use Rattle.crontab.specs.Items.{itemsOf}
 use Rattle.crontab.specs.Tables.{tableOf, entryIn}
-use Rattle.crontab.specs.Settings.{settingIn}
+use Rattle.crontab.specs.Settings.{settingIn, nextLineIn}
 use Rattle.crontab.specs.Firings.{dueIn, nextIn}
 use Rattle.command.specs.declared.SplitAnswer.{SplitAnswer}
 use Rattle.command.specs.declared.SplitAnswer.the-variants as split
@@ -29,7 +31,8 @@ use Rattle.fifo.specs.declared.Ticked.{Ticked}
 use Rattle.fifo.specs.declared.Ticked.the-variants as tick
 use Rattle.fifo.specs.declared.Popped.{Popped}
 use Rattle.fifo.specs.declared.Popped.the-variants as pop
-use Rattle.runqueue.specs.Calls.{initTable, tickTable, popTable}
+use Rattle.runqueue.specs.Calls.{initTable, tickTable, popTable, entryTable}
+use Rattle.reload.specs.Calls.{reloadTables}
 use Rattle.firings.specs.declared.Filled.{Filled}
 use Rattle.firings.specs.declared.Filled.the-variants as list
 use Rattle.firings.specs.Calls.{firingsIn, mergedIn}
@@ -37,10 +40,11 @@ use Rattle.firings.specs.Rising.{Kept}
 use Rattle.eremothyn.specs.declared.dates.DatePart.{DatePart}
 use Rattle.eremothyn.specs.declared.settings.Shown.{Shown}
 use Rattle.eremothyn.specs.Answer.{refusedFrom}
-use Rattle.eremothyn.specs.Dates.{datePart, dateMinute}
+use Rattle.eremothyn.specs.Dates.{datePart, dateMinute, dateRefusal, dateAnswer, dateRun}
 use Rattle.eremothyn.specs.Tables.{checkNumber}
-use Rattle.eremothyn.specs.Entries.{dueNumber, nextNumber}
-use Rattle.eremothyn.specs.Settings.{settingNumber}
+use Rattle.eremothyn.specs.declared.entries.Place.{Place}
+use Rattle.eremothyn.specs.Entries.{dueNumber, nextNumber, placeNumber}
+use Rattle.eremothyn.specs.Settings.{settingNumber, lineNumber}
 use Rattle.eremothyn.specs.declared.owners.Owned.{Owned}
 use Rattle.crontab.specs.Owners.{ownerIn}
 use Rattle.eremothyn.specs.Owners.{ownerNumber}
@@ -63,6 +67,10 @@ byRefusal (suc n) = refused (suc n)
 abbrev pub byEntry : EntryAnswer → Outcome
 byEntry (entry.Found e) = granted
 byEntry (entry.Refused number) = refused number
+
+abbrev pub byLine : LineAnswer → Outcome
+byLine (line.At k) = granted
+byLine (line.Refused number) = refused number
 
 abbrev pub byDue : DueAnswer → Outcome
 byDue due.Yes = granted
@@ -108,13 +116,17 @@ pub record ToldApart : Type 0 where
   pub year-to-weekday : (minute : ℕ) (part : DatePart) → Tells (byRefusal (dateOf minute .refusal)) (datePart minute part)
   pub minute-of-date : (year month day hour minute : ℕ)
       → Tells (byRefusal (minuteOf year month day hour minute .refusal)) (dateMinute year month day hour minute)
+  pub date : (minute : ℕ) (run : List ℕ) → Tells (byRefusal (dateRefusal minute run)) (dateAnswer minute run)
   pub check : (rules : Rules) (table : List ℕ) → Tells (byRefusal (tableOf rules table .refusal)) (checkNumber (tableOf rules table))
   pub fault-line : (rules : Rules) (table : List ℕ) → Tells granted (tableOf rules table .line)
   pub fault-column : (rules : Rules) (table : List ℕ) → Tells granted (tableOf rules table .column)
   pub due : (rules : Rules) (table : List ℕ) (i minute : ℕ) → let a = dueIn (tableOf rules table) i minute in Tells (byDue a) (dueNumber a)
   pub next : (rules : Rules) (table : List ℕ) (i minute : ℕ) → let a = nextIn (tableOf rules table) i minute in Tells (byNext a) (nextNumber a)
+  pub line-to-command : (rules : Rules) (table : List ℕ) (i : ℕ) (what : Place)
+      → let a = entryIn (tableOf rules table) i in Tells (byEntry a) (placeNumber a what)
   pub setting : (rules : Rules) (table : List ℕ) (line : ℕ) (what : Shown)
       → let a = settingIn (itemsOf rules table) line in Tells (byRefusal (a .refusal)) (settingNumber a what)
+  pub next-setting : (rules : Rules) (table : List ℕ) (line : ℕ) → let a = nextLineIn (itemsOf rules table) line in Tells (byLine a) (lineNumber a)
   pub owner : (rules : Rules) (table : List ℕ) (i : ℕ) (what : Owned)
       → let a = ownerIn rules table i in Tells (byRefusal (a .refusal)) (ownerNumber a what)
   pub split-command : (rules : Rules) (table : List ℕ) (i : ℕ) (shell input : List ℕ)
@@ -126,8 +138,10 @@ pub record ToldApart : Type 0 where
   -- of bytes that a number of 32 bits can count
   pub record-fault : (records : List ℕ) → length records ≤ refusedFrom → Tells granted (recordFault records)
   pub queue-init : (rules : Rules) (table room : List ℕ) → let a = initTable (tableOf rules table) room .answer in Tells (byTick a) (tickNumber a)
+  pub queue-reload : (rules : Rules) (old new room : List ℕ) → let a = reloadTables rules old new room .answer in Tells (byTick a) (tickNumber a)
   pub queue-tick : (rules : Rules) (table room : List ℕ) (minute : ℕ) → let a = tickTable (tableOf rules table) minute room .answer in Tells (byTick a) (tickNumber a)
   pub queue-pop : (rules : Rules) (table room : List ℕ) → let a = popTable (tableOf rules table) room .answer in Tells (byPop a) (popNumber a)
+  pub queue-entry : (rules : Rules) (table room : List ℕ) (place : ℕ) → let a = entryTable (tableOf rules table) place room in Tells (byPop a) (popNumber a)
   pub firings : (rules : Rules) (table : List ℕ) (i a b : ℕ) (run : List ℕ)
       → let r = firingsIn (tableOf rules table) i a b run .answer in TellsFilled r (filledNumber r)
   pub merged-firings : (rules : Rules) (table : List ℕ) (a b : ℕ) (minutes entries : List ℕ)
@@ -139,14 +153,16 @@ abbrev pub Stays : Outcome → List ℕ → List ℕ → Type 0
 Stays granted before after = Unit {0}
 Stays (refused n) before after = after ≡ before
 
--- for every call that is lent bytes to write on
+-- for every call that is lent bytes or numbers to write on
 pub record RefusedStays : Type 0 where
+  pub date : (minute : ℕ) (run : List ℕ) → Stays (byRefusal (dateRefusal minute run)) run (dateRun minute run)
   pub split-command : (rules : Rules) (table : List ℕ) (i : ℕ) (shell input : List ℕ)
       → let s = splitOf rules table i shell input in Stays (bySplit (s .answer)) shell (s .shell) × Stays (bySplit (s .answer)) input (s .input)
   pub normal-form : (d : Dialect) (table text : List ℕ) → let f = normalForm d table text in Stays (byForm (f .answer)) text (f .buffer)
   pub compile : (d : Dialect) (table records : List ℕ) → let f = compiled d table records in Stays (byForm (f .answer)) records (f .buffer)
   pub decompile : (records text : List ℕ) → let f = decompiled records text in Stays (byForm (f .answer)) text (f .buffer)
   pub queue-init : (rules : Rules) (table room : List ℕ) → let s = initTable (tableOf rules table) room in Stays (byTick (s .answer)) room (s .room)
+  pub queue-reload : (rules : Rules) (old new room : List ℕ) → let s = reloadTables rules old new room in Stays (byTick (s .answer)) room (s .room)
   pub queue-tick : (rules : Rules) (table room : List ℕ) (minute : ℕ) → let s = tickTable (tableOf rules table) minute room in Stays (byTick (s .answer)) room (s .room)
   pub queue-pop : (rules : Rules) (table room : List ℕ) → let s = popTable (tableOf rules table) room in Stays (byPop (s .answer)) room (s .room)
   pub firings : (rules : Rules) (table : List ℕ) (i a b : ℕ) (run : List ℕ)

@@ -9,23 +9,26 @@ use Rattle.bytes.specs.Texts.{text}
 use Rattle.bytes.specs.Rows.{Hold}
 use Rattle.crontab.specs.Limits.{maxTable}
 use Rattle.crontab.specs.Items.{itemsOf}
-use Rattle.crontab.specs.Tables.{tableOf}
+use Rattle.crontab.specs.Tables.{tableOf, entryIn}
 use Rattle.crontab.specs.Owners.{ownerIn}
-use Rattle.crontab.specs.Settings.{settingIn}
+use Rattle.crontab.specs.Settings.{settingIn, nextLineIn}
 use Rattle.crontab.specs.Firings.{dueIn, nextIn}
 use Rattle.normal.specs.NormalForms.{normalForm}
 use Rattle.records.specs.Calls.{compiled, decompiled, recordFault}
 use Rattle.firings.specs.Calls.{firingsIn, mergedIn}
-use Rattle.runqueue.specs.Calls.{initTable, tickTable, popTable}
+use Rattle.runqueue.specs.Calls.{initTable, tickTable, popTable, entryTable}
+use Rattle.reload.specs.Calls.{reloadTables}
+use Rattle.reload.specs.Computing.{reloading}
 use Rattle.eremothyn.specs.Rules.{dialectOf, rulesOf}
 use Rattle.eremothyn.specs.declared.dates.DatePart.the-variants.{Year, Month, Day, Hour, Minute, Weekday}
 use Rattle.eremothyn.specs.declared.settings.Shown.the-variants.{NameOffset, NameLength, ValueOffset, ValueLength}
 use Rattle.eremothyn.specs.declared.owners.Owned.the-variants.{UserOffset, UserLength, GroupOffset, GroupLength, ClassOffset, ClassLength}
 use Rattle.eremothyn.specs.Owners.{ownerNumber}
-use Rattle.eremothyn.specs.Dates.{datePart, dateMinute}
+use Rattle.eremothyn.specs.Dates.{datePart, dateMinute, dateAnswer, dateRun}
 use Rattle.eremothyn.specs.Tables.{checkNumber}
-use Rattle.eremothyn.specs.Entries.{dueNumber, nextNumber}
-use Rattle.eremothyn.specs.Settings.{settingNumber}
+use Rattle.eremothyn.specs.declared.entries.Place.the-variants.{Line, CommandOffset, CommandLength}
+use Rattle.eremothyn.specs.Entries.{dueNumber, nextNumber, placeNumber}
+use Rattle.eremothyn.specs.Settings.{settingNumber, lineNumber}
 use Rattle.eremothyn.specs.Commands.{splitNumber, splitOf, stdinLength}
 use Rattle.eremothyn.specs.NormalForms.{normalNumber}
 use Rattle.eremothyn.specs.Queue.{tickNumber, popNumber}
@@ -44,6 +47,23 @@ dates : Hold allParts
     ∷ [])
 unfolding answering
 dates = refl
+
+-- a date whole, at the front of a run
+abbrev datedOn : ℕ × List ℕ → ℕ × List ℕ
+datedOn (m, room) = (dateAnswer m room, dateRun m room)
+
+whole-dates : Hold datedOn
+    -- 2000-02-29 04:30, a Tuesday; the numbers behind stay
+    (((15863310, 1 ∷ 2 ∷ 3 ∷ 4 ∷ 5 ∷ 6 ∷ 7 ∷ 8 ∷ []), (6, 2000 ∷ 2 ∷ 29 ∷ 4 ∷ 30 ∷ 2 ∷ 7 ∷ 8 ∷ []))
+    -- a run of six, and one of five: 18; 14 comes before it
+    ∷ ((4223371679, 1 ∷ 2 ∷ 3 ∷ 4 ∷ 5 ∷ 6 ∷ []), (6, 9999 ∷ 12 ∷ 31 ∷ 23 ∷ 59 ∷ 5 ∷ []))
+    ∷ ((4223371679, 1 ∷ 2 ∷ 3 ∷ 4 ∷ 5 ∷ []), (4294967314, 1 ∷ 2 ∷ 3 ∷ 4 ∷ 5 ∷ []))
+    ∷ ((4223371680, 1 ∷ 2 ∷ 3 ∷ 4 ∷ 5 ∷ 6 ∷ 7 ∷ []), (4294967310, 1 ∷ 2 ∷ 3 ∷ 4 ∷ 5 ∷ 6 ∷ 7 ∷ []))
+    ∷ ((4223371680, []), (4294967310, []))
+    ∷ ((0, []), (4294967314, []))
+    ∷ [])
+unfolding answering
+whole-dates = refl
 
 abbrev minuteOn : ℕ × ℕ × ℕ × ℕ × ℕ → ℕ
 minuteOn (year, month, day, hour, minute) = dateMinute year month day hour minute
@@ -195,6 +215,27 @@ next : Hold nextOn
 unfolding answering
 next = refl
 
+-- ---- where entries stand: the line, and the raw command's place and length
+
+abbrev placed : ℕ × List ℕ × ℕ → List ℕ
+placed (kind, s, i) =
+    let a = entryIn (tableOf (rulesOf kind 0) s) i in
+    placeNumber a Line ∷ placeNumber a CommandOffset ∷ placeNumber a CommandLength ∷ []
+
+places : Hold placed
+    -- behind an empty line and a setting; the blanks behind the command and its `%` belong to it
+    (((0, text "\nA=b\n @reboot  x%y \n0 * * * * z\n", 0), 3 ∷ 15 ∷ 4 ∷ [])
+    ∷ ((0, text "\nA=b\n @reboot  x%y \n0 * * * * z\n", 1), 4 ∷ 30 ∷ 1 ∷ [])
+    -- behind the user
+    ∷ ((1, text "@reboot u x\n", 0), 1 ∷ 10 ∷ 1 ∷ [])
+    -- no such entry: 13; the table's own refusal comes first
+    ∷ ((0, pair, 2), 4294967309 ∷ 4294967309 ∷ 4294967309 ∷ [])
+    ∷ ((0, text "@reboot x\n60\n", 0), 4294967302 ∷ 4294967302 ∷ 4294967302 ∷ [])
+    ∷ ((0, text "@reboot x\n60\n", 5), 4294967302 ∷ 4294967302 ∷ 4294967302 ∷ [])
+    ∷ [])
+unfolding answering
+places = refl
+
 -- ---- settings, by their line: the name's place and length, and the value's
 
 abbrev shown : List ℕ × ℕ → List ℕ
@@ -216,6 +257,25 @@ settings : Hold shown
     ∷ [])
 unfolding answering
 settings = refl
+
+-- the first line from a line on that has a setting
+abbrev lineFrom : List ℕ × ℕ → ℕ
+lineFrom (s, n) = lineNumber (nextLineIn (itemsOf (rulesOf 0 0) s) n)
+
+next-settings : Hold lineFrom
+    -- that line too, and 0 is as 1
+    (((text "#\nA=b\n@reboot x\nB=c\n", 0), 2)
+    ∷ ((text "#\nA=b\n@reboot x\nB=c\n", 2), 2)
+    ∷ ((text "#\nA=b\n@reboot x\nB=c\n", 3), 4)
+    -- none: 19; the table's refusal comes first, from behind the setting too
+    ∷ ((text "#\nA=b\n@reboot x\nB=c\n", 5), 4294967315)
+    ∷ ((text "#\nA=b\n@reboot x\nB=c\n", 18446744073709551615), 4294967315)
+    ∷ (([], 0), 4294967315)
+    ∷ ((text "A=b\n60\n", 1), 4294967302)
+    ∷ ((text "A=b", 2), 4294967322)
+    ∷ [])
+unfolding answering
+next-settings = refl
 
 -- ---- commands: with buffers of four bytes, the shell line's length, both buffers, and the input's length
 
@@ -267,6 +327,14 @@ forms : Hold formOn
     ∷ [])
 unfolding answering
 forms = refl
+
+-- ticket 2026-13: a table that only the first dialect takes, written and compiled in the second
+abbrev numbersIn : List ℕ → ℕ × ℕ
+numbersIn s = (normalNumber (normalForm (dialectOf 1) s (replicate 24 45) .answer), normalNumber (compiled (dialectOf 1) s (replicate 32 45) .answer))
+
+second-forms : numbersIn (text "0 0 * * 7 x\n") ≡ (4294967302, 4294967302)
+unfolding answering
+second-forms = refl
 
 -- ---- ticket 2026-08: a table and a buffer, and the records' length with the buffer as it is then; and back, with the first bad record
 
@@ -341,6 +409,7 @@ data Ask : Type 0 where
   init : Ask
   tick : ℕ → Ask
   pop : Ask
+  look : ℕ → Ask
 
 -- one after the other, each with the room that the last one left
 run : List ℕ → List ℕ → List Ask → List ℕ
@@ -348,6 +417,7 @@ run table room [] = []
 run table room (init ∷ asks) = let s = initTable (tableOf (rulesOf 0 0) table) room in tickNumber (s .answer) ∷ run table (s .room) asks
 run table room (tick minute ∷ asks) = let s = tickTable (tableOf (rulesOf 0 0) table) minute room in tickNumber (s .answer) ∷ run table (s .room) asks
 run table room (pop ∷ asks) = let s = popTable (tableOf (rulesOf 0 0) table) room in popNumber (s .answer) ∷ run table (s .room) asks
+run table room (look place ∷ asks) = popNumber (entryTable (tableOf (rulesOf 0 0) table) place room) ∷ run table room asks
 
 -- "Whole run: table `* * * * * a`, `@reboot b`, `0 * * * * c`. Request: entry 1. Announce 59: 1 joined. Announce 60: 1 joined. Requests:
 -- entry 0, entry 2, nothing."
@@ -356,6 +426,21 @@ whole-run :
     ≡ 1 ∷ 1 ∷ 1 ∷ 1 ∷ 0 ∷ 2 ∷ 4294967296 ∷ []
 unfolding run answering
 whole-run = refl
+
+-- who stands at a place: nobody leaves by it, and behind the end nothing waits
+looks :
+    run (text "* * * * * a\n@reboot b\n0 * * * * c\n") (replicate 88 7)
+    (init ∷ tick 60 ∷ look 0 ∷ look 1 ∷ look 2 ∷ look 3 ∷ look 18446744073709551615 ∷ pop ∷ look 0 ∷ look 1 ∷ look 2 ∷ [])
+    ≡ 1 ∷ 2 ∷ 1 ∷ 0 ∷ 2 ∷ 4294967296 ∷ 4294967296 ∷ 1 ∷ 0 ∷ 2 ∷ 4294967296 ∷ []
+unfolding run answering
+looks = refl
+
+-- a refused table, and a room that holds no line: 28
+refused-looks :
+    (run (text "60\n") (replicate 7 7) (look 0 ∷ []) ≡ 4294967302 ∷ [])
+    × (run (text "@reboot x\n") (replicate 12 0) (look 0 ∷ look 9 ∷ []) ≡ 4294967324 ∷ 4294967324 ∷ [])
+unfolding run answering
+refused-looks = (refl, refl)
 
 -- the calendar's last minute is announced as any other
 last-minute : run (text "* * * * * a\n") (replicate 12 0) (init ∷ tick 4223371679 ∷ pop ∷ []) ≡ 0 ∷ 1 ∷ 0 ∷ []
@@ -372,6 +457,57 @@ refused-run :
     × (run (text "@reboot x\n") (replicate 12 0) (init ∷ tick 4223371680 ∷ pop ∷ pop ∷ []) ≡ 1 ∷ 4294967310 ∷ 0 ∷ 4294967296 ∷ [])
 unfolding run answering
 refused-run = (refl, refl, refl, refl, refl, refl)
+
+-- ---- a changed table
+
+-- both tables' kind, the old one, the new one, and the room's bytes, in which a fresh line of the old one is made and minute 0 announced
+abbrev carried : ℕ × List ℕ × List ℕ × ℕ → ℕ × List ℕ
+carried (kind, old, new, size) =
+    let t = tableOf (rulesOf kind 0) old in
+    let s = reloadTables (rulesOf kind 0) old new (tickTable t 0 (initTable t (replicate size 7) .room) .room) in
+    (tickNumber (s .answer), s .room)
+
+abbrev kept : ℕ × List ℕ × List ℕ × ℕ → ℕ
+kept x = carried x .0
+
+-- c comes to the front of its table, b is gone, d is new: c and a wait, in their order, with the mark, and the bytes behind them stay
+reload-bytes :
+    carried (0, text "@reboot a\n@reboot b\n@reboot c\n", text "@reboot c\n@reboot d\n@reboot a\n", 20)
+    ≡ (2, 69 ∷ 82 ∷ 81 ∷ 49 ∷ 1 ∷ 0 ∷ 0 ∷ 0 ∷ 2 ∷ 0 ∷ 2 ∷ 0 ∷ 0 ∷ 0 ∷ 2 ∷ 0 ∷ 7 ∷ 7 ∷ 7 ∷ 7 ∷ [])
+unfolding answering reloading
+reload-bytes = refl
+
+-- how many wait: each part of what an entry asks for tells it from another, and its spelling doesn't
+reloads : Hold kept
+    (((1, text "@reboot u:g/c a\n", text "@reboot u:g/d a\n", 12), 0)
+    ∷ ((1, text "@reboot u:g/c a\n", text "@reboot u:h/c a\n", 12), 0)
+    ∷ ((1, text "@reboot u:g/c a\n", text "@reboot v:g/c a\n", 12), 0)
+    ∷ ((1, text "@reboot u:c a\n", text "@reboot u/c a\n", 12), 0)
+    ∷ ((1, text "@reboot u a\n", text "@reboot  u  a\n", 12), 1)
+    ∷ ((0, text "@reboot a\n", text "@reboot b\n", 12), 0)
+    ∷ ((0, text "@reboot a\n", text "CRON_TZ=+01:00\n@reboot a\n", 12), 0)
+    ∷ ((0, text "0 0 * * * a\n", text "0 0 1-31 * * a\n", 12), 0)
+    ∷ ((0, text "@daily a\n", text "A=b\n 0\t0 * * * a\n", 12), 1)
+    -- one of two that mean the same is left, and room for all of the new table
+    ∷ ((0, text "@reboot a\n@reboot a\n", text "@reboot a\n", 14), 1)
+    ∷ ((0, text "@reboot a\n", text "@reboot a\n@reboot b\n", 12), 4294967324)
+    ∷ ((0, text "@reboot a\n", text "@reboot a\n@reboot b\n", 14), 1)
+    -- the old table's refusal, the new table's, then 28
+    ∷ ((0, text "60\n", text "A\n", 0), 4294967302)
+    ∷ ((0, text "@reboot a\n", text "A\n", 0), 4294967307)
+    ∷ ((0, text "@reboot a\n", text "@reboot a\n", 0), 4294967324)
+    ∷ [])
+unfolding answering reloading
+reloads = refl
+
+-- of two that mean the same the second waits: with one of them left, it isn't that one
+rank-kept :
+    (let old = text "@reboot a\n@reboot a\n" in
+    let t = tableOf (rulesOf 0 0) old in
+    tickNumber (reloadTables (rulesOf 0 0) old (text "@reboot a\n") (popTable t (initTable t (replicate 20 7) .room) .room) .answer))
+    ≡ 0
+unfolding answering reloading
+rank-kept = refl
 
 -- ---- ticket 2026-10, when the clock jumps: a fixed entry, at 04:30, and two whose hour or minute begins with `*`
 

@@ -1,8 +1,16 @@
 // Minutes and dates.
 ghost use mathlib.Core.Path.{_≡_};
-ghost use Rattle.eremothyn.specs.Dates.{partIn, datePart, dateMinute};
+ghost use Prim.Native.Nat.{_≤_};
+ghost use lib.ListN.{length};
+ghost use Rattle.bytes.specs.Laid.{laid};
+ghost use Rattle.eremothyn.specs.Dates.{partIn, datePart, dateMinute, Small, partsOf, dateAnswer, dateRun};
+use crate::answer::REFUSED;
 use crate::answer::answer;
 use calendar::Date;
+use command::TOO_SHORT;
+
+// How many numbers a date has.
+const DATE_PARTS: usize = 6;
 
 #[no_mangle]
 pub extern "C" fn eremothyn_minute_of_date(
@@ -88,4 +96,35 @@ pub extern "C" fn eremothyn_weekday(minute: u64) -> u64
     ensures { λ r. ⌜ r ≡ datePart minute DatePart.Weekday ⌝ }
 {
     date_part(minute, DatePart::Weekday)
+}
+
+// A date at the front of a run that has room for it.
+fn put(date: Date, run: &mut [u16])
+    requires { ⌜ (6 ≤ length (now run)) × Small date ⌝ }
+    ensures { λ _. ⌜ now (run .exit) ≡ laid (partsOf date) (now (run .entry)) ⌝ }
+{
+    run[0] = date.year as u16;
+    run[1] = date.month as u16;
+    run[2] = date.day as u16;
+    run[3] = date.hour as u16;
+    run[4] = date.minute as u16;
+    run[5] = date.weekday as u16;
+}
+
+#[no_mangle]
+pub extern "C" fn eremothyn_date(minute: u64, run: &mut [u16]) -> u64
+    ensures answer { λ r. ⌜ r ≡ dateAnswer minute (now (run .entry)) ⌝ }
+    ensures run { λ _. ⌜ now (run .exit) ≡ dateRun minute (now (run .entry)) ⌝ }
+{
+    let found = calendar::date_of(minute);
+    let refusal = found.refusal;
+    if refusal != 0 {
+        return REFUSED + refusal as u64;
+    }
+    if run.len() < DATE_PARTS {
+        return REFUSED + TOO_SHORT as u64;
+    }
+    let date = found.date;
+    put(date, run);
+    DATE_PARTS as u64
 }

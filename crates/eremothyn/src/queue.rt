@@ -1,7 +1,8 @@
 // The run queue: the line of waiting jobs of a table, in a room that the caller lends.
 ghost use mathlib.Core.Path.{_≡_};
 ghost use Rattle.crontab.specs.Tables.{tableOf};
-ghost use Rattle.runqueue.specs.Calls.{initTable, tickTable, popTable};
+ghost use Rattle.runqueue.specs.Calls.{initTable, tickTable, popTable, entryTable};
+ghost use Rattle.reload.specs.Calls.{reloadTables};
 ghost use Rattle.eremothyn.specs.Rules.{rulesOf};
 ghost use Rattle.eremothyn.specs.Queue.{tickNumber, popNumber};
 use crate::answer::REFUSED;
@@ -63,4 +64,31 @@ pub extern "C" fn eremothyn_queue_pop(table: &[u8], kind: u64, dialect: u64, roo
     ensures room { λ _. ⌜ now (room .exit) ≡ popTable (tableOf (rulesOf kind dialect) (now (table .entry))) (now (room .entry)) .room ⌝ }
 {
     popped_number(runqueue::pop(table, rules_of(kind, dialect), room))
+}
+
+#[no_mangle]
+pub extern "C" fn eremothyn_queue_entry(
+    table: &[u8],
+    kind: u64,
+    dialect: u64,
+    room: &[u8],
+    place: u64,
+) -> u64
+    ensures { λ r. ⌜ r ≡ popNumber (entryTable (tableOf (rulesOf kind dialect) (now (table .entry))) place (now (room .entry))) ⌝ }
+{
+    popped_number(runqueue::entry_at(table, rules_of(kind, dialect), room, place))
+}
+
+#[no_mangle]
+pub extern "C" fn eremothyn_queue_reload(
+    old: &[u8],
+    new: &[u8],
+    kind: u64,
+    dialect: u64,
+    room: &mut [u8],
+) -> u64
+    ensures answer { λ r. ⌜ r ≡ tickNumber (reloadTables (rulesOf kind dialect) (now (old .entry)) (now (new .entry)) (now (room .entry)) .answer) ⌝ }
+    ensures room { λ _. ⌜ now (room .exit) ≡ reloadTables (rulesOf kind dialect) (now (old .entry)) (now (new .entry)) (now (room .entry)) .room ⌝ }
+{
+    ticked_number(reload::reload(old, new, rules_of(kind, dialect), room))
 }

@@ -1,13 +1,15 @@
-// Settings, by the number of their line: where the name and the value stand in the table.
+// Settings, by the number of their line: where the name and the value stand in the table, and which line has the next one.
 ghost use mathlib.Core.Path.{_≡_};
 ghost use Prim.Native.Nat.{_≤_};
 ghost use Rattle.crontab.specs.Items.{itemsOf};
-ghost use Rattle.crontab.specs.Settings.{settingIn};
+ghost use Rattle.crontab.specs.Settings.{settingIn, nextLineIn};
 ghost use Rattle.eremothyn.specs.Rules.{rulesOf};
-ghost use Rattle.eremothyn.specs.Settings.{shownIn, settingNumber};
+ghost use Rattle.eremothyn.specs.Settings.{shownIn, settingNumber, lineNumber};
+use crate::answer::REFUSED;
 use crate::answer::answer;
 use crate::rules::rules_of;
 use crontab::setting;
+use crontab::setting::LineAnswer;
 use crontab::setting::SettingAnswer;
 
 // What is asked of a setting.
@@ -85,4 +87,14 @@ pub extern "C" fn eremothyn_setting_value_length(
     ensures { λ r. ⌜ r ≡ settingNumber (settingIn (itemsOf (rulesOf kind dialect) (now (table .entry))) line) Shown.ValueLength ⌝ }
 {
     setting_number(table, kind, dialect, line, Shown::ValueLength)
+}
+
+#[no_mangle]
+pub extern "C" fn eremothyn_next_setting(table: &[u8], kind: u64, dialect: u64, line: u64) -> u64
+    ensures { λ r. ⌜ r ≡ lineNumber (nextLineIn (itemsOf (rulesOf kind dialect) (now (table .entry))) line) ⌝ }
+{
+    match setting::next(table, rules_of(kind, dialect), line) {
+        LineAnswer::At(k) => k,
+        LineAnswer::Refused(number) => REFUSED + number as u64,
+    }
 }

@@ -6,6 +6,7 @@ pub mod Gathered
 pub mod Rooms
 pub mod Lines
 pub mod Filling
+pub mod Looks
 pub mod Calls
 pub mod Fair
 pub mod Outrun

@@ -1,28 +1,29 @@
 -- What is proved of the line in bytes and of lists of calls, for any jobs. The claims are in specs/Fairness, RefusedCalls, Buffer and
 -- Steady; the lemmas in the files beside this one.
 -- Assumes nothing.
-use mathlib.Core.Path.{_≡_, refl}
-use mathlib.Core.Bool.{Bool, true, false, cond}
+use mathlib.Core.Path.{_≡_, refl, sym, _∙_}
+use mathlib.Core.Bool.{Bool, true, false, cond, true≢false}
 use mathlib.Core.List.{List, [], _∷_, _++_}
-use Prim.Native.Nat.{ℕ, _+_, _*_, _≤_, _<_}
+use Prim.Native.Nat.{ℕ, zero, suc, _+_, _*_, _≤_, _<_}
 use native.Mathlib.Omega.{arith}
 use lib.Dec.{leb}
-use lib.ListN.{length}
+use lib.ListN.{length, drop}
 use borrow.Author.Tests.{le-leb}
 use Rattle.fifo.specs.declared.Ticked.{Ticked}
 use Rattle.fifo.specs.declared.Popped.{Popped}
 use Rattle.fifo.specs.declared.Ticked.the-variants.{Joined, Refused as NotTicked}
 use Rattle.fifo.specs.declared.Popped.the-variants.{Entry, Nothing, Refused as NotPopped}
 use Rattle.calendar.specs.Dates.{lastMinute}
-use Rattle.fifo.specs.WaitingLine.{entriesOf}
+use Rattle.fifo.specs.WaitingLine.{Line, entriesOf, proper}
 use Rattle.fifo.specs.Layout.{lineOf, laid, lineSize, roomy, isLine}
-use Rattle.fifo.specs.Steps.{Jobs, Step, fresh, initStep, joins, joiners, ticked, tickStep, front, popped, popStep}
+use Rattle.fifo.specs.Steps.{Jobs, Step, fresh, initStep, joins, joiners, ticked, tickStep, front, behind, popped, popStep, standing, entryStep}
 use Rattle.fifo.specs.Fairness.{unrefused, Soon, bound, FairFrom, Fair}
 use Rattle.fifo.specs.RefusedCalls.{RefusedOnly}
 use Rattle.fifo.specs.Buffer.{callsOn, bufferAfterAll, started, FairInBuffer}
 use Rattle.fifo.specs.Steady.{steady, SteadyPaced, FairSteady}
-use Rattle.fifo.proofs.WaitingLines.{entries-cons, pick-length}
-use Rattle.fifo.proofs.Lines.{is-line, is-proper}
+use Rattle.fifo.proofs.WaitingLines.{entries-cons, entries-behind, pick-length}
+use Rattle.fifo.specs.Queue.{limit}
+use Rattle.fifo.proofs.Lines.{is-line, is-proper, make-proper, small-line, lineOf-laid, isLine-laid}
 use Rattle.fifo.proofs.Calls.{fresh-proper, goes-on, expected-all}
 use Rattle.fifo.proofs.Fair.{runs, called-named}
 use Rattle.fifo.proofs.Buffer.{on-follows, started-holds, calls-append}
@@ -92,6 +93,59 @@ pop-within n room = go (isLine n room) refl
         (cond {A = Step Popped} b (record { answer = front (lineOf room .waiting); room = laid (popped (lineOf room)) room }) (record { answer = NotPopped 28; room = room }) .answer)
     go true e = front-within n (lineOf room .waiting) (is-line n room e .1)
     go false e = omega arith
+
+-- ---- a look at the line
+
+entries-drop : (n place : ℕ) (l : List ℕ) → entriesOf n l ≡ true → entriesOf n (drop place l) ≡ true
+entries-drop n zero l h = h
+entries-drop n (suc place) [] h = h
+entries-drop n (suc place) (e ∷ l) h = entries-drop n place l (entries-cons n e l h .2)
+
+pub entry-within : (n place : ℕ) (room : List ℕ) → PoppedWithin n (entryStep n place room)
+unfolding entryStep standing
+entry-within n place room = go (isLine n room) refl
+  where
+    go : (b : Bool) → isLine n room ≡ b → PoppedWithin n (cond b (front (drop place (lineOf room .waiting))) (NotPopped 28))
+    go true e = front-within n (drop place (lineOf room .waiting)) (entries-drop n place (lineOf room .waiting) (is-line n room e .1))
+    go false e = omega arith
+
+-- at place 0 stands who a request names
+pub front-stands : (n : ℕ) (room : List ℕ) → entryStep n 0 room ≡ popStep n room .answer
+unfolding entryStep standing popStep
+front-stands n room = go (isLine n room)
+  where
+    go : (b : Bool)
+        → cond b (front (lineOf room .waiting)) (NotPopped 28)
+        ≡ cond {A = Step Popped} b (record { answer = front (lineOf room .waiting); room = laid (popped (lineOf room)) room }) (record { answer = NotPopped 28; room = room }) .answer
+    go true = refl
+    go false = refl
+
+behind-stands : (place : ℕ) (l : List ℕ) → standing place (behind l) ≡ standing (suc place) l
+unfolding standing behind
+behind-stands zero [] = refl
+behind-stands (suc place) [] = refl
+behind-stands place (e ∷ l) = refl
+
+behind-proper : (n : ℕ) (room : List ℕ) → isLine n room ≡ true → proper n (popped (lineOf room)) ≡ true
+unfolding popped lineOf
+behind-proper n room e =
+    make-proper n (popped (lineOf room)) (is-line n room e .0) (entries-behind n (lineOf room .waiting) (is-line n room e .1))
+
+-- and a request moves everybody a place on
+pub request-moves : (n place : ℕ) (room : List ℕ) → n < limit → isLine n room ≡ true → entryStep n place (popStep n room .room) ≡ entryStep n (suc place) room
+unfolding entryStep popStep popped
+request-moves n place room few e =
+    rw (e, isLine-laid n (popped l) room few proper-is (go (roomy n room) refl), lineOf-laid n (popped l) room few proper-is) (behind-stands place (l .waiting))
+  where
+    l : Line
+    l = lineOf room
+
+    proper-is : proper n (popped l) ≡ true
+    proper-is = behind-proper n room e
+
+    go : (b : Bool) → roomy n room ≡ b → b ≡ true
+    go true r = refl
+    go false r = absurd (true≢false (sym e ∙ small-line n room r))
 
 -- ---- a refused call leaves the room as it was
 

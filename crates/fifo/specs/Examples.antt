@@ -19,7 +19,7 @@ use Rattle.fifo.specs.declared.Popped.the-variants.{Entry, Nothing, Refu
 use Rattle.fifo.specs.WaitingLine.{standsIn, entriesOf, pick}
 use Rattle.fifo.specs.Queue.{numbers, bytes, counted, queueOf, queueImage, queueLaid, queueRoomy, isQueue}
 use Rattle.fifo.specs.Layout.{head, formatOf, markOf, lineOf, image, laid, roomy, isLine}
-use Rattle.fifo.specs.Steps.{Jobs, fresh, initStep, calls, joins, joiners, ticked, tickStep, front, behind, popped, popStep}
+use Rattle.fifo.specs.Steps.{Jobs, fresh, initStep, calls, joins, joiners, ticked, tickStep, front, behind, popped, popStep, standing, entryStep}
 use Rattle.fifo.specs.Fairness.{Call, tick, pop, roomAfter}
 use Rattle.fifo.specs.Buffer.{tickIn, popIn, lent, callOn, bufferAfter, callsOn, started}
 
@@ -38,7 +38,7 @@ answer jobs (pop room) = inr (popStep (jobs .count) room .answer)
 
 -- all that a run of calls is made of, to be computed
 unfoldable pub running : Unit {0}
-unfolding callsOn callOn bufferAfter lent roomAfter started initStep fresh tickStep ticked joiners joins calls popStep front behind popped
+unfolding callsOn callOn bufferAfter lent roomAfter started initStep fresh tickStep ticked joiners joins calls popStep front behind popped standing entryStep
     isLine roomy laid front.laid image lineOf head formatOf markOf between littleEndian numberOf caseOf judged markAfter passes from leastOf
     isQueue queueRoomy queueOf queueImage queueLaid counted numbers bytes entriesOf standsIn pick
 running = tt

@@ -6,7 +6,7 @@ use Prim.Native.Nat.{ℕ}
 use mathlib.Core.Bool.{Bool, not, cond, _&&_}
 use mathlib.Core.List.{List, [], _∷_, _++_}
 use lib.Dec.{leb}
-use lib.ListN.{length}
+use lib.ListN.{length, drop}
 use Rattle.calendar.specs.Dates.{lastMinute}
 use Rattle.calendar.specs.Refusals.{notOnCalendar}
 use Rattle.schedule.specs.declared.jump.Mark.{Mark}
@@ -95,3 +95,18 @@ popStep n room =
     cond (isLine n room)
     (record { answer = front (lineOf room .waiting); room = laid (popped (lineOf room)) room })
     (record { answer = NotPopped notALine; room = room })
+
+-- ---- a look at the line, which removes nobody
+
+-- who stands at a place, 0 the front: the front behind so many others
+unfoldable pub standing : ℕ → List ℕ → Popped
+standing place l = front (drop place l)
+
+unfoldable pub entryStep : ℕ → ℕ → List ℕ → Popped
+entryStep n place room = cond (isLine n room) (standing place (lineOf room .waiting)) (NotPopped notALine)
+
+-- ---- a line anew
+
+-- other entries wait; the mark stays
+unfoldable pub refilled : List ℕ → List ℕ → List ℕ
+refilled entries room = laid (record { mark = lineOf room .mark; waiting = entries }) room

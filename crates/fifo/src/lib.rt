@@ -6,10 +6,12 @@ mod queue;
 ghost use mathlib.Core.Path.{_≡_};
 ghost use mathlib.Core.Bool.{true};
 ghost use mathlib.Core.List.{[]};
+ghost use Prim.Native.Nat.{ℕ};
 ghost use lib.ListN.{length};
 ghost use Rattle.schedule.specs.Jumps.{isMark};
+ghost use Rattle.fifo.specs.WaitingLine.{entriesOf};
 ghost use Rattle.fifo.specs.Layout.{lineOf, laid, roomy, isLine};
-ghost use Rattle.fifo.specs.Steps.{popStep};
+ghost use Rattle.fifo.specs.Steps.{popStep, standing, entryStep, refilled};
 ghost use Rattle.fifo.specs.SmallSteps.{Gathered, callees, joined, initCalled, tickCalled};
 use calendar::LAST_MINUTE;
 use calendar::NOT_ON_CALENDAR;
@@ -41,7 +43,7 @@ pub enum Popped {
 }
 
 // Whether the room can hold n entries.
-fn has_room(room: &[u8], n: u16) -> bool
+pub fn has_room(room: &[u8], n: u16) -> bool
     ensures { λ r. ⌜ r ≡ roomy n (now (room .entry)) ⌝ }
 {
     n as usize + 5 <= room.len() / 2
@@ -64,7 +66,7 @@ fn gather(room: &[u8], n: usize, seen: &mut [u64; WORDS]) -> bool
 }
 
 // Whether the room holds a line of a table of n entries.
-fn is_line(room: &[u8], n: usize) -> bool
+pub fn is_line(room: &[u8], n: usize) -> bool
     ensures { λ r. ⌜ r ≡ isLine n (now (room .entry)) ⌝ }
 {
     let mut seen = [0u64; WORDS];
@@ -121,4 +123,45 @@ pub fn pop(room: &mut [u8], n: usize) -> Popped
         return queue::take_front(&mut room[at..]);
     }
     Popped::Refused(NOT_A_LINE)
+}
+
+// How many wait in a room.
+pub fn waiting(room: &[u8]) -> usize
+    ensures { λ r. ⌜ r ≡ length (lineOf (now (room .entry)) .waiting) ⌝ }
+{
+    if room.len() < HEAD {
+        return 0;
+    }
+    let at = HEAD;
+    queue::len(&room[at..])
+}
+
+// Who stands at a place of the line in a room, 0 the front.
+pub fn standing(room: &[u8], place: u64) -> Popped
+    ensures { λ r. ⌜ r ≡ standing place (lineOf (now (room .entry)) .waiting) ⌝ }
+{
+    if room.len() < HEAD {
+        return Popped::Nothing;
+    }
+    let at = HEAD;
+    queue::standing(&room[at..], place)
+}
+
+// The same of a line of a table of n entries. Nobody leaves.
+pub fn entry_at(room: &[u8], n: usize, place: u64) -> Popped
+    ensures { λ r. ⌜ r ≡ entryStep n place (now (room .entry)) ⌝ }
+{
+    if is_line(room, n) {
+        return standing(room, place);
+    }
+    Popped::Refused(NOT_A_LINE)
+}
+
+// The entries of a list, which are those of a table of n entries, wait from now on, and nobody else. The mark stays.
+pub fn refill(room: &mut [u8], n: u16, entries: &[u16])
+    requires { ⌜ ((k : ℕ) × (isLine k (now room) ≡ true)) × (roomy n (now room) ≡ true) × (entriesOf n (now entries) ≡ true) ⌝ }
+    ensures { λ _. ⌜ now (room .exit) ≡ refilled (now (entries .entry)) (now (room .entry)) ⌝ }
+{
+    let at = HEAD;
+    queue::refill(&mut room[at..], n, entries);
 }

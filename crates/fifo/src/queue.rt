@@ -7,7 +7,7 @@ ghost use lib.ListN.{length, getD, drop};
 ghost use lib.Seq.{paste};
 ghost use Rattle.fifo.specs.WaitingLine.{entriesOf};
 ghost use Rattle.fifo.specs.Queue.{numbers, queueOf, queueLaid, queueRoomy, isQueue};
-ghost use Rattle.fifo.specs.Steps.{front, behind};
+ghost use Rattle.fifo.specs.Steps.{front, behind, standing};
 ghost use Rattle.fifo.specs.SmallSteps.{stored, canPush, pushed, Gathered, callees};
 use crate::Popped;
 use bytes::mark;
@@ -24,7 +24,7 @@ fn number(s: &[u8], i: usize) -> u16
 }
 
 // How many entries wait.
-fn len(s: &[u8]) -> usize
+pub(crate) fn len(s: &[u8]) -> usize
     ensures { λ r. ⌜ r ≡ length (queueOf (now (s .entry))) ⌝ }
 {
     if s.len() < 2 {
@@ -160,6 +160,29 @@ pub(crate) fn fill(s: &mut [u8], n: u16, called: &[u64]) -> usize
     clear(s);
     let waiting = [0u64; WORDS];
     join(s, n, called, &waiting)
+}
+
+// The entries of a list wait, in its order, and nobody else, whatever the bytes held.
+pub(crate) fn refill(s: &mut [u8], n: u16, entries: &[u16])
+    requires { ⌜ (queueRoomy n (now s) ≡ true) × (entriesOf n (now entries) ≡ true) ⌝ }
+    ensures { λ _. ⌜ now (s .exit) ≡ queueLaid (now (entries .entry)) (now (s .entry)) ⌝ }
+{
+    clear(s);
+    let mut i = 0;
+    while i < entries.len() {
+        push(s, entries[i]);
+        i += 1;
+    }
+}
+
+// Who stands at a place, 0 the front.
+pub(crate) fn standing(s: &[u8], place: u64) -> Popped
+    ensures { λ r. ⌜ r ≡ standing place (queueOf (now (s .entry))) ⌝ }
+{
+    if place < len(s) as u64 {
+        return Popped::Entry(number(s, place as usize + 1));
+    }
+    Popped::Nothing
 }
 
 // Moves n bytes up by one entry, to where the first one stands.

@@ -29,7 +29,7 @@ use Rattle.fifo.specs.Steps.{Step, calls, joins, joiners, ticked}
 use Rattle.fifo.proofs.Theorems.{fresh-line, announced-line}
 use Rattle.runqueue.specs.Jobs.{jobAt, jobsOf}
 use Rattle.runqueue.specs.Demand.{aheadOf}
-use Rattle.runqueue.specs.Chain.{emptied, announced, joinsOver, OnBoth, FreshUnmarked, userRules, midnightTable, midnights, MarkNeeded, westEvenings, ShiftMet, ShiftFails}
+use Rattle.runqueue.specs.Chain.{emptied, announced, joinsOver, OnBoth, BothEnds, FreshUnmarked, userRules, midnightTable, midnights, MarkNeeded, westEvenings, ShiftMet, ShiftFails}
 use Rattle.runqueue.proofs.Exits.{init-good, tick-good}
 use Rattle.runqueue.proofs.TableJobs.{few}
 
@@ -79,6 +79,9 @@ shift-fails = (
   evening-next 0 1800 (omega arith) (known-days-in .3),
   evening-next cycleMinutes (cycleMinutes + 360) (omega arith) (known-days-in .4),
 )
+
+pub both-ends : BothEnds
+both-ends = (record { utc = omega arith; from = omega arith; to = omega arith }, record { utc = omega arith; from = omega arith; to = omega arith })
 
 -- ---- a fresh line
 

@@ -30,7 +30,7 @@ use Rattle.fifo.specs.declared.Ticked.{Ticked}
 use Rattle.fifo.specs.Steps.{Step, tickStep}
 use Rattle.fifo.proofs.Theorems.{isCalled, Before, without, emptied-line, emptied-is, announced-is, announced-mark, announced-stands}
 use Rattle.runqueue.specs.Jobs.{jobAt, jobsOf}
-use Rattle.runqueue.specs.Chain.{Chain, isYes, dueAfter, emptied, announced, joinsOver, joinsAfter, ChainIsTicks}
+use Rattle.runqueue.specs.Chain.{Chain, isYes, dueAfter, emptied, announced, joinsOver, joinsAfter, ChainIsTicks, ChainGoesOn}
 use Rattle.runqueue.proofs.Exits.{tick-bad, tick-good}
 use Rattle.runqueue.proofs.TableJobs.{few}
 use Rattle.runqueue.proofs.Chains.{yes-fires, chain-is-due}
@@ -119,21 +119,26 @@ module _ (t : Table) (small : t .count < limit) (e : ℕ) where
       ∙ sym (due-none t e m bad)
 
   -- either way
-  joins-all : (n m : ℕ) (room : List ℕ) → n ≤ lastMinute + 1 - m → isLine (t .count) room ≡ true → lineOf room .mark ≡ None
+  joins-all : (n m : ℕ) (room : List ℕ) → n ≤ lastMinute + 1 - m → isLine (t .count) room ≡ true → Before (lineOf room .mark) m
       → joinsOver t e n m room ≡ passing (λ k. isYes (dueIn t e k)) n m
-  joins-all n m room h line none =
+  joins-all n m room h line before =
       elim (decLe (t .refusal) 0) [
-        | yes good ↦ joins-due t e {Has = Follows} (record { next = good-next (omega arith); joins = good-joins (omega arith) }) n m room h (line, rw none tt)
+        | yes good ↦ joins-due t e {Has = Follows} (record { next = good-next (omega arith); joins = good-joins (omega arith) }) n m room h (line, before)
         | no bad ↦ joins-due t e {Has = λ m room. isLine (t .count) room ≡ true} (record { next = λ m room on. bad-next (λ z. bad (omega arith)) m room; joins = λ m room on. bad-joins (λ z. bad (omega arith)) m room }) n m room h line
       ]
 
-  pub joins-are-due : (m : ℕ) (room : List ℕ) → isLine (t .count) room ≡ true → lineOf room .mark ≡ None → joinsAfter t e m room ≡ dueAfter t e m
+  pub joins-are-due : (m : ℕ) (room : List ℕ) → isLine (t .count) room ≡ true → Before (lineOf room .mark) (m + 1) → joinsAfter t e m room ≡ dueAfter t e m
   unfolding joinsAfter dueAfter passingUpTo
-  joins-are-due m room line none =
+  joins-are-due m room line before =
       let n : lastMinute + 1 - (m + 1) ≡ lastMinute - m = omega arith in
-      joins-all (lastMinute - m) (m + 1) room (omega arith) line none ∙ rw n
+      joins-all (lastMinute - m) (m + 1) room (omega arith) line before ∙ rw n
 
 pub chain-is-ticks : ChainIsTicks
 unfolding jobsOf
 chain-is-ticks rules table e m room chain line none =
-    rw (joins-are-due (tableOf rules table) (few rules table) e m room line none) (chain-is-due rules table e m chain)
+    rw (joins-are-due (tableOf rules table) (few rules table) e m room line (rw none tt)) (chain-is-due rules table e m chain)
+
+pub chain-goes-on : ChainGoesOn
+unfolding jobsOf
+chain-goes-on rules table e m room chain line is =
+    rw (joins-are-due (tableOf rules table) (few rules table) e m room line (rw is refl)) (chain-is-due rules table e m chain)

@@ -1,4 +1,4 @@
--- Laws of the three calls: what they come to where the table is refused, and where it isn't.
+-- Laws of the calls: what they come to where the table is refused, and where it isn't.
 -- Assumes nothing.
 use Rattle.fifo.specs.declared.Ticked.the-variants.{Refused as NotTicked}
 use Rattle.fifo.specs.declared.Popped.the-variants.{Refused as NotPopped}
@@ -10,13 +10,13 @@ use Rattle.crontab.specs.declared.table.Table.{Table}
 use Rattle.schedule.specs.Jumps.{caseOf}
 use Rattle.crontab.specs.declared.chosen.Which.the-variants.{AtBoot, At}
 use Rattle.crontab.specs.Limits.{maxEntries}
-use Rattle.crontab.specs.Choices.{chosenIn}
+use Rattle.crontab.specs.Choices.{chosenBy, chosenIn}
 use Rattle.fifo.specs.Layout.{markOf, lineOf}
-use Rattle.fifo.specs.Steps.{initStep, tickStep, popStep}
+use Rattle.fifo.specs.Steps.{initStep, tickStep, popStep, entryStep}
 use Rattle.fifo.specs.SmallSteps.{initCalled, tickCalled}
 use Rattle.fifo.proofs.Filling as fifo
 use Rattle.runqueue.specs.Jobs.{jobsOf}
-use Rattle.runqueue.specs.Calls.{initTable, tickTable, popTable}
+use Rattle.runqueue.specs.Calls.{initTable, tickTable, popTable, entryTable}
 use Rattle.runqueue.proofs.Joiners.{marked-boot, marked-due}
 
 module _ (t : Table) (room : List ℕ) where
@@ -34,6 +34,10 @@ module _ (t : Table) (room : List ℕ) where
     unfolding popTable
     pop-bad = let e = ne-eqb (t .refusal) 0 bad in (rw e, rw e)
 
+    pub entry-bad : (place : ℕ) → NotPopped (t .refusal) ≡ entryTable t place room
+    unfolding entryTable
+    entry-bad place = rw (ne-eqb (t .refusal) 0 bad)
+
   -- a good one
   module _ (good : t .refusal ≡ 0) where
     pub init-good : initTable t room ≡ initStep (jobsOf t) room
@@ -48,16 +52,20 @@ module _ (t : Table) (room : List ℕ) where
     unfolding popTable
     pop-good = rw (eq-eqb (t .refusal) 0 good)
 
+    pub entry-good : (place : ℕ) → entryTable t place room ≡ entryStep (t .count) place room
+    unfolding entryTable
+    entry-good place = rw (eq-eqb (t .refusal) 0 good)
+
 -- where the set that a call is handed has the table's chosen entries
 module _ (t : Table) (few : t .count ≤ maxEntries) (room : List ℕ) (good : t .refusal ≡ 0) where
   pub init-called : initTable t room ≡ initCalled (chosenIn AtBoot t .count) (chosenIn AtBoot t .marks) room
-  unfolding chosenIn jobsOf
+  unfolding chosenBy jobsOf
   init-called = init-good t room good ∙ sym (fifo.init-called (jobsOf t) (chosenIn AtBoot t .marks) room (marked-boot t few))
 
   pub tick-called : (minute : ℕ)
       → let which = At minute (caseOf (markOf room) minute) in
       tickTable t minute room ≡ tickCalled (chosenIn which t .count) (chosenIn which t .marks) minute room
-  unfolding chosenIn jobsOf lineOf
+  unfolding chosenBy jobsOf lineOf
   tick-called minute =
       tick-good t room good minute
       ∙ sym (fifo.tick-called (jobsOf t) (chosenIn (At minute (caseOf (markOf room) minute)) t .marks) room minute (marked-due t few (markOf room) minute))

@@ -21,7 +21,7 @@ use Rattle.crontab.specs.declared.chosen.Which.{Which}
 use Rattle.crontab.specs.declared.chosen.Which.the-variants.{AtBoot, At}
 use Rattle.crontab.specs.Limits.{maxEntries}
 use Rattle.crontab.specs.Firings.{byWhen, isBoot, isFixed, firesAt}
-use Rattle.crontab.specs.Choices.{isChosen, markWords, choice, chosenIn}
+use Rattle.crontab.specs.Choices.{isChosen, markWords, choice, chosenBy, chosenIn}
 use Rattle.fifo.specs.Steps.{calls}
 use Rattle.runqueue.specs.Jobs.{jobAt, jobsOf}
 
@@ -40,8 +40,8 @@ called-timed e case minute = go (e .when)
 module _ (t : Table) (few : t .count ≤ maxEntries) where
   -- an entry's mark
   marked-at : (which : Which) (e : ℕ) → e < t .count → marked (chosenIn which t .marks) e ≡ isChosen which (jobAt t e)
-  unfolding chosenIn choice jobAt
-  marked-at which e h = marks-marked markWords (choice which (t .entries)) (t .count) (omega arith) e ∙ rw (lt-ltb e (t .count) h)
+  unfolding chosenBy choice jobAt
+  marked-at which e h = marks-marked markWords (choice (isChosen which) (t .entries)) (t .count) (omega arith) e ∙ rw (lt-ltb e (t .count) h)
 
   pub marked-boot : (e : ℕ) → e < t .count → marked (chosenIn AtBoot t .marks) e ≡ jobsOf t .boot e
   unfolding isChosen jobsOf

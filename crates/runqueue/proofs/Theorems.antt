@@ -1,4 +1,4 @@
--- What is proved of the three calls, by table bytes.
+-- What is proved of the calls, by table bytes.
 --   table-fair, table-fair-from, table-fair-in-buffer, table-fair-steady: the third demand and its companions, as specs/Demand has them
 --   table-refused-only: a call is refused only for too little room or for a minute off the calendar
 --   hold-reached: a case in which the demand's bound is met exactly
@@ -7,9 +7,11 @@
 --   chain-is-ticks: "as announcements one by one would find on a line with no mark at first and emptied before each"
 --   next-shifts: "shifting a start by 210,379,680 minutes shifts the answer by the same number, provided the start, the shifted start, both
 --     answers and, under an offset, their local minutes are on the calendar"
---   fresh-unmarked, shift-met: their hypotheses can be met; mark-needed, shift-fails: and are needed
+--   chain-goes-on: the same on a line whose mark is the start
+--   fresh-unmarked, shift-met, both-ends: their hypotheses can be met; mark-needed, shift-fails: and are needed
 --   table-steps, table-steps-good, table-due: the claims speak of what the functions promise
---   init-told, tick-told, pop-told: what the calls can answer
+--   front-stands, request-moves: a look at place 0 tells who a request names, and a request moves everybody a place on
+--   init-told, tick-told, pop-told, entry-told: what the calls can answer
 --   init-stays, tick-stays, pop-stays: a refused call leaves the room as it was
 -- Assumes nothing.
 use Rattle.fifo.specs.declared.Ticked.the-variants.{Refused as NotTicked}
@@ -17,7 +19,7 @@ use Rattle.fifo.specs.declared.Popped.the-variants.{Refused as NotPopped}
 use mathlib.Core.Path.{_≡_, refl}
 use mathlib.Core.Bool.{Bool, true, false, cond}
 use mathlib.Core.List.{List}
-use Prim.Native.Nat.{ℕ, _<_}
+use Prim.Native.Nat.{ℕ, suc, _<_}
 use native.Mathlib.Decide.{decLe}
 use native.Mathlib.Omega.{arith}
 use lib.Dec.{eqb}
@@ -30,19 +32,21 @@ use Rattle.crontab.specs.Firings.{dueOf, dueAnswer, dueIn}
 use Rattle.crontab.proofs.Theorems.{table-sound}
 use Rattle.fifo.specs.declared.Ticked.{Ticked}
 use Rattle.fifo.specs.declared.Popped.{Popped}
-use Rattle.fifo.specs.Steps.{Step, initStep, tickStep, popStep}
+use Rattle.fifo.specs.Steps.{Step, initStep, tickStep, popStep, entryStep}
+use Rattle.fifo.specs.Layout.{isLine}
 use Rattle.fifo.proofs.Theorems as fifo
-use Rattle.fifo.proofs.Theorems.{TickedWithin, PoppedWithin, init-within, tick-within, pop-within}
+use Rattle.fifo.proofs.Theorems.{TickedWithin, PoppedWithin, init-within, tick-within, pop-within, entry-within}
 use Rattle.runqueue.specs.Jobs.{jobAt, jobsOf}
-use Rattle.runqueue.specs.Calls.{initTable, tickTable, popTable}
+use Rattle.runqueue.specs.Calls.{initTable, tickTable, popTable, entryTable}
 use Rattle.runqueue.specs.Demand.{jobsIn, TableDue, TableSteps, TableStepsGood}
 use Rattle.runqueue.proofs.Exits.{init-good, tick-good, pop-good}
+use Rattle.runqueue.proofs.Exits as exits
 pub use Rattle.runqueue.proofs.TableFair.{table-fair, table-fair-from, table-refused-only, table-fair-in-buffer, table-fair-steady}
 pub use Rattle.runqueue.proofs.Reached.{hold-reached}
 pub use Rattle.runqueue.proofs.Chains.{chain-is-due}
-pub use Rattle.runqueue.proofs.ChainTicks.{chain-is-ticks}
+pub use Rattle.runqueue.proofs.ChainTicks.{chain-is-ticks, chain-goes-on}
 pub use Rattle.runqueue.proofs.Shifts.{next-shifts}
-pub use Rattle.runqueue.proofs.ChainCases.{fresh-unmarked, mark-needed, shift-met, shift-fails}
+pub use Rattle.runqueue.proofs.ChainCases.{fresh-unmarked, mark-needed, shift-met, both-ends, shift-fails}
 
 -- a table that has an entry isn't refused
 pub entry-good : (rules : Rules) (table : List ℕ) (e : ℕ) → e < jobsIn rules table .count → tableOf rules table .refusal ≡ 0
@@ -93,6 +97,34 @@ module _ (t : Table) (room : List ℕ) where
           → PoppedWithin (t .count) (cond {A = Step Popped} b (popStep (t .count) room) (record { answer = NotPopped (t .refusal); room = room }) .answer)
       go true e = pop-within (t .count) room
       go false e = omega (arith, eqb-false (t .refusal) 0 e)
+
+  pub entry-told : (place : ℕ) → PoppedWithin (t .count) (entryTable t place room)
+  unfolding entryTable
+  entry-told place = go (eqb (t .refusal) 0) refl
+    where
+      go : (b : Bool) → eqb (t .refusal) 0 ≡ b → PoppedWithin (t .count) (cond b (entryStep (t .count) place room) (NotPopped (t .refusal)))
+      go true e = entry-within (t .count) place room
+      go false e = omega (arith, eqb-false (t .refusal) 0 e)
+
+  -- a look at the line: the front is who a request names
+  pub front-stands : entryTable t 0 room ≡ popTable t room .answer
+  unfolding entryTable popTable
+  front-stands = go (eqb (t .refusal) 0)
+    where
+      go : (b : Bool)
+          → cond b (entryStep (t .count) 0 room) (NotPopped (t .refusal))
+          ≡ cond {A = Step Popped} b (popStep (t .count) room) (record { answer = NotPopped (t .refusal); room = room }) .answer
+      go true = fifo.front-stands (t .count) room
+      go false = refl
+
+-- and a request of a line moves everybody a place on
+pub request-moves : (rules : Rules) (table room : List ℕ) (place : ℕ)
+    → let t = tableOf rules table in
+    t .refusal ≡ 0 → isLine (t .count) room ≡ true → entryTable t place (popTable t room .room) ≡ entryTable t (suc place) room
+request-moves rules table room place good e =
+    let t = tableOf rules table in
+    rw (exits.entry-good t (popTable t room .room) good place, exits.entry-good t room good (suc place), pop-good t room good)
+    (fifo.request-moves (t .count) place room (omega (arith, table-sound rules table .few)) e)
 
 -- a refused call leaves the room as it was
 module _ (t : Table) (room : List ℕ) (n : ℕ) where

@@ -80,6 +80,13 @@ ChainIsTicks = (rules : Rules) (table : List ℕ) (e m : ℕ) (room chain : List
     isLine (t .count) room ≡ true → lineOf room .mark ≡ None
     → Chain t e m chain ↔ (chain ≡ joinsAfter t e m room)
 
+-- and on one whose mark is the start: so a daemon that announced it goes on
+abbrev pub ChainGoesOn : Type 0
+ChainGoesOn = (rules : Rules) (table : List ℕ) (e m : ℕ) (room chain : List ℕ)
+    → let t = tableOf rules table in
+    isLine (t .count) room ≡ true → lineOf room .mark ≡ mark.At m
+    → Chain t e m chain ↔ (chain ≡ joinsAfter t e m room)
+
 -- ---- "shifting a start by 210,379,680 minutes shifts the answer by the same number"
 
 -- a minute on the calendar, "and, under an offset," its local minute too
@@ -124,6 +131,10 @@ midnights = tableOf userRules midnightTable
 abbrev pub MarkNeeded : Type 0
 MarkNeeded = (room : List ℕ) → isLine (midnights .count) room ≡ true → lineOf room .mark ≡ mark.At 1440
     → (dueIn midnights 0 1440 ≡ due.Yes) × (joinsOver midnights 0 1 1440 room ≡ [])
+
+-- the last minutes that are on the calendar both ways, at +14:00 and at -12:00
+abbrev pub BothEnds : Type 0
+BothEnds = OnBoth 1560 4223370839 × OnBoth 0 4223371679
 
 -- evenings at -12:00, where 1970 begins locally with minute 720
 abbrev pub westEvenings : List ℕ

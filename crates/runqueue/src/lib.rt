@@ -1,8 +1,8 @@
 // The line of waiting jobs of a table (paper 01), by table bytes and the room that holds the line: a fresh line (init), an
-// announced minute (tick) and a request (pop).
+// announced minute (tick), a request (pop) and a look at the line (entry_at).
 ghost use mathlib.Core.Path.{_≡_};
 ghost use Rattle.crontab.specs.Tables.{tableOf};
-ghost use Rattle.runqueue.specs.Calls.{initTable, tickTable, popTable};
+ghost use Rattle.runqueue.specs.Calls.{initTable, tickTable, popTable, entryTable};
 use crontab::Rules;
 use crontab::chosen;
 use crontab::chosen::Which;
@@ -52,4 +52,16 @@ pub fn pop(table: &[u8], rules: Rules, room: &mut [u8]) -> Popped
         return Popped::Refused(refusal);
     }
     fifo::pop(room, verdict.count)
+}
+
+// Who stands at a place of the line, 0 the front, or that nothing waits there. Nobody leaves.
+pub fn entry_at(table: &[u8], rules: Rules, room: &[u8], place: u64) -> Popped
+    ensures { λ r. ⌜ r ≡ entryTable (tableOf rules (now (table .entry))) place (now (room .entry)) ⌝ }
+{
+    let verdict = crontab::table::check(table, rules);
+    let refusal = verdict.refusal;
+    if refusal != 0 {
+        return Popped::Refused(refusal);
+    }
+    fifo::entry_at(room, verdict.count, place)
 }

@@ -30,6 +30,9 @@ static void merged_firings(void)
 {
     eremothyn_merged_firings(table, length, kind, dialect, 0, 1440, minutes, PLACES, entries, PLACES);
 }
+static void entry_line(void) { eremothyn_entry_line(table, length, kind, dialect, 511); }
+static void command_offset(void) { eremothyn_command_offset(table, length, kind, dialect, 511); }
+static void next_setting(void) { eremothyn_next_setting(table, length, kind, dialect, 1); }
 static void stdin_length(void) { eremothyn_stdin_length(table, length, kind, dialect, 511); }
 static void split_command(void)
 {
@@ -49,6 +52,15 @@ static void queue_tick(void)
     eremothyn_queue_tick(table, length, kind, dialect, room, sizeof room, 180);
 }
 static void queue_pop(void) { eremothyn_queue_pop(table, length, kind, dialect, room, sizeof room); }
+static void queue_entry(void) { eremothyn_queue_entry(table, length, kind, dialect, room, sizeof room, 0); }
+/* All wait, and all stay. */
+static void queue_reload(void)
+{
+    eremothyn_queue_init(table, length, kind, dialect, room, sizeof room);
+    eremothyn_queue_tick(table, length, kind, dialect, room, sizeof room, 0);
+    eremothyn_queue_reload(table, length, table, length, kind, dialect, room, sizeof room);
+}
+static void date(void) { eremothyn_date(15863040, entries, PLACES); }
 static void minute_of_date(void) { eremothyn_minute_of_date(2000, 2, 29, 0, 0); }
 static void year(void) { eremothyn_year(15863040); }
 static void nothing(void) {}
@@ -64,6 +76,9 @@ static const struct call {
     {"next", next},
     {"firings", firings},
     {"merged_firings", merged_firings},
+    {"entry_line", entry_line},
+    {"command_offset", command_offset},
+    {"next_setting", next_setting},
     {"stdin_length", stdin_length},
     {"split_command", split_command},
     {"user_offset", user_offset},
@@ -75,6 +90,9 @@ static const struct call {
     {"queue_init", queue_init},
     {"queue_tick", queue_tick},
     {"queue_pop", queue_pop},
+    {"queue_entry", queue_entry},
+    {"queue_reload", queue_reload},
+    {"date", date},
     {"minute_of_date", minute_of_date},
     {"year", year},
 };
@@ -136,7 +154,7 @@ int main(void)
         "x",
     };
     size_t most[CALLS] = {0};
-    for (int rules = 0; rules < 4; rules++) {
+    for (uint64_t rules = 0; rules < 4; rules++) {
         kind = rules % 2;
         dialect = rules / 2;
         for (size_t i = 0; i < sizeof lines / sizeof *lines; i++) {

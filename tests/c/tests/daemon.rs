@@ -263,7 +263,7 @@ fn refusals_and_wrong_arguments_are_said() {
         (
             "/nowhere, 1, 1970-01-01T00:00, 1970-01-01T00:00",
             2,
-            "daemon: /nowhere: No such file",
+            "/nowhere: No such file",
         ),
         (
             "~, 1, 2100-02-29T00:00, 2100-03-01T00:00",

@@ -80,7 +80,7 @@ fn the_installed_examples_build() {
     let folder = scratch("install-examples");
     install(&folder);
     let examples = format!("{}{PREFIX}/share/doc/eremothyn/examples", word(&folder));
-    for name in ["daemon", "date"] {
+    for name in ["daemon", "site_daemon", "date"] {
         let source = format!("{examples}/{name}.c");
         compile_installed(&folder, "cc", "-std=c99", &source, &folder.join(name));
     }
@@ -142,13 +142,19 @@ fn the_manual_has_all_of_the_header() {
         names
     };
     let functions = names("eremothyn_");
-    assert_eq!(functions.len(), 34);
+    assert_eq!(functions.len(), 41);
     for function in &functions {
         assert!(page.contains(&format!("{function}(")), "{function}");
         let found = fs::read_to_string(format!("{manual}/man3/{function}.3"))
             .expect("a page of its own name");
         assert_eq!(found, ".so man3/eremothyn.3\n");
     }
+    // What each refuses stands in a row of its own; the words refuse nothing.
+    for function in functions.iter().filter(|&&name| name != "eremothyn_words") {
+        assert!(page.contains(&format!("\n{function}|")), "{function}");
+    }
+    // Names can be searched for and copied: no break is put into one.
+    assert!(page.contains("\n.nh\n") && !page.contains("\\%"));
     for name in names("EREMOTHYN_")
         .iter()
         .filter(|&&name| name != "EREMOTHYN_H")
@@ -173,6 +179,31 @@ fn the_pages_are_well_formed() {
         count += 1;
     }
     assert!(count >= 9, "{count} pages");
+}
+
+/// A prefix may have a space in it: pkg-config's words are taken apart as a shell does it.
+#[test]
+fn a_prefix_with_a_space() {
+    let folder = scratch("install-space");
+    let prefix = format!("{}/an engine", word(&folder));
+    let _ = make(&["install", &format!("PREFIX={prefix}")]);
+    let source = folder.join("first.c");
+    fs::write(&source, readme_program()).expect("the program is written");
+    let script = r#"cd "$1" && export PKG_CONFIG_PATH="$1/an engine/lib/pkgconfig" && \
+        eval "cc -std=c99 -o first first.c $(pkg-config --cflags --libs eremothyn)" && ./first"#;
+    let output = run("sh", &["-c", script, "sh", word(&folder)]);
+    let told_so = told(&output);
+    assert_eq!(
+        told_so,
+        ("fires next at minute 5\n".to_string(), Some(0)),
+        "{output:?}"
+    );
+    let command = format!("{prefix}/bin/eremothyn");
+    let checked = run(&command, &["check", "examples/observatory.crontab"]);
+    assert_eq!(checked.status.code(), Some(0));
+    let _ = make(&["uninstall", &format!("PREFIX={prefix}")]);
+    let left = run("find", &[&prefix, "-type", "f"]);
+    assert_eq!(told(&left), (String::new(), Some(0)));
 }
 
 #[test]

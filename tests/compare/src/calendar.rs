@@ -2,6 +2,7 @@
 //! minute.
 
 use eremothyn::{Answer, NOT_ON_CALENDAR};
+use guard::Guarded;
 use second::calendar::{self, Date};
 
 const PARTS: [fn(u64) -> Answer; 6] = [
@@ -24,6 +25,24 @@ pub fn parts(minute: u64) -> [Answer; 6] {
     let second = calendar::date_of(minute).map_or([Err(NOT_ON_CALENDAR); 6], answers);
     assert_eq!(library, second, "minute {minute}: library, second program");
     library
+}
+
+/// The library's date of a minute in a run of so many numbers, each of which is compared. Where it answers, the six calls do.
+pub fn date(minute: u64, length: usize) -> Answer {
+    let before: Vec<u16> = (0..length).map(|at| !(at as u16 % 1_000)).collect();
+    let [mut library, mut second] = [before.clone(), before];
+    let answer = Guarded::lend_numbers(&mut library, |run| eremothyn::date(minute, run));
+    let expected = calendar::date_into(minute, &mut second);
+    assert_eq!(
+        (answer, &library),
+        (expected, &second),
+        "minute {minute} into {length}: library, second program"
+    );
+    if answer.is_ok() {
+        let six: Vec<Answer> = library[..6].iter().map(|&part| Ok(part.into())).collect();
+        assert_eq!(parts(minute)[..], six);
+    }
+    answer
 }
 
 /// The library's minute of a date, compared with the second program's.

@@ -2,10 +2,10 @@
 //! first bytes, as many as the caller likes, and every byte of the buffer is compared after it. The lent bytes end at guard
 //! pages, and the table's are read-only.
 
-use eremothyn::{Answer, Numbers, Table};
+use eremothyn::{Answer, Numbers, Run, Table};
 use guard::{filled, Guarded};
 use second::queue::{room, Queue};
-use second::table::{self, read, Kind};
+use second::table::{self, read, Kind, Rules};
 use std::fmt::Debug;
 
 /// Refusal: not a waiting line of this table, or too little room for one.
@@ -43,6 +43,10 @@ impl<'a> Case<'a> {
         }
     }
 
+    pub fn rules(&self) -> Rules {
+        self.numbers.rules()
+    }
+
     pub fn count(&self) -> usize {
         self.table.entries.len()
     }
@@ -55,6 +59,15 @@ impl<'a> Case<'a> {
     /// As much room as is always enough.
     pub fn enough(&self) -> usize {
         8 * self.count() + 64
+    }
+
+    /// Who stands at a place of a room, which is lent read-only.
+    fn entry(&self, room: &[u8], place: u64) -> Result<Option<u64>, u64> {
+        let room = Guarded::read_only(room);
+        // SAFETY: the call only reads it; one that wrote would die.
+        let run = unsafe { Run::at(room.as_ptr().cast_mut(), room.len() as u64) };
+        let table = Table::of(&self.lent).under(self.numbers);
+        table.queue_entry(run, place)
     }
 
     /// A call that is lent the table and a room.
@@ -117,6 +130,45 @@ impl Compared {
         self.call(case, lent, "pop", pop, second)
     }
 
+    /// A room that is no line of the old table: 28, and no byte changes.
+    pub fn refuses_reload(&self, old: &Case, new: &Case) {
+        let mut after = self.room.clone();
+        let answer = old.ask(&mut after, |table, room| {
+            table.queue_reload(Table::of(&new.lent).under(new.numbers), room)
+        });
+        assert_eq!((answer, after), (Err(NO_LINE), self.room.clone()));
+    }
+
+    /// Who stands at a place. The room is lent read-only.
+    pub fn entry(&self, case: &Case, lent: usize, place: u64) -> Result<Option<u64>, u64> {
+        let expected = match lent < case.least {
+            true => Err(NO_LINE),
+            false => self.queue.entry(&case.table, place),
+        };
+        let answer = case.entry(&self.room[..lent], place);
+        assert_eq!(
+            answer, expected,
+            "entry {place} of {:?}: library, second program",
+            self.queue
+        );
+        answer
+    }
+
+    /// Goes on with a new table, under the old one's numbers.
+    pub fn reload(&mut self, old: &Case, new: &Case, lent: usize) -> Answer {
+        assert_eq!(old.numbers.rules(), new.numbers.rules());
+        let call = |table: Table, room: &mut [u8]| {
+            let new = Table::of(&new.lent).under(new.numbers);
+            table.queue_reload(new, room)
+        };
+        let second = |queue: &mut Queue| match lent < new.least {
+            true => Err(NO_LINE),
+            false => queue.reload(&old.table, &new.table),
+        };
+        let what = format!("reload with \"{}\"", new.bytes.escape_ascii());
+        self.call(old, lent, what, call, second)
+    }
+
     /// A call of both. Then the buffer has the second program's line at its front, or is as it was where that refuses.
     fn call<T: PartialEq + Debug>(
         &mut self,
@@ -151,6 +203,13 @@ impl Compared {
     pub fn assert_waiting(&self, case: &Case) {
         let drained = drain(case, &self.room).expect("a line");
         assert_eq!(drained, self.queue.waiting);
+        // Who stands where, of a long line only at its ends.
+        let end = drained.len() as u64;
+        for place in (0..end + 2).filter(|place| *place < 8 || place + 2 > end) {
+            let named = drained.get(place as usize).copied();
+            assert_eq!(self.entry(case, self.room.len(), place), Ok(named));
+        }
+        assert_eq!(self.entry(case, self.room.len(), u64::MAX), Ok(None));
     }
 }
 
@@ -182,10 +241,15 @@ pub fn refused(table: &[u8], numbers: impl Into<Numbers>, number: u64, room: &[u
         assert_eq!(Guarded::lend(&mut after, refusal), Some(number), "{shown}");
         assert_eq!(after, room, "{shown}");
     };
+    let numbers = numbers.into();
     let lent = Table::of(&lent).under(numbers);
     refused(&|room| lent.queue_init(room).err());
     refused(&|room| lent.queue_tick(room, minute).err());
     refused(&|room| lent.queue_pop(room).err());
+    refused(&|room| lent.queue_entry(room, minute).err());
+    refused(&|room| lent.queue_reload(Table::of(b""), room).err());
+    refused(&|room| lent.queue_reload(lent, room).err());
+    refused(&|room| Table::of(b"").under(numbers).queue_reload(lent, room).err());
 }
 
 /// A room with any bytes: no line, or else some line, and then every call does the same with it. Whether it was a line.
@@ -202,6 +266,14 @@ pub fn judge(case: &Case, room: &[u8], minute: u64) -> bool {
     };
     assert_eq!(line(queue.clone()).tick(case, lent, OFF_CALENDAR), Err(14));
     let _ = line(queue.clone()).pop(case, lent);
+    let before = line(queue.clone());
+    let _ = before.entry(case, lent, minute % (case.count() as u64 + 2));
+    let mut same = line(queue.clone());
+    assert_eq!(
+        same.reload(case, case, lent),
+        Ok(queue.waiting.len() as u64)
+    );
+    assert_eq!(same.room, room);
     let mut ticked = line(queue);
     let _ = ticked.tick(case, lent, minute);
     ticked.assert_waiting(case);
@@ -212,6 +284,11 @@ pub fn judge(case: &Case, room: &[u8], minute: u64) -> bool {
 pub fn refuses(case: &Case, room: &[u8], minutes: &[u64]) {
     let mut after = room.to_vec();
     assert_eq!(case.ask(&mut after, pop), Err(NO_LINE));
+    let reload = |table: Table, room: &mut [u8]| table.queue_reload(table, room);
+    assert_eq!(case.ask(&mut after, reload), Err(NO_LINE));
+    for place in [0, 1, u64::MAX] {
+        assert_eq!(case.entry(room, place), Err(NO_LINE), "{place}");
+    }
     for &minute in minutes {
         let tick = |table: Table, room: &mut [u8]| table.queue_tick(room, minute);
         assert_eq!(case.ask(&mut after, tick), Err(NO_LINE), "{minute}");

@@ -11,7 +11,8 @@ use guard::{filled, Guarded};
 use second::random::Random;
 use second::schedule::samples;
 use second::table::calls::Calls;
-use second::table::{Fault, Kind, Rules, Setting};
+use second::table::{Fault, Kind, Place, Rules, Setting};
+use std::iter;
 
 /// Entry and line numbers that no table has.
 const WILD: [u64; 9] = [
@@ -98,6 +99,21 @@ impl<'a> Compared<'a> {
         self.agree(("next", entry, minute), library, second)
     }
 
+    /// An entry's line, and offset and length of its command.
+    pub fn place(&self, entry: u64) -> Result<Place, u64> {
+        let second = self.second.place(entry);
+        let expected = match second {
+            Ok(Place { line, command }) => {
+                [line, command.offset as u64, command.length as u64].map(Ok)
+            }
+            Err(refusal) => [Err(refusal); 3],
+        };
+        let [offset, length] = self.table().command(entry);
+        let library = [self.table().entry_line(entry), offset, length];
+        let _ = self.agree(("place", entry), library, expected);
+        second
+    }
+
     pub fn stdin_length(&self, entry: u64) -> Result<Option<u64>, u64> {
         let library = self.table().stdin_length(entry);
         let second = self.second.stdin_length(entry);
@@ -127,6 +143,19 @@ impl<'a> Compared<'a> {
         };
         let _ = self.agree(("setting", line), self.table().setting(line), expected);
         second
+    }
+
+    /// The first line from a line on that has a setting.
+    pub fn next_setting(&self, line: u64) -> Answer {
+        let library = self.table().next_setting(line);
+        let second = self.second.next_setting(line);
+        self.agree(("next_setting", line), library, second)
+    }
+
+    /// The lines of all settings, each asked for from the one before.
+    pub fn setting_lines(&self) -> Vec<u64> {
+        let next = |line: u64| self.next_setting(line).ok();
+        iter::successors(next(0), |line| next(line + 1)).collect()
     }
 
     /// Splits a command into two buffers of given lengths. Every byte of both is compared.
@@ -195,14 +224,13 @@ impl<'a> Compared<'a> {
         self.refused_entry(random, wild);
 
         let lines = self.bytes.split(|&byte| byte == b'\n').count() as u64;
-        for line in some(random, lines + 2, LINES) {
-            let _ = self.setting(line);
-        }
-        for line in [1 << 32, (1 << 32) + 1, u64::MAX] {
-            let _ = self.setting(line);
-        }
         let high = 1 << (15 + random.below(49));
-        let _ = self.setting(high + random.below(lines + 1));
+        let high = high + random.below(lines + 1);
+        let wild = [1 << 32, (1 << 32) + 1, u64::MAX, high];
+        for line in some(random, lines + 2, LINES).into_iter().chain(wild) {
+            let _ = self.setting(line);
+            let _ = self.next_setting(line);
+        }
 
         let span = spans::near(random);
         let rooms = [(); 2].map(|_| random.below(20) as usize);
@@ -227,6 +255,7 @@ impl<'a> Compared<'a> {
         let room = random.below(20) as usize;
         let _ = self.firings(entry, span, room);
         let _ = self.user_column(entry);
+        let _ = self.place(entry);
         let _ = self.stdin_length(entry);
         self.split_into_all(entry);
     }
@@ -238,6 +267,7 @@ impl<'a> Compared<'a> {
         assert!(self.next(entry, minute).is_err());
         assert!(self.firings(entry, [minute, minute], 2).is_err());
         assert!(self.user_column(entry).is_err());
+        assert!(self.place(entry).is_err());
         assert!(self.stdin_length(entry).is_err());
         assert!(self.split_command(entry, [20, 20]).is_err());
         assert!(self.split_command(entry, [0, 0]).is_err());

@@ -1,7 +1,7 @@
 //! The calendar of the library, through its C functions, against the second program's closed forms and its clock.
 //! `date`s here are rows of year, month, day, hour and minute.
 
-use compare::calendar::{answers, minute_of, parts};
+use compare::calendar::{answers, date, minute_of, parts};
 use compare::samples;
 use eremothyn::Answer;
 use second::calendar::{Clock, LAST_MINUTE};
@@ -233,6 +233,26 @@ fn every_minute_of_some_days_goes_there_and_back() {
             assert_eq!(shown[3..5], [Ok(of_day / 60), Ok(of_day % 60)]);
         }
     }
+}
+
+/// All six parts in one call, in runs of every length about six: 14 comes before 18.
+#[test]
+fn whole_dates() {
+    let mut random = Random::seeded();
+    let ends = [0, 1, 1_439, LAST_MINUTE - 1, LAST_MINUTE];
+    for length in 0..10 {
+        let expected = if length < 6 { Err(18) } else { Ok(6) };
+        let drawn = [(); 2_000].map(|_| random.below(LAST_MINUTE + 1));
+        for minute in ends.into_iter().chain(drawn) {
+            assert_eq!(date(minute, length), expected);
+        }
+        for minute in [LAST_MINUTE + 1, 1 << 32, (1 << 32) + 7, 1 << 63, u64::MAX] {
+            assert_eq!(date(minute, length), Err(14));
+        }
+    }
+    let mut run = [7; 7];
+    assert_eq!(eremothyn::date(29_911_830, &mut run[..]), Ok(6));
+    assert_eq!(run, [2026, 11, 15, 2, 30, 0, 7]);
 }
 
 #[test]

@@ -44,6 +44,25 @@ fn whole_run(case: &Case) {
     }
 }
 
+/// Who stands where, without removing anyone.
+#[test]
+fn who_waits() {
+    in_both_kinds("* * * * * ~a\n@reboot ~b\n0 * * * * ~c\n", |case| {
+        let room = case.enough();
+        let mut line = Compared::fresh(case, room);
+        let standing = |line: &Compared| [0, 1, 2, 3].map(|place| line.entry(case, room, place));
+        assert_eq!(standing(&line), [Some(1), None, None, None].map(Ok));
+        assert_eq!(line.tick(case, room, 60), Ok(2));
+        assert_eq!(standing(&line), [Some(1), Some(0), Some(2), None].map(Ok));
+        assert_eq!(line.pop(case, room), Ok(Some(1)));
+        assert_eq!(standing(&line), [Some(0), Some(2), None, None].map(Ok));
+        for place in [1 << 16, 1 << 32, (1 << 32) + 1, u64::MAX] {
+            assert_eq!(line.entry(case, room, place), Ok(None));
+        }
+        assert_eq!(line.entry(case, case.least - 1, 0), Err(28));
+    });
+}
+
 #[test]
 fn a_waiting_entry_joins_no_second_time() {
     in_both_kinds("@reboot ~a\n* * * * * ~b\n* * * * * ~c\n", |case| {

@@ -1,5 +1,6 @@
 //! Minutes and dates.
 
+use crate::Run;
 use second::answer::{from_c, Answer};
 
 /// Refusal: minute or date not on the calendar.
@@ -20,6 +21,17 @@ unsafe extern "C" {
     safe fn eremothyn_hour(minute: u64) -> u64;
     safe fn eremothyn_minute_of_hour(minute: u64) -> u64;
     safe fn eremothyn_weekday(minute: u64) -> u64;
+}
+
+unsafe extern "C" {
+    fn eremothyn_date(minute: u64, run: *mut u16, run_length: u64) -> u64;
+}
+
+/// All six parts at the front of a run: how many they are.
+pub fn date<'r>(minute: u64, run: impl Into<Run<'r, u16>>) -> Answer {
+    let run = run.into();
+    // SAFETY: the run has as many numbers as its length says.
+    from_c(unsafe { eremothyn_date(minute, run.start, run.length) })
 }
 
 pub fn minute_of_date(year: u64, month: u64, day: u64, hour: u64, minute: u64) -> Answer {

@@ -128,6 +128,9 @@ functions_of_a_table! {
         entries: *mut u16,
         entries_length: u64
     );
+    eremothyn_entry_line(entry: u64);
+    eremothyn_command_offset(entry: u64);
+    eremothyn_command_length(entry: u64);
     eremothyn_split_command(
         entry: u64, shell: *mut u8, shell_length: u64, input: *mut u8, input_length: u64
     );
@@ -142,9 +145,48 @@ functions_of_a_table! {
     eremothyn_setting_name_length(line: u64);
     eremothyn_setting_value_offset(line: u64);
     eremothyn_setting_value_length(line: u64);
+    eremothyn_next_setting(line: u64);
     eremothyn_queue_init(room: *mut u8, room_length: u64);
     eremothyn_queue_tick(room: *mut u8, room_length: u64, minute: u64);
     eremothyn_queue_pop(room: *mut u8, room_length: u64);
+    eremothyn_queue_entry(room: *const u8, room_length: u64, place: u64);
+}
+
+unsafe extern "C" {
+    fn eremothyn_queue_reload(
+        old_table: *const u8,
+        old_length: u64,
+        new_table: *const u8,
+        new_length: u64,
+        kind: u64,
+        dialect: u64,
+        room: *mut u8,
+        room_length: u64,
+    ) -> u64;
+}
+
+impl Table<'_> {
+    /// Two tables in one call, which both have this one's numbers.
+    pub(crate) unsafe fn eremothyn_queue_reload(
+        self,
+        new: Table,
+        room: *mut u8,
+        room_length: u64,
+    ) -> u64 {
+        let Numbers { kind, dialect } = self.numbers;
+        unsafe {
+            eremothyn_queue_reload(
+                self.start,
+                self.length,
+                new.start,
+                new.length,
+                kind,
+                dialect,
+                room,
+                room_length,
+            )
+        }
+    }
 }
 
 // These take a user table, whatever the table's kind is.

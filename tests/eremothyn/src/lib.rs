@@ -9,7 +9,7 @@ mod run;
 mod table;
 
 pub use calendar::{
-    day, hour, minute_of_date, minute_of_hour, month, weekday, year, NOT_ON_CALENDAR,
+    date, day, hour, minute_of_date, minute_of_hour, month, weekday, year, NOT_ON_CALENDAR,
 };
 pub use declared::{Numbers, Table};
 pub use records::Records;

@@ -46,6 +46,19 @@ impl Table<'_> {
         })
     }
 
+    pub fn entry_line(self, entry: u64) -> Answer {
+        from_c(unsafe { self.eremothyn_entry_line(entry) })
+    }
+
+    /// Offset and length of an entry's command.
+    pub fn command(self, entry: u64) -> [Answer; 2] {
+        let parts = [
+            Table::eremothyn_command_offset,
+            Table::eremothyn_command_length,
+        ];
+        parts.map(|part| from_c(unsafe { part(self, entry) }))
+    }
+
     /// The length of an entry's input; none is "no input".
     pub fn stdin_length(self, entry: u64) -> Result<Option<u64>, u64> {
         some_from_c(unsafe { self.eremothyn_stdin_length(entry) })
@@ -74,6 +87,11 @@ impl Table<'_> {
     pub fn compile<'r>(self, records: impl Into<Run<'r>>) -> Answer {
         let records = records.into();
         from_c(unsafe { self.eremothyn_compile(records.start, records.length) })
+    }
+
+    /// The first line from a line on that has a setting.
+    pub fn next_setting(self, line: u64) -> Answer {
+        from_c(unsafe { self.eremothyn_next_setting(line) })
     }
 
     /// Name offset, name length, value offset and value length of a line's setting.

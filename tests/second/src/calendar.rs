@@ -1,8 +1,13 @@
 //! The paper's section "The calendar", by two methods that share nothing: closed forms from minute to date and back,
 //! and a clock that carries from one day to the next.
 
+use crate::answer::Answer;
+
 /// 9999-12-31 23:59.
 pub const LAST_MINUTE: u64 = 4_223_371_679;
+
+const NOT_ON_CALENDAR: u64 = 14;
+const TOO_SHORT: u64 = 18;
 
 const MINUTES_PER_DAY: u64 = 1_440;
 
@@ -29,6 +34,16 @@ impl Date {
             self.weekday,
         ]
     }
+}
+
+/// Year, month, day, hour, minute and weekday at the front of a run: 6, or 14, or 18 where there are fewer places.
+pub fn date_into(minute: u64, run: &mut [u16]) -> Answer {
+    let date = date_of(minute).ok_or(NOT_ON_CALENDAR)?;
+    let places = run.get_mut(..6).ok_or(TOO_SHORT)?;
+    for (place, part) in places.iter_mut().zip(date.parts()) {
+        *place = part as u16;
+    }
+    Ok(6)
 }
 
 /// The date of a minute, or none if the minute is off the calendar.

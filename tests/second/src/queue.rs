@@ -2,6 +2,7 @@
 //! about minute by minute.
 
 pub mod known;
+mod reload;
 pub mod room;
 
 use crate::answer::Answer;
@@ -92,6 +93,17 @@ impl Queue {
             self.mark = Some(minute);
         }
         Ok(joiners.len() as u64)
+    }
+
+    /// Who stands at a place, 0 the front; none from the end on.
+    pub fn entry(&self, table: &Table, place: u64) -> Result<Option<u64>, u64> {
+        if !self.is_line_of(table) {
+            return Err(NO_LINE);
+        }
+        let mut waiting = (0..).zip(&self.waiting);
+        Ok(waiting
+            .find(|&(at, _)| at == place)
+            .map(|(_, &entry)| entry))
     }
 
     /// Requests an entry; none is "nothing waits".

@@ -56,9 +56,19 @@ const TOO_LONG: Fault = Fault {
 
 #[derive(Clone, Debug, Default)]
 pub struct Table<'a> {
+    pub bytes: &'a [u8],
     pub entries: Vec<Entry<'a>>,
+    /// Where each entry stands.
+    pub places: Vec<Place>,
     /// Each with the number of its line, rising.
     pub settings: Vec<(u64, Setting)>,
+}
+
+/// An entry's line, from 1, and its command as it stands there.
+#[derive(Clone, Copy, Debug, PartialEq, Eq)]
+pub struct Place {
+    pub line: u64,
+    pub command: Part,
 }
 
 #[derive(Clone, Debug, PartialEq, Eq)]
@@ -135,7 +145,10 @@ pub fn read(bytes: &[u8], rules: impl Into<Rules>) -> Result<Table<'_>, Fault> {
     if bytes.len() > TABLE_BYTES {
         return Err(TOO_LONG);
     }
-    let mut table = Table::default();
+    let mut table = Table {
+        bytes,
+        ..Table::default()
+    };
     let mut start = 0;
     let mut offset = 0;
     for (before, line) in lines(bytes).enumerate() {
@@ -154,17 +167,32 @@ pub fn read(bytes: &[u8], rules: impl Into<Rules>) -> Result<Table<'_>, Fault> {
             Line::Entry(_) if table.entries.len() == ENTRIES => {
                 return Err(fault(Bad(TOO_MANY_ENTRIES, 0)));
             }
-            Line::Entry(entry) => table.entries.push(Entry {
-                column: entry.column.later(start),
-                offset,
-                ..entry
-            }),
+            Line::Entry(entry) => {
+                table.places.push(place(number, start + line.len(), &entry));
+                table.entries.push(Entry {
+                    column: entry.column.later(start),
+                    offset,
+                    ..entry
+                });
+            }
         }
         start += line.len() + 1;
     }
     match unended(bytes) {
         Some(fault) => Err(fault),
         None => Ok(table),
+    }
+}
+
+/// Where an entry stands, by its line and where that ends: its command ends there, too.
+fn place(line: u64, end: usize, entry: &Entry) -> Place {
+    let length = entry.command.len();
+    Place {
+        line,
+        command: Part {
+            offset: end - length,
+            length,
+        },
     }
 }
 
@@ -502,7 +530,7 @@ fn cut(text: &[u8], byte: u8) -> (&[u8], Option<&[u8]>) {
 
 impl Part {
     /// The bytes, of the line or the table that the offset counts in.
-    fn of(self, bytes: &[u8]) -> &[u8] {
+    pub fn of(self, bytes: &[u8]) -> &[u8] {
         &bytes[self.offset..self.offset + self.length]
     }
 

@@ -1,6 +1,7 @@
 //! Every function that is lent a table.
 
 use crate::{numbers, rooms};
+use compare::calendar;
 use compare::records;
 use compare::samples;
 use compare::table::Compared;
@@ -39,7 +40,11 @@ fn any_numbers(random: &mut Random, compared: &Compared) {
         let _ = compared.merged_firings(span, [(); 2].map(|_| random.below(6) as usize));
         let _ = compared.stdin_length(entry);
         let _ = compared.user_column(entry);
-        let _ = compared.setting(numbers::number(random, count));
+        let _ = compared.place(entry);
+        let line = numbers::number(random, count);
+        let _ = compared.setting(line);
+        let _ = compared.next_setting(line);
+        let _ = calendar::date(minute, random.below(10) as usize);
         let about = compared.needed(entry).map(|needed| {
             let length = needed as u64 + random.below(5);
             length.saturating_sub(2) as usize

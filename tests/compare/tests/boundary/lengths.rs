@@ -1,7 +1,8 @@
 //! Lent lengths that are 0, or little, in their low 8, 16 or 32 bits.
 
 use crate::raw::{
-    all_numbers, decompiled, fit, judged, lists, queue_answers, split, table_answers, texts, Place,
+    all_numbers, date, decompiled, entry_answers, fit, judged, line_answers, lists, queue_answers,
+    split, texts, Place,
 };
 use compare::queue::{Case, Compared as Line};
 use compare::records;
@@ -51,10 +52,14 @@ fn vast_tables() {
         for numbers in all_numbers() {
             let table = Place(table.start(), length).table().under(numbers);
             assert_eq!(judged(table), (TOO_LONG, 0, 0));
-            assert_eq!(table_answers(table, 0, 3), [TOO_LONG; 13]);
+            assert_eq!(entry_answers(table, 0), [TOO_LONG; 12]);
+            assert_eq!(line_answers(table, 3), [TOO_LONG; 5]);
             assert_eq!(split(table, 0, other, Place::of(b"")), TOO_LONG);
             assert_eq!(lists(table, 0, [other, Place::of(b"")]), [Err(1); 2]);
-            assert_eq!(queue_answers(table, other), [TOO_LONG; 3]);
+            assert_eq!(queue_answers(table, other), [TOO_LONG; 5]);
+            let good = Place::of(b"@reboot a b\n").table().under(numbers);
+            assert_eq!(good.queue_reload(table, other.run()), TOO_LONG);
+            assert_eq!(table.queue_reload(good, other.run()), TOO_LONG);
             assert_eq!(texts(table, [other; 2]), [TOO_LONG; 2]);
             assert_eq!(texts(table, [Place::of(b""); 2]), [TOO_LONG; 2]);
         }
@@ -76,7 +81,8 @@ fn vast_buffers_and_rooms() {
             runs.each_mut().map(|vast| Place(vast.start(), VAST + more));
         let compiled = compiled(bytes).expect("a good table");
         assert_eq!(split(table, 0, shell, input), Ok(1));
-        assert_eq!(queue_answers(table, room), [Ok(1), Ok(1), Ok(0)]);
+        let answers = [Ok(1), Ok(1), Ok(0), Ok(2), Ok(0)];
+        assert_eq!(queue_answers(table, room), answers);
         let lengths = [bytes.len(), compiled.len()].map(|length| Ok(length as u64));
         assert_eq!(texts(table, [text, records]), lengths);
         let [shell, input, _, text, records] = &mut runs;
@@ -87,6 +93,19 @@ fn vast_buffers_and_rooms() {
             records.page()[..=compiled.len()],
             [&compiled[..], b"\0"].concat()
         );
+    }
+}
+
+/// Six numbers of a vast run are touched.
+#[test]
+fn a_date_in_a_vast_run() {
+    for places in [VAST - 1, VAST, VAST + 1] {
+        let mut run = Vast::of(&[0x55; 16]);
+        assert_eq!(date(0, Place(run.start(), places)), Ok(6));
+        let expected = *b"\xb2\x07\x01\0\x01\0\0\0\0\0\x04\0\x55\x55\x55\x55";
+        assert_eq!(run.page()[..16], expected);
+        assert_eq!(date(u64::MAX, Place(run.start(), places)), Err(14));
+        assert_eq!(run.page()[..16], expected);
     }
 }
 

@@ -1,11 +1,13 @@
 //! A null pointer with length 0 is an empty run of bytes like any other, for every pointer of every function.
 
 use crate::raw::{
-    all_numbers, decompiled, fit, judged, lists, queue_answers, split, table_answers, texts, Place,
+    all_numbers, date, decompiled, entry_answers, fit, judged, line_answers, lists, queue_answers,
+    split, texts, Place,
 };
 use compare::queue::Case;
 use eremothyn::{Answer, Table, REFUSED};
 use guard::Guarded;
+use second::calendar::LAST_MINUTE;
 use std::ptr;
 
 const NO_ENTRY: Answer = Err(13);
@@ -30,9 +32,8 @@ fn no_table() {
             assert_eq!(texts(table, [Place::of_mut(&mut bytes); 2]), [Ok(0); 2]);
             assert_eq!(bytes, [7]);
             for number in [0, 1, u64::MAX] {
-                let answers = table_answers(table, number, number);
-                assert_eq!(answers[..9], [NO_ENTRY; 9]);
-                assert_eq!(answers[9..], [NO_SETTING; 4]);
+                assert_eq!(entry_answers(table, number), [NO_ENTRY; 12]);
+                assert_eq!(line_answers(table, number), [NO_SETTING; 5]);
                 assert_eq!(lists(table, number, [empty; 2]), [Err(13), fit(0, false)]);
                 let mut bytes = [7];
                 for buffer in [empty, Place::of_mut(&mut bytes)] {
@@ -155,13 +156,48 @@ fn no_room() {
     let least = Case::of(b"").least;
     for_each_empty(|empty| {
         for numbers in all_numbers() {
-            assert_eq!(queue_answers(entry.under(numbers), empty), [NO_LINE; 3]);
+            assert_eq!(queue_answers(entry.under(numbers), empty), [NO_LINE; 5]);
             // A table without entries has a line, too, and its mark needs room.
             let table = empty.table().under(numbers);
             let mut room = vec![7; least];
             let answers = queue_answers(table, Place::of_mut(&mut room));
-            assert_eq!(answers, [Ok(0), Ok(0), Ok(REFUSED)]);
-            assert_eq!(queue_answers(table, empty), [NO_LINE; 3]);
+            let none = Ok(REFUSED);
+            assert_eq!(answers, [Ok(0), Ok(0), none, Ok(0), none]);
+            assert_eq!(queue_answers(table, empty), [NO_LINE; 5]);
         }
+    });
+}
+
+/// A reload from no table to one, and back.
+#[test]
+fn no_table_before_or_after() {
+    let entry = Guarded::read_only(b"@reboot a b\n");
+    let entry = Place::of(&entry).table();
+    for_each_empty(|empty| {
+        for numbers in all_numbers() {
+            let none = empty.table().under(numbers);
+            let some = entry.under(numbers);
+            let mut room = vec![7; 100];
+            let place = Place::of_mut(&mut room);
+            assert_eq!(none.queue_init(place.run()), Ok(0));
+            assert_eq!(none.queue_reload(some, place.run()), Ok(0));
+            assert_eq!(some.queue_init(place.run()), Ok(1));
+            assert_eq!(some.queue_reload(some, place.run()), Ok(1));
+            assert_eq!(some.queue_reload(none, place.run()), Ok(0));
+            assert_eq!(none.queue_reload(none, place.run()), Ok(0));
+            for (old, new) in [(none, none), (none, some), (some, none)] {
+                assert_eq!(old.queue_reload(new, empty.run()), NO_LINE);
+            }
+        }
+    });
+}
+
+#[test]
+fn no_run_for_a_date() {
+    for_each_empty(|empty| {
+        assert_eq!(date(0, empty), TOO_SHORT);
+        assert_eq!(date(LAST_MINUTE, empty), TOO_SHORT);
+        assert_eq!(date(LAST_MINUTE + 1, empty), Err(14));
+        assert_eq!(date(u64::MAX, empty), Err(14));
     });
 }

@@ -44,14 +44,21 @@ pub fn number(answer: Result<Option<u64>, u64>) -> Answer {
     answer.map(|some| some.unwrap_or(eremothyn::REFUSED))
 }
 
-/// Due, next and the input's length of an entry; the six numbers of its user column; the four parts of a setting.
-pub fn table_answers(table: Table, entry: u64, line: u64) -> [Answer; 13] {
+/// Due, next, the input's length, the line and the command of an entry, and the six numbers of its user column.
+pub fn entry_answers(table: Table, entry: u64) -> [Answer; 12] {
     let due = table.due(entry, 0);
     let next = table.next(entry, 0);
     let input = number(table.stdin_length(entry));
+    let line = table.entry_line(entry);
+    let [offset, length] = table.command(entry);
     let [a, b, c, d, e, f] = table.user_column(entry);
-    let [g, h, i, j] = table.setting(line);
-    [due, next, input, a, b, c, d, e, f, g, h, i, j]
+    [due, next, input, line, offset, length, a, b, c, d, e, f]
+}
+
+/// The four parts of a line's setting, and the first line from it on that has one.
+pub fn line_answers(table: Table, line: u64) -> [Answer; 5] {
+    let [a, b, c, d] = table.setting(line);
+    [a, b, c, d, table.next_setting(line)]
 }
 
 /// Check, fault line and fault column.
@@ -90,11 +97,19 @@ pub fn fit(count: u64, more: bool) -> Result<Filled, u64> {
     Ok(Filled { count, more })
 }
 
-/// A fresh line, minute 0 announced, and a request.
-pub fn queue_answers(table: Table, room: Place) -> [Answer; 3] {
+/// A fresh line, minute 0 announced, who stands at the front, the same table again, and a request.
+pub fn queue_answers(table: Table, room: Place) -> [Answer; 5] {
     [
         table.queue_init(room.run()),
         table.queue_tick(room.run(), 0),
+        number(table.queue_entry(room.run(), 0)),
+        table.queue_reload(table, room.run()),
         number(table.queue_pop(room.run())),
     ]
+}
+
+/// The date of a minute, in a run whose places count numbers.
+pub fn date(minute: u64, run: Place) -> Answer {
+    let run = unsafe { Run::at(run.0.cast::<u16>(), run.1) };
+    eremothyn::date(minute, run)
 }

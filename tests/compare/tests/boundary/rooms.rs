@@ -41,12 +41,31 @@ fn near(random: &mut Random, least: usize) -> usize {
 fn every_call_in(random: &mut Random, case: &Case, length: usize) -> bool {
     let room = room(random, case, length);
     let is_line = judge(case, &room, numbers::minute(random));
+    reloaded(random, case, &room);
     let queue = Queue::default();
     let mut line = Compared { room, queue };
     if line.init(case, length).is_ok() {
         line.assert_waiting(case);
     }
     is_line
+}
+
+/// A reload with another table, in a room that may be a line.
+fn reloaded(random: &mut Random, case: &Case, room: &[u8]) {
+    let entries = random.below(case.count().min(20) as u64 + 3);
+    let table = busy_table(random, case.rules(), entries);
+    let new = Case::under(&table, case.rules());
+    let mut line = Compared {
+        room: room.to_vec(),
+        queue: Queue::default(),
+    };
+    match Queue::in_room(room, case.count()) {
+        Some(queue) => {
+            line.queue = queue;
+            let _ = line.reload(case, &new, room.len());
+        }
+        None => line.refuses_reload(case, &new),
+    }
 }
 
 /// So many bytes: any, all alike, a line, or a damaged one. A line is cut off where there is too little room.

@@ -5,6 +5,7 @@ mod cuts;
 mod fields;
 mod known;
 mod normal;
+mod places;
 mod random;
 mod refusals;
 mod settings;

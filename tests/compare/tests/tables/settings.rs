@@ -1,6 +1,9 @@
 //! Settings, shown as parts of the table.
 
+use compare::samples::{any_rules, numbers};
 use compare::table::Compared;
+use second::random::Random;
+use second::table::{samples, Rules};
 
 /// Name and value of a line, with where they start in the table, which is good in both kinds or bad in both.
 fn shown(table: &str, line: u64) -> Result<[(usize, &str); 2], u64> {
@@ -128,6 +131,46 @@ fn every_line_of_a_long_table() {
         for line in 0..2_003 {
             let expected = line % 3 == 0 && (1..=2_000).contains(&line);
             assert_eq!(compared.setting(line).is_ok(), expected, "line {line}");
+            let next = line.max(1).next_multiple_of(3);
+            let next = Some(next).filter(|&next| next <= 2_000).ok_or(19);
+            assert_eq!(compared.next_setting(line), next, "line {line}");
         }
     }
+}
+
+#[test]
+fn the_next_setting() {
+    let table = "# a\nA=b\n\n* * * * * c d\nE=f\nG='h'\n@daily i j\n";
+    for rules in Rules::ALL {
+        let compared = Compared::under(table.as_bytes(), rules);
+        let rows = [2, 2, 2, 5, 5, 5, 6];
+        for (line, next) in (0..).zip(rows) {
+            assert_eq!(compared.next_setting(line), Ok(next), "line {line}");
+        }
+        for line in [7, 8, 9, 1 << 32, (1 << 32) + 2, 1 << 63, u64::MAX] {
+            assert_eq!(compared.next_setting(line), Err(19), "line {line}");
+        }
+        assert_eq!(compared.setting_lines(), [2, 5, 6]);
+    }
+    for table in ["", "\n", "# a\n", "@daily a b\n"] {
+        assert_eq!(Compared::of(table.as_bytes()).next_setting(0), Err(19));
+    }
+}
+
+/// The loop has the lines that have a setting when each is asked about.
+#[test]
+fn all_settings_by_a_loop() {
+    let mut random = Random::seeded();
+    let mut settings = 0;
+    for _ in 0..2_000 {
+        let rules = any_rules(&mut random);
+        let lines = random.below(20);
+        let table = samples::table(&mut random, rules, lines);
+        let compared = Compared::under(&table, numbers(&mut random, rules));
+        let asked = (0..lines + 3).filter(|&line| compared.setting(line).is_ok());
+        let asked: Vec<u64> = asked.collect();
+        assert_eq!(compared.setting_lines(), asked);
+        settings += asked.len();
+    }
+    assert!(settings > 1_000, "{settings} settings");
 }

@@ -146,3 +146,40 @@ fn rooms_without_a_line() {
     assert_eq!(Queue::in_room(&[0; 80], 2), None);
     assert_eq!(Queue::in_room(&[], 0), None);
 }
+
+/// Who waits after a reload, by hand: moved, gone, of the same meaning, and of another clock.
+#[test]
+fn reloads() {
+    let rows: [(&str, &str, &[u64], &[u64]); 5] = [
+        ("@daily a\n@daily b\n", "@daily b\n@daily a\n", &[0], &[1]),
+        ("@daily a\n@daily b\n", "0 0 * * * b\n", &[0, 1], &[0]),
+        (
+            "@daily a\n@daily a\n",
+            "@reboot a\n@daily a\n@daily a\n",
+            &[1, 0],
+            &[2, 1],
+        ),
+        ("@daily a\n", "CRON_TZ=+01:00\n@daily a\n", &[0], &[]),
+        ("* 0 * * * a\n", "0-59 0 * * * a\n", &[0], &[]),
+    ];
+    for (old, new, before, after) in rows {
+        let [old, new] = [old, new].map(|text| read(text.as_bytes(), Kind::User).expect("good"));
+        let mut queue = Queue {
+            waiting: before.to_vec(),
+            mark: Some(7),
+        };
+        assert_eq!(queue.reload(&old, &new), Ok(after.len() as u64));
+        assert_eq!(queue.waiting, after);
+        assert_eq!(queue.mark, Some(7));
+        let places = [0, 1, 2].map(|place| queue.entry(&new, place));
+        let standing = [0, 1, 2].map(|place| Ok(after.get(place).copied()));
+        assert_eq!(places, standing);
+    }
+    let table = read(b"@daily a\n", Kind::User).expect("good");
+    let mut queue = Queue {
+        waiting: vec![1],
+        mark: None,
+    };
+    assert_eq!(queue.reload(&table, &table), Err(NO_LINE));
+    assert_eq!(queue.entry(&table, 0), Err(NO_LINE));
+}

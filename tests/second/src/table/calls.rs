@@ -1,6 +1,6 @@
 //! The paper's "What comes back": the calls with a table, each with its refusals in their order.
 
-use super::{read, Entry, Fault, Rules, Setting, Table};
+use super::{read, Entry, Fault, Place, Rules, Setting, Table};
 use crate::answer::Answer;
 use crate::calendar::LAST_MINUTE;
 use crate::command::{split, Command};
@@ -86,6 +86,18 @@ impl<'a> Calls<'a> {
 
     pub fn setting(&self, line: u64) -> Result<Setting, u64> {
         self.good()?.setting(line).ok_or(NO_SETTING)
+    }
+
+    /// The first line from a line on that has a setting.
+    pub fn next_setting(&self, line: u64) -> Answer {
+        let mut lines = self.good()?.settings.iter().map(|&(of, _)| of);
+        lines.find(|&of| of >= line).ok_or(NO_SETTING)
+    }
+
+    /// Where an entry stands.
+    pub fn place(&self, entry: u64) -> Result<Place, u64> {
+        let _ = self.entry(entry)?;
+        Ok(self.good()?.places[entry as usize])
     }
 
     pub(super) fn good(&self) -> Result<&Table<'a>, u64> {

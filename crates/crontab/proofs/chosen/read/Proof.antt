@@ -14,7 +14,7 @@ use Rattle.crontab.specs.Limits.{maxEntries}
 use Rattle.crontab.specs.Items.{itemsOf}
 use Rattle.crontab.specs.Steps.{itemsAt, Reached}
 use Rattle.crontab.specs.Tables.{noEntries, refusedTable, emptyTable, withItems, tableOf}
-use Rattle.crontab.specs.Choices.{dateUnder, markWords, choice, chosenIn}
+use Rattle.crontab.specs.Choices.{isChosen, dateUnder, markWords, choice, chosenBy}
 use Rattle.crontab.proofs.Tables.{good}
 use Rattle.crontab.proofs.Items.{items-start, start-reached, items-end}
 use Rattle.crontab.proofs.Walks.{count-entry, count-setting, count-nothing, entry-under, entry-room, table-here, table-setting, table-nothing, table-refused}
@@ -28,7 +28,7 @@ Inv-loop s rules which marks₀ c₀ date₀ marks c date =
     (es : List Entry)
     × (withItems (good (c .count) es) (itemsAt rules s c) ≡ tableOf rules s)
     × (length es ≡ maxEntries)
-    × (marks ≡ marksOf markWords (choice which es) (c .count))
+    × (marks ≡ marksOf markWords (choice (isChosen which) es) (c .count))
     × Reached s c
     × (date ≡ dateUnder which (c .offset))
 
@@ -63,7 +63,7 @@ returns-2 c =
     let inv = c .before .before .before .before .before .before .before .before .before .before .before .loop .inv in
     c .refused2 .ensures
     ∙ chosen-refused _ _ _ _
-    ∙ ap (chosenIn _) (table-refused (c .before .before .before .before .before .before .before .advance .ensures) (inv .0) (c .before .before .item .given .1) ∙ inv .1)
+    ∙ ap (chosenBy _) (table-refused (c .before .before .before .before .before .before .before .advance .ensures) (inv .0) (c .before .before .item .given .1) ∙ inv .1)
 
 is-chosen-requires : tie.Need-is-chosen-requires Inv-loop μ-loop
 is-chosen-requires c κs =
@@ -111,7 +111,7 @@ loop-again-3 c =
     (inv .0, table-nothing step (inv .0) is ∙ inv .1, inv .2, rw (count-nothing step is) (inv .3), step .reached, date-kept _ (a .result .next .offset) (step .reached .zone) (c .before .before .moved-on .ensures))
 
 returns-3 : tie.Need-returns-3 Inv-loop μ-loop
-unfolding withItems chosenIn
+unfolding withItems chosenBy
 returns-3 c =
     let inv = c .before .before .loop .inv in
     rw (← (rw (items-end _ _ (c .before .before .loop .c) (c .if2 .left)) at (inv .1)), inv .3)

@@ -1,0 +1,16 @@
+-- `eremothyn::queue::eremothyn_queue_reload` meets its contract, by what the run queue promises.
+-- Assumes nothing.
+use mathlib.Core.Path.{ap, _∙_}
+use borrow.Author.Needs.{needs}
+use Rattle.eremothyn.specs.Queue.{tickNumber}
+use Rattle.eremothyn.proofs.queue.eremothyn_queue_reload.Statement.{statement}
+use Rattle.eremothyn.proofs.queue.eremothyn_queue_reload.Tie as tie
+
+returns : tie.Need-returns
+returns c =
+    let e = c .before .before .before .before .before .rules-of .ensures in
+    rw (← e) (c .ticked-number .ensures ∙ ap tickNumber (c .before .before .before .reload .ensures .0), c .before .before .before .reload .ensures .1)
+
+pub eremothyn-queue-reload-spec : {M : Type 1} → statement M
+eremothyn-queue-reload-spec =
+    tie.close (tie.spec (λ c κs. search needs) (λ c κs. search needs) (λ c κs. search needs) (λ c. search needs) returns)

@@ -1,0 +1,5 @@
+pub mod Duties
+pub mod Targets
+pub mod Reloads
+pub mod Exits
+pub mod Theorems

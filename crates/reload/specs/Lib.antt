@@ -1,0 +1,5 @@
+pub mod Duties
+pub mod Steps
+pub mod Targets
+pub mod Calls
+pub mod Computing

@@ -1,0 +1,299 @@
+/*
+ * A site's daemon, the whole loop, to be copied: the real clock, sleep, a crontab that changes, a log. POSIX.
+ *
+ *     site_daemon [-s] [-w] [-j N] [-c CLOCK] FILE
+ *
+ * -s and -w say that FILE is a system table, and in the wrapping dialect. At most N jobs start in a minute, 1 without -j.
+ * SIGHUP reads FILE again: who waits goes on waiting, and a table that has become bad is told, and the old one stays in
+ * force. SIGTERM and SIGINT end it. The log is standard output. What is left to the site is one function, start_job.
+ *
+ * -c is for tests: CLOCK is a file or a pipe of minutes, one on each line, instead of the clock; at its end the daemon ends.
+ */
+
+#define _POSIX_C_SOURCE 200809L
+#include <fcntl.h>
+#include <inttypes.h>
+#include <signal.h>
+#include <stdbool.h>
+#include <stdint.h>
+#include <stdio.h>
+#include <stdlib.h>
+#include <string.h>
+#include <sys/select.h>
+#include <time.h>
+#include <unistd.h>
+
+#include "eremothyn.h"
+#include "log.h"
+#include "table_file.h"
+
+/*
+ * How many minutes it sleeps at most, so that it soon sees when somebody sets the clock; and how late it may wake and still
+ * announce every minute that it slept through. Further off is a jump: the minute that the clock shows is announced alone,
+ * and the queue's mark makes up for jobs with set times of the day.
+ */
+enum { SLEEP_MOST = 5, LATE_MOST = 15 };
+
+struct site {
+    const char *name;
+    struct table_file *table;
+    uint64_t kind, dialect, pace;
+    uint8_t queue[EREMOTHYN_ROOM(EREMOTHYN_MAX_ENTRIES)];
+    uint64_t waiting;                      /* how many stand in the queue */
+    uint64_t since[EREMOTHYN_MAX_ENTRIES]; /* and since which minute, the front first */
+    uint64_t minute;                       /* the last that was announced */
+    int clock;                             /* -1 is the real one */
+};
+
+/* What every call gets of a table. */
+#define TABLE(site) (site)->table->bytes, (site)->table->length, (site)->kind, (site)->dialect
+
+static volatile sig_atomic_t shall_reload, shall_end;
+
+static void on_signal(int signal)
+{
+    shall_reload = shall_reload || signal == SIGHUP;
+    shall_end = shall_end || signal != SIGHUP;
+}
+
+/* Whether an answer is a refusal, which is told. None is expected of a good table and a clock on the calendar. */
+static bool is_refused(const struct site *site, const char *call, uint64_t answer)
+{
+    if (EREMOTHYN_IS_REFUSED(answer)) {
+        print_date(site->minute);
+        printf("  %s: refused %" PRIu64 ": %s\n", call, EREMOTHYN_REFUSAL(answer), eremothyn_words(EREMOTHYN_REFUSAL(answer)));
+    }
+    return EREMOTHYN_IS_REFUSED(answer);
+}
+
+/*
+ * ======== The site's own part: here a job is started. ========
+ *
+ * A site forks, becomes the user (eremothyn_user_offset and the five calls like it), puts the settings that stand before the
+ * entry into the environment, a later one over an earlier, and hands the shell line to SHELL and the input to its standard
+ * input; there is none if its length is EREMOTHYN_NO_INPUT. Here all of it is written to the log.
+ */
+static void start_job(const struct site *site, uint64_t entry, const uint8_t *shell, uint64_t shell_length,
+                      const uint8_t *input, uint64_t input_length)
+{
+    const uint8_t *table = site->table->bytes;
+    print_text(shell, shell_length);
+    if (input_length != EREMOTHYN_NO_INPUT) {
+        fputs(" input ", stdout);
+        print_text(input, input_length);
+    }
+    putchar('\n');
+    uint64_t end = eremothyn_entry_line(TABLE(site), entry);
+    uint64_t line = eremothyn_next_setting(TABLE(site), 1);
+    /* That there is no other setting is a refusal, which is above any line. */
+    for (; line < end; line = eremothyn_next_setting(TABLE(site), line + 1)) {
+        fputs("                      with ", stdout);
+        print_text(table + eremothyn_setting_name_offset(TABLE(site), line), eremothyn_setting_name_length(TABLE(site), line));
+        fputs(" = ", stdout);
+        print_text(table + eremothyn_setting_value_offset(TABLE(site), line),
+                   eremothyn_setting_value_length(TABLE(site), line));
+        putchar('\n');
+    }
+}
+
+/* Takes the job that has waited longest; whether there was one. */
+static bool take_job(struct site *site, uint64_t minute)
+{
+    uint8_t shell[EREMOTHYN_MAX_LINE], input[EREMOTHYN_MAX_LINE];
+    uint64_t entry = eremothyn_queue_pop(TABLE(site), site->queue, sizeof site->queue);
+    if (entry == EREMOTHYN_NOTHING_WAITS || is_refused(site, "queue_pop", entry))
+        return false;
+    print_date(minute);
+    printf("  line %" PRIu64 " after %" PRIu64 " min: ", eremothyn_entry_line(TABLE(site), entry), minute - site->since[0]);
+    memmove(site->since, site->since + 1, --site->waiting * sizeof site->since[0]);
+    uint64_t length = eremothyn_split_command(TABLE(site), entry, shell, sizeof shell, input, sizeof input);
+    start_job(site, entry, shell, length, input, eremothyn_stdin_length(TABLE(site), entry));
+    return true;
+}
+
+/* One minute: whoever is due joins, then whoever has waited longest is taken, as often as the pace allows. */
+static void live(struct site *site, uint64_t minute)
+{
+    uint64_t joined = eremothyn_queue_tick(TABLE(site), site->queue, sizeof site->queue, minute);
+    if (!is_refused(site, "queue_tick", joined))
+        while (joined-- > 0)
+            site->since[site->waiting++] = minute;
+    for (uint64_t taken = 0; taken < site->pace && take_job(site, minute); taken++)
+        ;
+}
+
+/* All minutes up to the one that the clock shows; after a jump, which counts as no time waited, that one alone. */
+static void live_up_to(struct site *site, uint64_t now)
+{
+    uint64_t first = site->minute + 1;
+    if (now == site->minute)
+        return;
+    if (now < first || now - site->minute > LATE_MOST) {
+        print_date(now);
+        printf("  the clock jumped by %" PRId64 " min\n", (int64_t)(now - site->minute));
+        for (uint64_t i = 0; i < site->waiting; i++)
+            site->since[i] += now - first;
+        first = now;
+    }
+    for (uint64_t minute = first; minute <= now; minute++)
+        live(site, minute);
+    site->minute = now;
+}
+
+static uint64_t reloaded(const struct site *site, const struct table_file *table, uint8_t *queue)
+{
+    return eremothyn_queue_reload(site->table->bytes, site->table->length, table->bytes, table->length, site->kind,
+                                  site->dialect, queue, sizeof site->queue);
+}
+
+/* Keeps the times of those who stay. Whoever stays is counted with those from its place on, and not with those behind it. */
+static void keep_times(struct site *site, const struct table_file *table)
+{
+    static uint8_t rest[sizeof site->queue], copy[sizeof site->queue];
+    uint64_t kept = 0, stay = 0;
+    memcpy(rest, site->queue, sizeof rest);
+    for (uint64_t place = 0; place <= site->waiting; place++) {
+        memcpy(copy, rest, sizeof copy);
+        uint64_t behind = reloaded(site, table, copy);
+        if (place > 0 && behind < stay)
+            site->since[kept++] = site->since[place - 1];
+        stay = behind;
+        eremothyn_queue_pop(TABLE(site), rest, sizeof rest);
+    }
+}
+
+/* Goes on with the file as it is now, in the other of two tables; with the old one if it is bad. */
+static void reload(struct site *site, struct table_file *tables)
+{
+    struct table_file *other = site->table == &tables[0] ? &tables[1] : &tables[0];
+    print_date(site->minute);
+    fputs("  reload: ", stdout);
+    if (read_good_table(site->name, other, site->kind, site->dialect, stdout) != 0)
+        return;
+    keep_times(site, other);
+    uint64_t waiting = reloaded(site, other, site->queue);
+    printf("%" PRIu64 " of %" PRIu64 " wait on\n", waiting, site->waiting);
+    site->waiting = waiting;
+    site->table = other;
+}
+
+/* The minute to sleep to: the next one while jobs wait, for it has its requests; else the first at which an entry fires. */
+static uint64_t wake_minute(const struct site *site)
+{
+    uint32_t minute;
+    uint16_t entry;
+    uint64_t last = site->minute + SLEEP_MOST, b = last < EREMOTHYN_LAST_MINUTE ? last : EREMOTHYN_LAST_MINUTE;
+    if (site->waiting > 0)
+        return site->minute + 1;
+    uint64_t answer = eremothyn_merged_firings(TABLE(site), site->minute, b, &minute, 1, &entry, 1);
+    return EREMOTHYN_FILLED(answer) == 1 ? minute : last;
+}
+
+/* Reads a byte of a clock that is handed in; whether a minute's line has ended with it. */
+static bool read_minute(const struct site *site, uint64_t *minute)
+{
+    static uint64_t number;
+    char byte;
+    if (read(site->clock, &byte, 1) != 1)
+        shall_end = 1;
+    else if (byte != '\n')
+        number = 10 * number + (uint64_t)(byte - '0');
+    else {
+        *minute = number;
+        number = 0;
+        return true;
+    }
+    return false;
+}
+
+/* Sleeps to a minute or a signal, which is let in here alone, and answers what minute the clock shows then. */
+static uint64_t sleep_until(const struct site *site, uint64_t wake, const sigset_t *let_in)
+{
+    uint64_t minute;
+    fd_set files;
+    if (site->clock < 0) {
+        time_t now = time(NULL), then = (time_t)(60 * wake);
+        struct timespec rest = { then > now ? then - now : 0, 0 };
+        pselect(0, NULL, NULL, NULL, &rest, let_in);
+        return (uint64_t)time(NULL) / 60;
+    }
+    while (!shall_end) {
+        FD_ZERO(&files);
+        FD_SET(site->clock, &files);
+        if (pselect(site->clock + 1, &files, NULL, NULL, NULL, let_in) < 0)
+            break;
+        /* What the clock shows while it sleeps is passed over, but not that it was set back. */
+        if (read_minute(site, &minute) && (minute >= wake || minute < site->minute))
+            return minute;
+    }
+    return site->minute;
+}
+
+/* The loop, from the first minute, with the @reboot jobs, to the signal that ends it. */
+static void run(struct site *site, struct table_file *tables, const sigset_t *let_in)
+{
+    site->minute = sleep_until(site, 0, let_in);
+    site->waiting = eremothyn_queue_init(TABLE(site), site->queue, sizeof site->queue);
+    for (uint64_t i = 0; i < site->waiting; i++)
+        site->since[i] = site->minute;
+    print_date(site->minute);
+    printf("  start: %" PRIu64 " wait\n", site->waiting);
+    live(site, site->minute);
+    while (!shall_end) {
+        uint64_t now = sleep_until(site, wake_minute(site), let_in);
+        if (shall_reload)
+            reload(site, tables);
+        shall_reload = 0;
+        if (!shall_end)
+            live_up_to(site, now);
+    }
+    print_date(site->minute);
+    printf("  end: %" PRIu64 " wait", site->waiting);
+    for (uint64_t place = 0; place < site->waiting; place++) {
+        uint64_t entry = eremothyn_queue_entry(TABLE(site), site->queue, sizeof site->queue, place);
+        printf("%s%" PRIu64, place == 0 ? ", lines " : " ", eremothyn_entry_line(TABLE(site), entry));
+    }
+    putchar('\n');
+}
+
+/* Takes a signal, but lets it in only where the daemon sleeps. */
+static void take_signal(int signal)
+{
+    struct sigaction action = { .sa_handler = on_signal };
+    sigset_t held;
+    sigemptyset(&held);
+    sigaddset(&held, signal);
+    sigaction(signal, &action, NULL);
+    sigprocmask(SIG_BLOCK, &held, NULL);
+}
+
+int main(int argc, char **argv)
+{
+    static struct table_file tables[2];
+    static struct site site = { .table = tables, .pace = 1, .clock = -1 };
+    sigset_t let_in;
+    for (int option; (option = getopt(argc, argv, "swj:c:")) != -1;) {
+        if (option == 's')
+            site.kind = EREMOTHYN_SYSTEM_TABLE;
+        else if (option == 'w')
+            site.dialect = EREMOTHYN_WRAPPING;
+        else if (option == 'j')
+            site.pace = strtoull(optarg, NULL, 10);
+        else if (option != 'c' || (site.clock = open(optarg, O_RDONLY)) < 0)
+            site.pace = 0;
+    }
+    if (optind != argc - 1 || site.pace == 0) {
+        fputs("usage: site_daemon [-s] [-w] [-j N] [-c CLOCK] FILE, N from 1, CLOCK a file or a pipe\n", stderr);
+        return 2;
+    }
+    setvbuf(stdout, NULL, _IOLBF, 0);
+    sigprocmask(SIG_BLOCK, NULL, &let_in);
+    take_signal(SIGHUP);
+    take_signal(SIGTERM);
+    take_signal(SIGINT);
+    site.name = argv[optind];
+    int status = read_good_table(site.name, site.table, site.kind, site.dialect, stderr);
+    if (status == 0)
+        run(&site, tables, &let_in);
+    return fflush(stdout) != 0 || ferror(stdout) ? 2 : status;
+}
