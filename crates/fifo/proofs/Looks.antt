@@ -2,21 +2,24 @@
 -- Assumes nothing.
 use mathlib.Core.Path.{_≡_, refl, sym, ap, _∙_}
 use mathlib.Core.Bool.{Bool, true, false, true≢false}
-use mathlib.Core.List.{List, [], _∷_, _++_}
+use mathlib.Core.List.{List, [], _∷_}
 use Prim.Native.Nat.{ℕ, zero, suc, _+_, _≤_, _<_}
 use native.Mathlib.Nat.{lt-of-not-le}
 use native.Mathlib.Decide.{decLe}
 use native.Mathlib.Omega.{arith}
-use lib.ListN.{length, getD, take, drop, drop-of-length-le}
+use lib.ListN.{length, getD, take, drop, drop-of-length-le, take-append-drop}
 use lib.Seq.{take-all}
 use Rattle.fifo.specs.declared.Popped.the-variants.{Entry, Nothing}
 use Rattle.fifo.specs.WaitingLine.{standsIn, entriesOf}
 use Rattle.fifo.specs.Queue.{numbers, counted, queueOf, queueLaid, queueRoomy, limit}
-use Rattle.fifo.specs.Layout.{headSize, lineOf}
+use Rattle.fifo.specs.Layout.{headSize, lineOf, laid, isLine}
 use Rattle.fifo.specs.Steps.{front, standing}
 use Rattle.fifo.specs.SmallSteps.{pushed}
 use Rattle.fifo.proofs.WaitingLines.{entries-snoc, cut-over, cut-twice, take-next}
 use Rattle.fifo.proofs.Filling.{push-laid, laid-emptied}
+use Rattle.fifo.proofs.Rooms.{laid-queue}
+use Rattle.fifo.proofs.Lines.{laid-parts, head-kept, line-queue}
+use Rattle.bytes.proofs.LittleEndian.{Bytes, bytes-drop}
 
 -- ---- who stands at a place
 
@@ -75,3 +78,12 @@ pub refill-end : (n : ℕ) (l room x : List ℕ) (i : ℕ) {s : List ℕ} → n 
     → s ≡ queueLaid (take i l) x → s ≡ queueLaid l room
 refill-end n l room x i few r cleared h e =
     e ∙ ap (λ (k : List ℕ). queueLaid k x) (take-all i l h) ∙ laid-emptied n room x few r cleared l
+
+-- ---- the room
+
+-- a line laid where it stands changes nothing
+pub laid-line : (n : ℕ) (s : List ℕ) → Bytes s → isLine n s ≡ true → laid (lineOf s) s ≡ s
+unfolding lineOf
+laid-line n s f e =
+    laid-parts (lineOf s) s
+    ∙ rw (← head-kept n s f e, laid-queue n (drop headSize s) (bytes-drop headSize s f) (line-queue n s e)) (take-append-drop headSize s)

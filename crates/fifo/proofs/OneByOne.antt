@@ -5,18 +5,18 @@ use mathlib.Core.Bool.{Bool, true, false, not, _&&_, true≢false, and-true}
 use mathlib.Core.List.{List, []}
 use Prim.Native.Nat.{ℕ, _+_, _≤_, _<_}
 use native.Mathlib.Omega.{arith}
-use lib.Dec.{leb, ltb}
+use lib.Dec.{ltb}
 use borrow.Author.Tests.{le-leb}
 use Rattle.calendar.specs.Dates.{lastMinute}
 use Rattle.schedule.specs.declared.jump.Mark.{Mark}
 use Rattle.schedule.specs.declared.jump.Mark.the-variants.{None, At}
-use Rattle.schedule.specs.Jumps.{caseOf, judged, isMark, markAfter}
+use Rattle.schedule.specs.Jumps.{caseOf, judged, markAfter}
 use Rattle.fifo.specs.WaitingLine.{Line, standsIn, entriesOf, proper}
 use Rattle.fifo.specs.Queue.{limit}
 use Rattle.fifo.specs.Layout.{lineOf, laid, roomy, isLine}
 use Rattle.fifo.specs.Steps.{Jobs, fresh, initStep, calls, joins, joiners, ticked, tickStep}
 use Rattle.fifo.proofs.WaitingLines.{stands-pick}
-use Rattle.fifo.proofs.Lines.{lineOf-laid, isLine-laid, length-laid, small-line, is-line, make-proper}
+use Rattle.fifo.proofs.Lines.{lineOf-laid, isLine-laid, small-line, is-line, make-proper}
 use Rattle.fifo.proofs.Calls.{fresh-proper, ticked-proper}
 use Rattle.fifo.proofs.Outrun.{follows-calls, after-next, after-none}
 

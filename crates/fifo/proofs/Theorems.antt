@@ -36,6 +36,11 @@ pub use Rattle.fifo.proofs.OneByOne.{Before, fresh-line, without, empti
 -- where no minute calls anybody, nobody is named
 pub use Rattle.fifo.proofs.Fair.{Runs}
 pub use Rattle.fifo.proofs.Quiet.{quiet, two-run}
+-- lines of entries, and rooms that hold them
+pub use Rattle.fifo.proofs.WaitingLines.{entries-cons, entries-length, take-next}
+pub use Rattle.fifo.proofs.Lines.{is-line, make-proper}
+pub use Rattle.fifo.proofs.Calls.{holds-laid}
+pub use Rattle.fifo.proofs.Looks.{standing-at, entry-there, laid-line}
 
 -- eight bytes for each entry and 64 more are always room enough
 pub room-enough : (n : ℕ) (s : List ℕ) → 8 * n + 64 ≤ length s → roomy n s ≡ true

@@ -15,7 +15,7 @@ use Rattle.crontab.specs.Limits.{maxEntries}
 use Rattle.crontab.specs.Tables.{tableOf}
 use Rattle.crontab.proofs.Theorems.{table-sound}
 use Rattle.fifo.specs.WaitingLine.{standsIn, entriesOf}
-use Rattle.fifo.proofs.WaitingLines.{entries-cons, entries-length, take-next}
+use Rattle.fifo.proofs.Theorems.{entries-cons, entries-length, take-next}
 use Rattle.reload.specs.Targets.{becomes, targetIn, reloaded}
 use Rattle.reload.proofs.Targets.{becomes-one, becomes-only, target-becomes, becomes-target, target-self}
 

@@ -1,18 +1,17 @@
 -- Laws of what entries become: the rank among those that mean the same tells them apart.
 -- Assumes nothing.
-use mathlib.Core.Path.{_≡_, refl, sym, ap, _∙_}
-use mathlib.Core.Bool.{Bool, true, false, cond, _&&_, true≢false, and-eq-true-iff}
-use mathlib.Core.List.{List, [], _∷_}
+use mathlib.Core.Path.{_≡_, refl, sym, _∙_}
+use mathlib.Core.Bool.{Bool, true, false, _&&_, and-eq-true-iff}
+use mathlib.Core.List.{List}
 use Prim.Native.Nat.{ℕ, zero, suc, _+_, _-_, _≤_, _<_}
 use native.Mathlib.Nat.{lt-of-not-le}
 use native.Mathlib.Decide.{decLe}
 use native.Mathlib.Omega.{arith}
-use lib.ListN.{length, getD}
-use lib.Dec.{eqb, ltb}
-use borrow.Author.Tests.{eq-eqb, eqb-true, lt-ltb, ltb-true}
+use lib.Dec.{eqb}
+use borrow.Author.Tests.{eq-eqb, eqb-true, lt-ltb}
 use Rattle.bytes.specs.Search.{from}
 use Rattle.bytes.specs.Passing.{countBelow, isRanked}
-use Rattle.bytes.specs.Marks.{marked, marksOf}
+use Rattle.bytes.specs.Marks.{marked}
 use Rattle.bytes.proofs.Search.{from-same, from-some, from-least}
 use Rattle.bytes.proofs.Passing.{below-same, below-next, below-pass}
 use Rattle.bytes.proofs.Marks.{marks-marked}
@@ -26,7 +25,7 @@ use Rattle.crontab.specs.Tables.{tableOf, entryIn, blankEntry}
 use Rattle.crontab.specs.Choices.{markWords, choice, chosenBy}
 use Rattle.crontab.proofs.Theorems.{table-sound}
 use Rattle.runqueue.specs.Jobs.{jobAt}
-use Rattle.reload.specs.Duties.{Duty, dutyOf, alike, meansAs}
+use Rattle.reload.specs.Duties.{dutyOf, meansAs}
 use Rattle.reload.specs.Targets.{dutyIn, sameIn, rankIn, becomes, targetIn}
 use Rattle.reload.proofs.Duties.{alike-eq, alike-same}
 

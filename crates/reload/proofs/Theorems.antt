@@ -7,13 +7,13 @@
 --   reload-leaves, reload-fair: what it leaves is a line of the new table, and demand 3 goes on from there
 --   reload-told, reload-stays: what it can answer, and that a refused call leaves the room as it was
 -- Assumes nothing.
-use mathlib.Core.Path.{_≡_, refl, sym, ap, _∙_}
+use mathlib.Core.Path.{_≡_, refl}
 use mathlib.Core.Logic.{_↔_}
 use mathlib.Core.Bool.{Bool, true, false, cond, _&&_, and-eq-true-iff}
 use mathlib.Core.List.{List}
 use Prim.Native.Nat.{ℕ, _+_}
 use native.Mathlib.Omega.{arith}
-use lib.ListN.{length, drop, take-append-drop}
+use lib.ListN.{length}
 use lib.Dec.{eqb}
 use borrow.Author.Tests.{eqb-false}
 use Rattle.schedule.specs.Local.{InZones}
@@ -22,18 +22,14 @@ use Rattle.crontab.specs.Tables.{tableOf}
 use Rattle.fifo.specs.declared.Ticked.{Ticked}
 use Rattle.fifo.specs.declared.Ticked.the-variants.{Joined, Refused}
 use Rattle.fifo.specs.WaitingLine.{Line, proper}
-use Rattle.fifo.specs.Layout.{headSize, lineOf, laid, roomy, isLine}
+use Rattle.fifo.specs.Layout.{lineOf, laid, roomy, isLine}
 use Rattle.fifo.specs.Steps.{Step, refilled}
-use Rattle.fifo.proofs.WaitingLines.{entries-length}
 use Rattle.fifo.specs.Fairness.{Call, Holds, Follows, unrefused, Paced, upTo, Names}
-use Rattle.fifo.proofs.Calls.{holds-laid}
-use Rattle.fifo.proofs.Rooms.{laid-queue}
-use Rattle.fifo.proofs.Lines.{is-line, make-proper, laid-parts, head-kept, line-queue}
-use Rattle.bytes.proofs.LittleEndian.{Bytes, bytes-drop}
+use Rattle.bytes.proofs.LittleEndian.{Bytes}
 use Rattle.runqueue.specs.Jobs.{jobsOf}
 use Rattle.runqueue.specs.Demand.{jobsIn, CanFire, OnCalendar, boundFrom}
 use Rattle.runqueue.proofs.Theorems.{table-fair-from}
-use Rattle.fifo.proofs.Theorems.{TickedWithin}
+use Rattle.fifo.proofs.Theorems.{TickedWithin, entries-length, is-line, make-proper, holds-laid, laid-line}
 use Rattle.reload.specs.Duties.{Duty, alike}
 use Rattle.reload.specs.Calls.{refusedReload, lineIn, reloadStep, reloadTables}
 use Rattle.reload.proofs.Duties.{alike-eq, alike-same}
@@ -143,13 +139,6 @@ module _ (rules : Rules) (old new room : List ℕ) where
       table-fair-from rules new e t lineAfter second can (reload-leaves k done .0) follows on paced
 
 -- ---- the same table
-
--- a line laid where it stands changes nothing
-laid-line : (n : ℕ) (s : List ℕ) → Bytes s → isLine n s ≡ true → laid (lineOf s) s ≡ s
-unfolding lineOf
-laid-line n s f e =
-    laid-parts (lineOf s) s
-    ∙ rw (← head-kept n s f e, laid-queue n (drop headSize s) (bytes-drop headSize s f) (line-queue n s e)) (take-append-drop headSize s)
 
 -- reloading the same table changes no byte
 pub same-table : (rules : Rules) (s room : List ℕ) → Bytes room → reloadTables rules s s room .room ≡ room

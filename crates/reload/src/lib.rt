@@ -3,10 +3,9 @@ mod alike;
 mod peers;
 
 ghost use mathlib.Core.Path.{_≡_};
-ghost use Prim.Native.Nat.{ℕ, _≤_, _<_};
+ghost use Prim.Native.Nat.{_≤_, _<_};
 ghost use mathlib.Core.Bool.{true};
 ghost use lib.ListN.{length, take};
-ghost use Rattle.crontab.specs.Limits.{maxEntries};
 ghost use Rattle.crontab.specs.Tables.{tableOf};
 ghost use Rattle.fifo.specs.Layout.{lineOf, isLine};
 ghost use Rattle.reload.specs.Targets.{targetIn, reloaded};
@@ -23,7 +22,7 @@ use fifo::Ticked;
 
 // The entry of the new table that an entry of the old one becomes, or how many the new one has, where there is none.
 fn counterpart(old: &[u8], new: &[u8], rules: Rules, entry: u64) -> usize
-    requires { ⌜ (entry < tableOf rules (now old) .count) × (tableOf rules (now new) .refusal ≡ 0) ⌝ }
+    requires { ⌜ entry < tableOf rules (now old) .count ⌝ }
     ensures { λ r. ⌜ r ≡ targetIn rules (now (old .entry)) (now (new .entry)) entry ⌝ }
 {
     let EntryAnswer::Found(found) = find_entry(old, rules, entry) else {
@@ -45,7 +44,7 @@ struct Kept {
 
 // Those who wait in the room, as entries of the new table, which has n; who isn't there leaves.
 fn who_waits(old: &[u8], new: &[u8], rules: Rules, room: &[u8], n: usize) -> Kept
-    requires { ⌜ (isLine (tableOf rules (now old) .count) (now room) ≡ true) × (tableOf rules (now new) .refusal ≡ 0) × (n ≡ tableOf rules (now new) .count) ⌝ }
+    requires { ⌜ (isLine (tableOf rules (now old) .count) (now room) ≡ true) × (n ≡ tableOf rules (now new) .count) ⌝ }
     ensures { λ r. ⌜ (take (r .count) (r .entries) ≡ reloaded rules (now (old .entry)) (now (new .entry)) (lineOf (now (room .entry)) .waiting)) × (r .count ≤ length (r .entries)) ⌝ }
 {
     let mut entries = [0u16; MAX_ENTRIES];

@@ -1,12 +1,12 @@
 -- The hypotheses of the claims about the chain can be met, and are needed.
 -- Assumes nothing.
-use mathlib.Core.Path.{_≡_, refl, sym, ap, _∙_}
-use mathlib.Core.Bool.{true, false, not, and-false}
+use mathlib.Core.Path.{_≡_, refl, ap, _∙_}
+use mathlib.Core.Bool.{true, not, and-false}
 use mathlib.Core.List.{List, []}
-use Prim.Native.Nat.{ℕ, _+_, _≤_, _<_}
+use Prim.Native.Nat.{ℕ, _+_, _≤_}
 use native.Mathlib.Omega.{arith}
 use borrow.Author.Tests.{le-leb}
-use lib.IntN.{pos, negsuc}
+use lib.IntN.{negsuc}
 use Rattle.calendar.specs.Dates.{lastMinute, cycleMinutes}
 use Rattle.schedule.specs.declared.Next.the-variants as next
 use Rattle.schedule.specs.declared.jump.Mark.{Mark}
@@ -25,11 +25,11 @@ use Rattle.crontab.specs.Firings.{told, nextOf, nextAnswer, nextIn}
 use Rattle.fifo.specs.declared.Ticked.{Ticked}
 use Rattle.fifo.specs.WaitingLine.{Line, standsIn, pick}
 use Rattle.fifo.specs.Layout.{lineOf, laid, isLine}
-use Rattle.fifo.specs.Steps.{Step, calls, joins, joiners, ticked}
+use Rattle.fifo.specs.Steps.{Step, calls, joins, joiners, ticked, refilled}
 use Rattle.fifo.proofs.Theorems.{fresh-line, announced-line}
 use Rattle.runqueue.specs.Jobs.{jobAt, jobsOf}
 use Rattle.runqueue.specs.Demand.{aheadOf}
-use Rattle.runqueue.specs.Chain.{emptied, announced, joinsOver, OnBoth, BothEnds, FreshUnmarked, userRules, midnightTable, midnights, MarkNeeded, westEvenings, ShiftMet, ShiftFails}
+use Rattle.runqueue.specs.Chain.{emptied, announced, joinsOver, BothEnds, FreshUnmarked, userRules, midnightTable, midnights, MarkNeeded, westEvenings, ShiftMet, ShiftFails}
 use Rattle.runqueue.proofs.Exits.{init-good, tick-good}
 use Rattle.runqueue.proofs.TableJobs.{few}
 
@@ -109,7 +109,7 @@ unfolding ticked joiners joins calls judged pick standsIn
 nobody-joins m e = rw (e, midnight-one, case-held 1440 1440 (omega arith) (omega arith), midnight-fixed, and-false (not (jobsOf midnights .boot 0)))
 
 after-mark : (room : List ℕ) → isLine (midnights .count) room ≡ true → lineOf room .mark ≡ mark.At 1440 → lineOf (announced midnights 1440 room) .waiting ≡ []
-unfolding announced emptied jobsOf
+unfolding announced emptied refilled jobsOf
 after-mark room line e =
     let step = tick-good midnights (laid (record { mark = lineOf room .mark; waiting = [] }) room) midnight-good 1440 in
     ap (λ (s : Step Ticked). lineOf (s .room) .waiting) step

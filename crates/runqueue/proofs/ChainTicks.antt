@@ -3,19 +3,16 @@
 -- Assumes nothing.
 use mathlib.Core.Path.{_≡_, refl, sym, ap, _∙_}
 use mathlib.Core.Bool.{Bool, true, false, cond, not, _&&_}
-use mathlib.Core.List.{List, [], _∷_}
+use mathlib.Core.List.{List}
 use Prim.Native.Nat.{ℕ, zero, suc, _+_, _-_, _≤_, _<_}
 use native.Mathlib.Decide.{decLe}
 use native.Mathlib.Omega.{arith}
-use lib.Dec.{eqb, ltb}
+use lib.Dec.{ltb}
 use lib.ListN.{getD}
 use borrow.Author.Tests.{eq-eqb, ne-eqb}
 use Rattle.bytes.specs.Passing.{passing, passingUpTo}
 use Rattle.calendar.specs.Dates.{lastMinute}
-use Rattle.schedule.specs.declared.jump.Mark.{Mark}
-use Rattle.schedule.specs.declared.jump.Mark.the-variants.{None, At}
 use Rattle.schedule.specs.Local.{ahead, matchesIn}
-use Rattle.crontab.specs.declared.Rules.{Rules}
 use Rattle.crontab.specs.declared.time.When.{When}
 use Rattle.crontab.specs.declared.time.When.the-variants.{Reboot, Timed}
 use Rattle.crontab.specs.declared.entry.Entry.{Entry}
@@ -27,10 +24,10 @@ use Rattle.fifo.specs.WaitingLine.{Line, standsIn}
 use Rattle.fifo.specs.Queue.{limit}
 use Rattle.fifo.specs.Layout.{lineOf, laid, isLine}
 use Rattle.fifo.specs.declared.Ticked.{Ticked}
-use Rattle.fifo.specs.Steps.{Step, tickStep}
+use Rattle.fifo.specs.Steps.{Step, tickStep, refilled}
 use Rattle.fifo.proofs.Theorems.{isCalled, Before, without, emptied-line, emptied-is, announced-is, announced-mark, announced-stands}
 use Rattle.runqueue.specs.Jobs.{jobAt, jobsOf}
-use Rattle.runqueue.specs.Chain.{Chain, isYes, dueAfter, emptied, announced, joinsOver, joinsAfter, ChainIsTicks, ChainGoesOn}
+use Rattle.runqueue.specs.Chain.{isYes, dueAfter, emptied, announced, joinsOver, joinsAfter, ChainIsTicks, ChainGoesOn}
 use Rattle.runqueue.proofs.Exits.{tick-bad, tick-good}
 use Rattle.runqueue.proofs.TableJobs.{few}
 use Rattle.runqueue.proofs.Chains.{yes-fires, chain-is-due}
@@ -88,7 +85,7 @@ module _ (t : Table) (small : t .count < limit) (e : ℕ) where
   Follows m room = (isLine (t .count) room ≡ true) × Before (lineOf room .mark) m
 
   good-room : t .refusal ≡ 0 → (m : ℕ) (room : List ℕ) → announced t m room ≡ tickStep (jobsOf t) m (laid (without (lineOf room)) room) .room
-  unfolding announced emptied
+  unfolding announced emptied refilled
   good-room good m room = ap (λ (s : Step Ticked). s .room) (tick-good t (laid (without (lineOf room)) room) good m)
 
   good-next : t .refusal ≡ 0 → (m : ℕ) (room : List ℕ) → m ≤ lastMinute → Follows m room → Follows (suc m) (announced t m room)
@@ -105,7 +102,7 @@ module _ (t : Table) (small : t .count < limit) (e : ℕ) where
 
   -- a refused one: the room stays a line of none
   bad-room : (t .refusal ≡ 0 → ⊥) → (m : ℕ) (room : List ℕ) → laid (without (lineOf room)) room ≡ announced t m room
-  unfolding announced emptied
+  unfolding announced emptied refilled
   bad-room bad m room = tick-bad t (laid (without (lineOf room)) room) bad m .1
 
   bad-next : (t .refusal ≡ 0 → ⊥) → (m : ℕ) (room : List ℕ) → isLine (t .count) room ≡ true → isLine (t .count) (announced t m room) ≡ true

@@ -22,7 +22,8 @@ use Rattle.crontab.specs.declared.firing.NextAnswer.the-variants.{At, Refused}
 use Rattle.crontab.specs.Tables.{tableOf}
 use Rattle.crontab.specs.Firings.{dueIn, nextIn}
 use Rattle.fifo.specs.WaitingLine.{standsIn}
-use Rattle.fifo.specs.Layout.{lineOf, laid, roomy, isLine}
+use Rattle.fifo.specs.Layout.{lineOf, roomy, isLine}
+use Rattle.fifo.specs.Steps.{refilled}
 use Rattle.runqueue.specs.Calls.{initTable, tickTable}
 use Rattle.runqueue.specs.Demand.{aheadOf}
 
@@ -48,7 +49,7 @@ dueAfter t e m = passingUpTo (λ n. isYes (dueIn t e n)) lastMinute (m + 1)
 
 -- a room whose line is emptied, and its mark kept
 unfoldable pub emptied : List ℕ → List ℕ
-emptied room = laid (record { mark = lineOf room .mark; waiting = [] }) room
+emptied room = refilled [] room
 
 -- the room after minute m is announced on it
 unfoldable pub announced : Table → ℕ → List ℕ → List ℕ

@@ -1,7 +1,7 @@
 -- `reload::reload` meets its contract: each return is a law of the call.
 -- Assumes nothing.
-use mathlib.Core.Path.{_≡_, refl, sym, ap, _∙_}
-use mathlib.Core.Bool.{true, _&&_, and-eq-true-iff}
+use mathlib.Core.Path.{sym, ap, _∙_}
+use mathlib.Core.Bool.{and-eq-true-iff}
 use mathlib.Core.List.{List}
 use Prim.Native.Nat.{ℕ}
 use native.Mathlib.Omega.{arith}
@@ -14,7 +14,7 @@ use Rattle.crontab.specs.declared.table.Verdict.{Verdict}
 use Rattle.fifo.specs.declared.Ticked.the-variants.{Joined}
 use Rattle.fifo.specs.Layout.{lineOf}
 use Rattle.fifo.specs.Steps.{refilled}
-use Rattle.fifo.proofs.Lines.{is-line}
+use Rattle.fifo.proofs.Theorems.{is-line}
 use Rattle.reload.proofs.Reloads.{reloaded-entries}
 use Rattle.reload.proofs.Exits.{reload-old, reload-new, reload-none, reload-done, both-are}
 use Rattle.reload.proofs.reload.Statement.{statement}
@@ -46,7 +46,7 @@ who-waits-requires c κs =
     let f = c .before .before .before .before .before .before .before .before .check2 .ensures in
     let a = c .before .before .before .before .before .before .before .before .before .before .before .before .before .before .before .args in
     let both = both-are (a .rules) (a .old .now) (a .new .now) (a .room .now) (c .before .before .before .before .is-line .ensures) (ap (λ (v : Verdict). v .count) e) (c .before .before .has-room .ensures) (ap (λ (v : Verdict). v .count) f) (c .before .if3 .taken) in
-    (and-eq-true-iff _ _ .0 both .0, rw f at (c .before .before .before .before .before .before .if2 .left), ap (λ (v : Verdict). v .count) f)
+    (and-eq-true-iff _ _ .0 both .0, ap (λ (v : Verdict). v .count) f)
 
 cast-refill : tie.Need-cast-refill
 unfolding verdictOf

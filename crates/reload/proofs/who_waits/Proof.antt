@@ -1,16 +1,15 @@
 -- `reload::who_waits` meets its contract: after each place those before it who are there are kept, in their order.
 -- Assumes nothing.
-use mathlib.Core.Path.{_≡_, refl, sym, ap, _∙_}
+use mathlib.Core.Path.{_≡_, refl, sym, _∙_}
 use mathlib.Core.Logic.{_⊎_, inl, inr, ⊎-elim}
 use Prim.Native.Nat.{ℕ, _-_, _<_}
 use native.Mathlib.Omega.{arith}
-use lib.ListN.{length, getD}
+use lib.ListN.{length}
 use borrow.Author.Needs.{needs}
 use Rattle.fifo.specs.declared.Popped.{Popped}
-use Rattle.fifo.specs.declared.Popped.the-variants.{Entry, Nothing, Refused}
+use Rattle.fifo.specs.declared.Popped.the-variants.{Entry}
 use Rattle.fifo.specs.Layout.{lineOf}
-use Rattle.fifo.proofs.Lines.{is-line}
-use Rattle.fifo.proofs.Looks.{standing-at, entry-there}
+use Rattle.fifo.proofs.Theorems.{is-line, standing-at, entry-there}
 use Rattle.crontab.proofs.Theorems.{table-sound}
 use Rattle.reload.proofs.Reloads.{Keeps, keeps-none, keeps-fit, keeps-out, keeps-in, keeps-all}
 use Rattle.reload.proofs.who_waits.Statement.{statement}
@@ -49,12 +48,12 @@ counterpart-requires c κs =
     let h : l .place < length w = omega (arith, l .inv .1) in
     let there = entry-there _ w (l .place) (is-line _ (a .args .room .now) (a .pre .0) .1) h in
     let e = named (c .before .entry .given .1) (c .before .before .before .standing .ensures ∙ sym (standing-at w (l .place) h)) in
-    (omega (arith, e, there .0), a .pre .1)
+    omega (arith, e, there .0)
 
 cast-entries : tie.Need-cast-entries Inv-loop μ-loop
 cast-entries c =
     let a = c .before .before .before .before .before .before .before .before .before .before .before .before in
-    omega (arith, c .if1 .taken, a .pre .2, table-sound (a .args .rules) (a .args .new .now) .few)
+    omega (arith, c .if1 .taken, a .pre .1, table-sound (a .args .rules) (a .args .new .now) .few)
 
 mul-entries : tie.Need-mul-entries Inv-loop μ-loop
 mul-entries c =
@@ -79,8 +78,8 @@ loop-again c =
     let fit = keeps-fit (a .args .rules) (a .args .old .now) (a .args .new .now) w (is-line _ (a .args .room .now) (a .pre .0) .1) in
     let at = sym (named (c .before .before .before .entry .given .1) (c .before .before .before .before .before .standing .ensures ∙ sym (standing-at w (l .place) h))) in (
       ⊎-elim
-          (λ v. rw (v .1, v .2) (keeps-in _ _ _ w (l .inv .0) h _ at (c .before .counterpart .ensures) (omega (arith, v .0 .taken, a .pre .2)) fit))
-          (λ v. rw (v .1, v .2) (keeps-out _ _ _ w (l .inv .0) h _ at (c .before .counterpart .ensures) (omega (arith, v .0 .left, a .pre .2))))
+          (λ v. rw (v .1, v .2) (keeps-in _ _ _ w (l .inv .0) h _ at (c .before .counterpart .ensures) (omega (arith, v .0 .taken, a .pre .1)) fit))
+          (λ v. rw (v .1, v .2) (keeps-out _ _ _ w (l .inv .0) h _ at (c .before .counterpart .ensures) (omega (arith, v .0 .left, a .pre .1))))
           (c .if1 .came),
       l .inv .1,
     )
