@@ -1,31 +1,45 @@
-/* eremothyn check [-s] [--dialect NAME] FILE...: whether each file is a crontab that the engine takes, a line for each. */
+/* eremothyn check [-s] [-q] [--short] [--strict] [--dialect NAME] FILE...: what is wrong with each file as a crontab. */
 
-#include <inttypes.h>
-#include <stdio.h>
+#include "command.h"
+#include "fault.h"
+#include "say.h"
+#include "warning.h"
 
-#include "eremothyn.h"
-#include "shared.h"
-
-/* Bit n of the given options is the n-th of these. */
-enum { SYSTEM = 1u << 0 };
+enum { QUIET, SHORT, STRICT };
 static const struct option OPTIONS[] = {
-    { 's', "system", "the files are system tables: a user stands before each command" },
+    [QUIET] = { 'q', "quiet", NULL, "print diagnostics only, and nothing of a file that has none" },
+    [SHORT] = { 0, "short", NULL, "print each diagnostic on one line, without the crontab's line and hints" },
+    [STRICT] = { 0, "strict", NULL, "let warnings count: the exit status is 1 for them, too" },
     NO_OPTION,
 };
+
+static void tell_taken(struct manner manner, const char *name, uint64_t entries, uint64_t warnings)
+{
+    if (manner.is_quiet)
+        return;
+    fprintf(manner.to, "%s: ", name);
+    tell_count(manner.to, entries, "entry", "entries");
+    if (warnings > 0) {
+        fputs(", ", manner.to);
+        tell_count(manner.to, warnings, "warning", "warnings");
+    }
+    fputc('\n', manner.to);
+}
 
 static int check(const char *name, const struct arguments *arguments)
 {
     static struct file table;
-    if (!read_file(name, arguments->dialect, &table))
+    struct manner manner = manner_for(stdout);
+    manner.is_quiet = arguments->values[QUIET] != NULL;
+    manner.is_short = arguments->values[SHORT] != NULL;
+    if (!read_file(name, arguments->rules, &table))
         return fail(name);
-    uint64_t kind = arguments->given & SYSTEM ? EREMOTHYN_SYSTEM_TABLE : EREMOTHYN_USER_TABLE;
-    uint64_t entries = eremothyn_check(table.bytes, table.length, kind, table.dialect);
-    if (!EREMOTHYN_IS_REFUSED(entries)) {
-        printf("%s: %" PRIu64 " entries\n", name, entries);
-        return written(DONE);
-    }
-    tell_refusal(stdout, name, &table, fault_of(&table, kind), EREMOTHYN_REFUSAL(entries));
-    return written(REFUSED);
+    uint64_t entries = eremothyn_check(TABLE(&table));
+    if (EREMOTHYN_IS_REFUSED(entries))
+        return written(tell_faults(manner, name, &table));
+    uint64_t warnings = tell_warnings(manner, name, &table);
+    tell_taken(manner, name, entries, warnings);
+    return written(warnings > 0 && arguments->values[STRICT] != NULL ? REFUSED : DONE);
 }
 
 static int run(const struct arguments *arguments)
@@ -39,11 +53,14 @@ const struct command check_command = {
     "check",
     "FILE...",
     "say whether the engine takes a crontab, and if not, where and why",
-    "Each FILE gets a line, one of these two:\n"
-    "  NAME: N entries\n"
-    "  NAME:LINE:COLUMN: refused NUMBER: what is wrong\n"
+    "Every bad line of a FILE is told, and then how many there are; of a good one, what may not be meant,\n"
+    "and then how many entries it has:\n"
+    "  NAME:LINE:COLUMN: error: what is wrong [NUMBER]\n"
+    "  NAME: refused: N errors\n"
+    "  NAME:LINE:COLUMN: warning: what may be wrong [WORD]\n"
+    "  NAME: N entries, N warnings\n"
     "The exit status is 0 if every file is taken, 1 if one is refused, 2 if one can't be read.\n",
-    true,
+    ALL_TABLES,
     OPTIONS,
     run,
 };

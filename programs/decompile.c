@@ -4,8 +4,8 @@
 #include <inttypes.h>
 #include <stdio.h>
 
-#include "eremothyn.h"
-#include "shared.h"
+#include "command.h"
+#include "say.h"
 
 /* A compiled table has far fewer bytes; the rest is room for records that are skipped. */
 enum { MOST = 1 << 24 };
@@ -57,7 +57,7 @@ const struct command decompile_command = {
     "  NAME: refused NUMBER: what is wrong\n"
     "The exit status is 0 if the records are taken, 1 if they are refused, 2 if they can't be read, have\n"
     "more than 16 MiB, or standard output can't be written.\n",
-    false,
+    NO_TABLES,
     OPTIONS,
     run,
 };

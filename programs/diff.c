@@ -29,7 +29,7 @@ static void find_changes(const struct file *table, const struct file *text)
     uint64_t place = 0;
     for (count = 0; place < table->length; count++) {
         struct part old = line_at(table, place);
-        uint64_t length = eremothyn_normal_form(old.start, old.length, table->dialect, line, sizeof line);
+        uint64_t length = eremothyn_normal_form(old.start, old.length, table->rules.dialect, line, sizeof line);
         changes[count] = (struct change){ old, { new, length } };
         place += old.length;
         new += length;

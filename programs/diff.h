@@ -3,7 +3,7 @@
 #ifndef DIFF_H
 #define DIFF_H
 
-#include "shared.h"
+#include "file.h"
 
 /* Prints the unified diff of a table and its normal text, which isn't the same. */
 void print_diff(const char *name, const struct file *table, const struct file *text);

@@ -3,18 +3,17 @@
 #include <stdio.h>
 #include <string.h>
 
+#include "command.h"
 #include "diff.h"
-#include "eremothyn.h"
 #include "refused.h"
 #include "rewrite.h"
-#include "shared.h"
+#include "say.h"
 
-/* Bit n of the given options is the n-th of these. */
-enum { LIST = 1u << 0, WRITE = 1u << 1, DIFF = 1u << 2 };
+enum { LIST, WRITE, DIFF };
 static const struct option OPTIONS[] = {
-    { 'l', "list", "print the names of the files whose text differs" },
-    { 'w', "write", "put the normal text in the place of each file that differs" },
-    { 'd', "diff", "print the differences" },
+    [LIST] = { 'l', "list", NULL, "print the names of the files whose text differs" },
+    [WRITE] = { 'w', "write", NULL, "put the normal text in the place of each file that differs" },
+    [DIFF] = { 'd', "diff", NULL, "print the differences" },
     NO_OPTION,
 };
 
@@ -24,16 +23,16 @@ static bool is_same(const struct file *one, const struct file *other)
 }
 
 /* What the options want of a file whose text differs. */
-static int handle(const char *name, const struct file *table, const struct file *text, unsigned given)
+static int handle(const char *name, const struct file *table, const struct file *text, const char *const given[])
 {
-    if (given & LIST)
+    if (given[LIST] != NULL)
         puts(name);
-    if (given & WRITE) {
+    if (given[WRITE] != NULL) {
         const char *why = rewrite(name, text);
         if (why != NULL)
             return written(fail_for(name, why));
     }
-    if (given & DIFF)
+    if (given[DIFF] != NULL)
         print_diff(name, table, text);
     return written(DONE);
 }
@@ -41,17 +40,18 @@ static int handle(const char *name, const struct file *table, const struct file 
 static int format(const char *name, const struct arguments *arguments)
 {
     static struct file table, text;
-    if (!read_file(name, arguments->dialect, &table))
+    if (!read_file(name, arguments->rules, &table))
         return fail(name);
-    uint64_t length = eremothyn_normal_form(table.bytes, table.length, table.dialect, text.bytes, sizeof text.bytes);
+    uint64_t length = eremothyn_normal_form(table.bytes, table.length, table.rules.dialect, text.bytes, sizeof text.bytes);
     if (EREMOTHYN_IS_REFUSED(length))
         return refuse_text(name, &table, EREMOTHYN_REFUSAL(length));
     text.length = length;
-    if (arguments->given == 0) {
+    const char *const *given = arguments->values;
+    if (given[LIST] == NULL && given[WRITE] == NULL && given[DIFF] == NULL) {
         fwrite(text.bytes, 1, text.length, stdout);
         return written(DONE);
     }
-    return is_same(&table, &text) ? DONE : handle(name, &table, &text, arguments->given);
+    return is_same(&table, &text) ? DONE : handle(name, &table, &text, given);
 }
 
 static bool names_input(const struct arguments *arguments)
@@ -65,7 +65,7 @@ static bool names_input(const struct arguments *arguments)
 static int run(const struct arguments *arguments)
 {
     struct arguments files = or_input(arguments);
-    if (files.given & WRITE && names_input(&files))
+    if (files.values[WRITE] != NULL && names_input(&files))
         return misuse("standard input can't be rewritten");
     return each_file(&files, format);
 }
@@ -76,11 +76,10 @@ const struct command format_command = {
     "write a user's crontab in its normal form",
     "Prints the normal text of each FILE, or of standard input where none is named. It has no comments.\n"
     "With -l, -w or -d it does what that says instead. A FILE that is refused stays as it is, and standard\n"
-    "error says:\n"
-    "  NAME:LINE:COLUMN: refused NUMBER: what is wrong\n"
+    "error says where and why, as 'eremothyn check' does.\n"
     "The exit status is 0 if every file is taken, whether it differs or not, 1 if one is refused, 2 if\n"
     "one can't be read or written.\n",
-    true,
+    USER_TABLES,
     OPTIONS,
     run,
 };

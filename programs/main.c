@@ -2,6 +2,9 @@
 
 #define SUBCOMMANDS(ROW) \
     ROW(check) \
+    ROW(explain) \
+    ROW(agenda) \
+    ROW(next) \
     ROW(format) \
     ROW(compile) \
     ROW(decompile)
@@ -9,8 +12,8 @@
 #include <stdio.h>
 #include <string.h>
 
-#include "eremothyn.h"
-#include "shared.h"
+#include "command.h"
+#include "say.h"
 
 #define DECLARED(name) extern const struct command name##_command;
 SUBCOMMANDS(DECLARED)
@@ -41,10 +44,7 @@ static int print_help(const struct command *command)
 {
     printf("usage: eremothyn %s [OPTION...] %s\n\n", command->name, command->operands);
     printf("%s: %s.\n%s\n", command->name, command->purpose, command->details);
-    for (const struct option *option = command->options; option->name != NULL; option++)
-        printf("  -%c, --%-12s%s\n", option->letter, option->name, option->meaning);
-    if (command->reads_crontabs)
-        print_dialects();
+    print_options(command);
     puts("  -h, --help        print this\n"
          "  --                end the options: what follows are names\n"
          "\n"
@@ -65,7 +65,7 @@ static int help(int count, char **words)
 static int run(const struct command *command, int count, char **words)
 {
     struct arguments arguments;
-    speak_for(command);
+    speak_for(command->name);
     switch (take_options(command, count, words, &arguments)) {
     case HELP_WANTED: return print_help(command);
     case MISUSED: return FAILED;

@@ -3,7 +3,7 @@
 #ifndef REWRITE_H
 #define REWRITE_H
 
-#include "shared.h"
+#include "file.h"
 
 /*
  * Puts a text in the place of a regular file's, whole or not at all: a new file beside it takes its name, with the same

@@ -1,5 +1,6 @@
 //! Compiling and running C programs at the repository's root.
 
+pub mod shown;
 mod subcommand;
 
 pub use subcommand::Subcommand;

@@ -1,11 +1,13 @@
 //! A subcommand of `eremothyn`, built for a test, and the folder that it runs in.
 
 use crate::{build_command, scratch, told};
+use std::env;
 use std::ffi::OsStr;
 use std::fs;
 use std::io::Write;
-use std::path::PathBuf;
+use std::path::{Path, PathBuf};
 use std::process::{Command, Output, Stdio};
+use std::sync::OnceLock;
 
 pub struct Subcommand {
     pub folder: PathBuf,
@@ -13,16 +15,31 @@ pub struct Subcommand {
     name: &'static str,
 }
 
+/// The command, built once for all tests that run together.
+fn built() -> &'static Path {
+    static BUILT: OnceLock<PathBuf> = OnceLock::new();
+    BUILT.get_or_init(|| {
+        let tests = env::current_exe().expect("the tests' own name");
+        let tests = tests.file_stem().expect("a name").to_string_lossy();
+        build_command(&scratch(&format!("command-for-{tests}")))
+    })
+}
+
 impl Subcommand {
     /// The subcommand in a folder of its own.
     pub fn new(name: &'static str, folder: &str) -> Subcommand {
-        let folder = scratch(folder);
-        let program = build_command(&folder);
         Subcommand {
-            folder,
-            program,
+            folder: scratch(folder),
+            program: built().to_path_buf(),
             name,
         }
+    }
+
+    /// Copies the program. Another process does it: one that had the copy open to write, or a child of it that is just
+    /// started, would keep it from being run.
+    pub fn copy_program(&self, to: &Path) {
+        let copied = Command::new("cp").arg(&self.program).arg(to).status();
+        assert!(copied.expect("cp runs").success());
     }
 
     pub fn write(&self, name: &str, table: impl AsRef<[u8]>) -> PathBuf {
@@ -37,9 +54,16 @@ impl Subcommand {
 
     /// What `eremothyn check` prints of a file that is refused.
     pub fn verdict(&self, name: &str) -> String {
+        self.verdict_by(&[], name)
+    }
+
+    /// The same with options.
+    pub fn verdict_by(&self, options: &[&str], name: &str) -> String {
         let check = Command::new(&self.program)
             .current_dir(&self.folder)
-            .args(["check", name])
+            .arg("check")
+            .args(options)
+            .arg(name)
             .output();
         let (verdict, status) = told(&check.expect("the command runs"));
         assert_eq!(status, Some(1), "{verdict}");

@@ -13,13 +13,26 @@ const READERS: [&str; 3] = ["check", "format", "compile"];
 const NIGHT: &str = "# by night\n0 8-18/3,19-7 * * *  roof look\n0 22-3/2 * * fri-sun cool\n";
 const TEXT: &str =
     "0 0,1,2,3,4,5,6,7,8,11,14,17,19,20,21,22,23 * * * roof look\n0 0,2,22 * * 0,5,6 cool\n";
-const REVERSED: &str =
-    "night:2:10: refused 7: a range from high to low, which only the wrapping dialect has\n";
+const REVERSED: &str = "\
+night:2:10: error: hour: 19-7 is a range from high to low, which only the wrapping dialect has [7]
+    0 8-18/3,19-7 * * *  roof look
+             ^~~~
+    hint: two ranges say it in either dialect, as 22-23,0-3 for 22-3
+night:3:3: error: hour: 22-3/2 is a range from high to low, which only the wrapping dialect has [7]
+    0 22-3/2 * * fri-sun cool
+      ^~~~~~
+night: refused: 2 errors
+";
 
 /// Good in the first dialect alone.
 const SUNDAY: &str = "0 0 * * 7 rest\n";
-const OUTSIDE: &str = "sunday:1:9: refused 6: a number outside its limits: minute 0-59, hour 0-23, day 1-31, month 1-12, \
-    weekday 0-7, or 0-6 in the wrapping dialect\n";
+const OUTSIDE: &str = "\
+sunday:1:9: error: weekday: 7 is outside 0-6 [6]
+    0 0 * * 7 rest
+            ^
+    hint: in the wrapping dialect Sunday is 0
+sunday: refused: 1 error
+";
 
 fn in_folder(name: &'static str, folder: &str) -> Subcommand {
     let subcommand = Subcommand::new(name, folder);
@@ -29,13 +42,18 @@ fn in_folder(name: &'static str, folder: &str) -> Subcommand {
 }
 
 const TAKEN: &str = "night: 2 entries\n";
-const NO_COMMAND: &str =
-    "night:3:26: refused 9: no command after the time, or in a system table after the user\n";
+const NO_COMMAND: &str = "\
+night:3:26: error: no command after the user [9]
+    0 22-3/2 * * fri-sun cool
+                             ^
+    hint: in a system table a user stands before the command
+night: refused: 1 error
+";
 
 /// Arguments of `check`, the lines that it prints, and its status.
 const CHECKED: [(&[&str], &[&str], i32); 14] = [
     (&["night"], &[REVERSED], 1),
-    (&["sunday"], &["sunday: 1 entries\n"], 0),
+    (&["sunday"], &["sunday: 1 entry\n"], 0),
     (&["--dialect", "rising", "night"], &[REVERSED], 1),
     (&["--dialect=rising", "night"], &[REVERSED], 1),
     (&["--dialect", "wrapping", "night"], &[TAKEN], 0),
@@ -59,7 +77,7 @@ const CHECKED: [(&[&str], &[&str], i32); 14] = [
         1,
     ),
     (&["-s", "--dialect", "wrapping", "night"], &[NO_COMMAND], 1),
-    (&["--", "--dialect"], &["--dialect: 1 entries\n"], 0),
+    (&["--", "--dialect"], &["--dialect: 1 entry\n"], 0),
 ];
 
 /// Wherever the option stands, as two words or as one; the last one counts, and behind `--` it is a name.
@@ -131,7 +149,7 @@ fn a_text_that_is_too_long_is_refused_at_its_line() {
     format.write("long", format!("A=b\n{long}"));
     let (text, complaint, status) = all(&format.run(&["--dialect=wrapping", "long"]));
     assert!(
-        complaint.starts_with("long:2:1: refused 21: "),
+        complaint.starts_with("long:2:1: error: in normal form a line has more than 1000 bytes"),
         "{complaint}"
     );
     assert_eq!((text.as_str(), status), ("", Some(1)));
@@ -162,10 +180,7 @@ fn compile_reads_in_the_dialect_that_is_named() {
 
 /// Arguments, and what is wrong with them.
 const WRONG: [(&[&str], &str); 10] = [
-    (
-        &["night", "--dialect"],
-        "no dialect is named: it is rising or wrapping",
-    ),
+    (&["night", "--dialect"], "--dialect needs a value: NAME"),
     (
         &["--dialect=", "night"],
         "unknown dialect '': it is rising or wrapping",
@@ -247,7 +262,7 @@ fn the_example_over_midnight() {
     assert_eq!(all(&found), is(text, "", 0));
     let (_, complaint, status) = all(&format.run(&["example"]));
     assert!(
-        complaint.starts_with("example:5:10: refused 7: "),
+        complaint.starts_with("example:5:10: error: hour: 19-7 "),
         "{complaint}"
     );
     assert_eq!(status, Some(1));

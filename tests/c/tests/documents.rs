@@ -5,17 +5,24 @@ use std::collections::HashSet;
 use std::fs;
 use std::path::Path;
 
-/// The indented blocks of the README, without their indentation.
+/// The indented blocks of the README, without their indentation. Blank lines within one are of it.
 fn shown() -> Vec<String> {
     let readme = fs::read_to_string(root().join("README.md")).expect("the README");
     let mut blocks = vec![String::new()];
+    let mut blank = 0;
     for line in readme.lines() {
+        let block = blocks.last_mut().expect("a block");
         match line.strip_prefix("    ") {
-            Some(text) => blocks
-                .last_mut()
-                .expect("a block")
-                .push_str(&format!("{text}\n")),
-            None => blocks.push(String::new()),
+            Some(text) => {
+                block.push_str(&"\n".repeat(blank));
+                block.push_str(&format!("{text}\n"));
+                blank = 0;
+            }
+            None if line.is_empty() && !block.is_empty() => blank += 1,
+            None => {
+                blocks.push(String::new());
+                blank = 0;
+            }
         }
     }
     blocks
@@ -84,6 +91,41 @@ fn crontab_firings_prints_what_is_shown() {
 }
 
 #[test]
+fn eremothyn_explain_prints_what_is_shown() {
+    prints_what_is_shown(
+        "target/c/eremothyn",
+        "explain -s --from 2026-11-15T21:00 examples/system.crontab",
+    );
+}
+
+/// What the page says of the two day fields.
+#[test]
+fn the_page_of_words_shows_both_rules_for_days() {
+    let page = page("eremothyn-explain.1");
+    let (_, rows) = page.split_once("l l.\n").expect("a table");
+    let (rows, _) = rows.split_once(".TE").expect("its end");
+    assert_eq!(rows.lines().count(), 4, "{rows}");
+    for row in rows.lines() {
+        let (times, words) = row.split_once('|').expect("two cells");
+        let (text, status) = script(&format!("echo '{times} x' | eremothyn explain -"));
+        assert_eq!(status, Some(0));
+        assert!(text.starts_with(&format!("line 1: {words}\n")), "{text}");
+    }
+}
+
+#[test]
+fn the_winter_is_shown_on_paper() {
+    prints_what_is_shown(
+        "target/c/eremothyn",
+        "agenda examples/observatory.crontab 2026-11-01 2026-12-31",
+    );
+    prints_what_is_shown(
+        "target/c/eremothyn",
+        "next --from 2026-11-15T21:30 --local examples/two_sites.crontab 3",
+    );
+}
+
+#[test]
 fn eremothyn_format_prints_what_is_shown() {
     prints_what_is_shown("target/c/eremothyn", "format examples/observatory.crontab");
 }
@@ -113,7 +155,10 @@ fn records_go_there_and_back_as_shown() {
 /// A page of the manual as it is read.
 fn page(name: &str) -> String {
     let page = fs::read_to_string(root().join("packaging").join(name)).expect("the page");
-    page.replace("\\-", "-").replace("\\e", "\\")
+    let signs = [("\\-", "-"), ("\\e", "\\"), ("\\(ha", "^"), ("\\(ti", "~")];
+    signs
+        .iter()
+        .fold(page, |page, (written, sign)| page.replace(written, sign))
 }
 
 /// What stands as examples on a page.
@@ -123,11 +168,15 @@ fn examples(page: &str) -> Vec<&str> {
         .collect()
 }
 
-/// The examples of each page, each a command and what it prints.
+/// The examples of each page, each a command and what it prints; its status is 1 where it shows an error.
 #[test]
 fn the_pages_show_what_is_printed() {
     for name in [
+        "eremothyn-agenda",
+        "eremothyn-explain",
+        "eremothyn-check",
         "eremothyn-format",
+        "eremothyn-next",
         "eremothyn-compile",
         "eremothyn-decompile",
         "crontab_firings",
@@ -139,7 +188,8 @@ fn the_pages_show_what_is_printed() {
             let (command, text) = example.split_once('\n').expect("a command");
             let (found, status) = script(command);
             assert_eq!(found.trim_end(), text.trim_end(), "{command}");
-            assert_eq!(status, Some(0), "{command}");
+            let is_refused = text.contains(": error: ");
+            assert_eq!(status, Some(is_refused.into()), "{command}");
         }
     }
 }
@@ -190,9 +240,9 @@ fn meant(dialect: &str, which: usize, field: &str) -> String {
         let field = text.split(' ').nth(which);
         return field.expect("a field").to_string();
     }
-    let (verdict, _) = script(&format!("eremothyn check {options}"));
-    let (_, number) = verdict.split_once(": refused ").expect("a refusal");
-    let (number, _) = number.split_once(':').expect("a number");
+    let (verdict, _) = script(&format!("eremothyn check --short {options}"));
+    let (_, number) = verdict.trim_end().rsplit_once('[').expect("a refusal");
+    let number = number.strip_suffix(']').expect("a number");
     format!("refused ({number})")
 }
 

@@ -47,12 +47,15 @@ fn standard_input_is_read_where_no_file_is_named() {
         assert_eq!(all(&output), is(TEXT, "", 0), "{way:?}");
     }
     let refused = all(&format.run_with::<&str>(&[], b"\n@"));
-    assert!(refused.1.starts_with("-:2:1: refused 10: "), "{refused:?}");
+    assert!(
+        refused.1.starts_with("-:2:1: error: '@' is not one of "),
+        "{refused:?}"
+    );
     assert_eq!((refused.0.as_str(), refused.2), ("", Some(1)));
     // A file of that name has another, too.
     let refused = all(&format.run(&["./-"]));
     assert!(
-        refused.1.starts_with("./-:1:1: refused 10: "),
+        refused.1.starts_with("./-:1:1: error: '@' is not one of "),
         "{refused:?}"
     );
 }
@@ -63,14 +66,13 @@ fn several_files_are_printed_one_behind_the_other() {
     format.write("one", TABLE);
     format.write("two", "A = b\n");
     format.write("bad", "# a\n60 0 * * * x\n");
-    let limits =
-        "a number outside its limits: minute 0-59, hour 0-23, day 1-31, month 1-12, weekday 0-7, or 0-6 in the wrapping dialect";
-    let bad = format!("bad:2:1: refused 6: {limits}\n");
+    let bad = "bad:2:1: error: minute: 60 is outside 0-59 [6]\n    60 0 * * * x\n    ^~\n    \
+        hint: a full hour is minute 0\nbad: refused: 1 error\n";
     let missing = "eremothyn format: missing: No such file or directory\n";
     let output = format.run(&["one", "two", "one"]);
     assert_eq!(all(&output), is(&format!("{TEXT}A=b\n{TEXT}"), "", 0));
     let output = format.run(&["bad", "two"]);
-    assert_eq!(all(&output), is("A=b\n", &bad, 1));
+    assert_eq!(all(&output), is("A=b\n", bad, 1));
     let output = format.run(&["missing", "bad", "two"]);
     assert_eq!(all(&output), is("A=b\n", &format!("{missing}{bad}"), 2));
     let output = format.run(&["two", "bad", "missing", "two"]);
@@ -93,6 +95,7 @@ fn a_refused_table_is_told_as_check_tells_it() {
         "a=b\n0 0 * * *",
         "a=b\n0 0 * * * x",
         "a=b\r\n0 0 * * * x\r\n",
+        "60 * * * * x\nexport A=b\n0 0 1 * mon-sun\n@reboot x",
     ] {
         format.write("table", table);
         let verdict = format.verdict("table");
@@ -120,19 +123,17 @@ fn a_text_that_is_too_long_is_refused_at_its_line() {
     assert_eq!(normal_text(long.as_bytes()), Err(21));
     format.write("line", format!("# one\nA = b\n{long}{long}"));
     let output = format.run(&["-l", "line"]);
-    assert_eq!(
-        all(&output),
-        is("", &format!("line:3:1: refused 21: {TOO_LONG}\n"), 1)
-    );
+    // 73 columns of the line, and that more follow.
+    let shown = format!("    @daily {}...\n    ^\n", "x".repeat(66));
+    let told = format!("line:3:1: error: {TOO_LONG} [21]\n{shown}line: refused: 1 error\n");
+    assert_eq!(all(&output), is("", &told, 1));
     // Each line fits, and all of them don't.
     let mut random = Random::seeded();
     let table = samples::table_written_in(&mut random, TABLE_BYTES + 1);
     format.write("whole", &table);
     let output = format.run(&["whole"]);
-    assert_eq!(
-        all(&output),
-        is("", &format!("whole:0:0: refused 21: {TOO_LONG}\n"), 1)
-    );
+    let told = format!("whole:0:0: error: {TOO_LONG} [21]\nwhole: refused: 1 error\n");
+    assert_eq!(all(&output), is("", &told, 1));
 }
 
 #[test]
@@ -195,11 +196,8 @@ fn what_cannot_be_read_is_said() {
             assert_eq!(all(&format.run(&[option, name])), is("", &complaint, 2));
         }
     }
-    let endless = all(&format.run(&["/dev/zero"]));
-    assert!(
-        endless.1.starts_with("/dev/zero:0:0: refused 1: "),
-        "{endless:?}"
-    );
+    let endless = "/dev/zero:0:0: error: the table has more than 49152 bytes [1]\n/dev/zero: refused: 1 error\n";
+    assert_eq!(all(&format.run(&["/dev/zero"])), is("", endless, 1));
 }
 
 /// Wrong arguments are said before any file is read or written.
@@ -278,9 +276,12 @@ fn it_prints_what_the_second_program_writes() {
                 assert_eq!((output.stdout, output.status.code()), (text, Some(0)));
             }
             (Err(_), Err(fault)) => {
-                let place = format!("table:{}:{}: ", fault.line, fault.column);
-                let start = format!("{place}refused {}: ", fault.number);
-                assert!(complaint(&output).starts_with(&start), "{output:?}");
+                let place = format!("table:{}:{}: error: ", fault.line, fault.column);
+                let complaint = complaint(&output);
+                let first = complaint.lines().next().expect("a line");
+                let number = format!(" [{}]", fault.number);
+                assert!(first.starts_with(&place), "{complaint}");
+                assert!(first.ends_with(&number), "{complaint}");
                 assert_eq!((output.stdout.len(), output.status.code()), (0, Some(1)));
             }
             (Err(number), Ok(_)) => panic!("{number}: {}", table.escape_ascii()),

@@ -107,7 +107,7 @@ fn a_refused_file_stays_and_the_others_are_rewritten() {
     let before = fs::metadata(&bad).expect("a file").ino();
     let output = format.run(&["-w", "-l", "one", "bad", "two"]);
     assert_eq!((c::told(&output)), ("one\ntwo\n".to_string(), Some(1)));
-    assert!(complaint(&output).starts_with("bad:2:1: refused 6: "));
+    assert!(complaint(&output).starts_with("bad:2:1: error: minute: 60 is outside 0-59 [6]\n"));
     assert_eq!(format.read("bad"), b"A = b\n60 0 * * * x\n");
     assert_eq!(fs::metadata(&bad).expect("a file").ino(), before);
     for name in ["one", "two"] {
@@ -281,7 +281,7 @@ impl Open {
         let folder = std::env::temp_dir().join(format!("{name}-{}", std::process::id()));
         fs::create_dir_all(folder.join("tables")).expect("a folder");
         let program = folder.join("program");
-        fs::copy(&format.program, &program).expect("the program is copied");
+        format.copy_program(&program);
         set_mode(&folder, 0o755);
         set_mode(&program, 0o755);
         Open { folder, program }

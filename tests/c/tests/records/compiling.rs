@@ -54,7 +54,9 @@ fn a_refused_table_is_told_as_check_tells_it() {
     }
     let endless = all(&compile.run(&["/dev/zero"]));
     assert!(
-        endless.1.starts_with("/dev/zero:0:0: refused 1: "),
+        endless
+            .1
+            .starts_with("/dev/zero:0:0: error: the table has more than 49152 bytes [1]\n"),
         "{endless:?}"
     );
 }
@@ -72,7 +74,9 @@ fn a_text_that_is_too_long_is_refused_at_its_line() {
     );
     for (name, place) in [("line", "3:1"), ("whole", "0:0")] {
         let (text, complaint, status) = all(&compile.run(&[name]));
-        let start = format!("{name}:{place}: refused 21: ");
+        let words =
+            "in normal form a line has more than 1000 bytes, or the table more than 49152 [21]";
+        let start = format!("{name}:{place}: error: {words}\n");
         assert!(complaint.starts_with(&start), "{complaint}");
         assert_eq!((text.as_str(), status), ("", Some(1)));
     }

@@ -1,0 +1,46 @@
+/* The entries of a table, each with what the library says of it. */
+
+#ifndef ENTRY_H
+#define ENTRY_H
+
+#include <stdbool.h>
+#include <stdint.h>
+
+#include "file.h"
+
+/* The five fields, in the order of a line; a set has bit n for the value n, and Sunday is 0. */
+enum { MINUTE, HOUR, DAY, MONTH, WEEKDAY, FIELDS };
+
+/* How many values a set has. */
+int set_size(uint64_t set);
+
+struct times {
+    uint64_t sets[FIELDS];
+    bool stars[FIELDS]; /* which fields begin with a star */
+};
+
+struct entry {
+    uint64_t line;
+    bool at_boot;       /* then it has no times */
+    struct times times; /* by its own clock */
+    bool has_clock;     /* whether a CRON_TZ stands before it */
+    int offset;         /* by how many minutes its clock is ahead of UTC */
+    struct part owner;  /* its user column; no bytes in a user table */
+    struct part command;
+};
+
+/* All entries of a good table, in order, each at its number. */
+struct entries {
+    struct entry all[EREMOTHYN_MAX_ENTRIES];
+    uint64_t count;
+};
+
+void read_entries(const struct file *table, struct entries *entries);
+
+/* The line that an entry of a table stands on, with its newline. Alone it is a table, of one entry that goes by UTC. */
+struct part text_of(const struct file *table, const struct entry *entry);
+
+/* Whether two entries mean the same. */
+bool is_same_entry(const struct entry *one, const struct entry *other);
+
+#endif

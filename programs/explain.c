@@ -1,0 +1,94 @@
+/* eremothyn explain [-s] [--dialect NAME] [--from DATE] FILE: what each entry means, in plain words. */
+
+#include <inttypes.h>
+#include <stdio.h>
+
+#include "command.h"
+#include "date.h"
+#include "entry.h"
+#include "fault.h"
+#include "firing.h"
+#include "say.h"
+#include "words.h"
+
+enum { FROM };
+static const struct option OPTIONS[] = {
+    [FROM] = { 0, "from", "DATE", "next firings from 2026-11-15 or 2026-11-15T21:30 on, and not from now" },
+    NO_OPTION,
+};
+
+/* When an entry fires next, or that it doesn't; boot has no date. */
+static void print_next(const struct file *table, uint64_t number, const struct entry *entry, uint64_t from)
+{
+    if (entry->at_boot)
+        return;
+    uint64_t next = first_firing(table, number, from);
+    fputs("    ", stdout);
+    if (EREMOTHYN_IS_REFUSED(next)) {
+        fputs(eremothyn_words(EREMOTHYN_REFUSAL(next)), stdout);
+    } else {
+        fputs("next ", stdout);
+        print_minute(stdout, next);
+        if (entry->has_clock) {
+            fputs(", by its clock ", stdout);
+            print_minute(stdout, next + (uint64_t)(int64_t)entry->offset);
+        }
+    }
+    putchar('\n');
+}
+
+static void explain_entry(const struct file *table, uint64_t number, const struct entry *entry, uint64_t from)
+{
+    char words[MOST_WORDS];
+    char clock[CLOCK_WORDS];
+    words_of(entry, words);
+    clock_of(entry, clock);
+    printf("line %" PRIu64 ": %s", entry->line, words);
+    if (entry->has_clock && !entry->at_boot)
+        printf(", by the clock %s", clock);
+    putchar('\n');
+    print_next(table, number, entry, from);
+    fputs("    ", stdout);
+    if (entry->owner.length > 0)
+        printf("%.*s  ", (int)entry->owner.length, (const char *)entry->owner.start);
+    printf("%.*s\n", (int)entry->command.length, (const char *)entry->command.start);
+}
+
+static int explain(const char *name, uint64_t from, struct rules rules)
+{
+    static struct file table;
+    static struct entries entries;
+    int status = read_good_table(name, rules, &table);
+    if (status != DONE)
+        return status;
+    read_entries(&table, &entries);
+    for (uint64_t number = 0; number < entries.count; number++)
+        explain_entry(&table, number, &entries.all[number], from);
+    if (entries.count == 0)
+        printf("%s: no entries\n", name);
+    return written(DONE);
+}
+
+static int run(const struct arguments *arguments)
+{
+    struct minutes from = { minute_now() + 1, 0 };
+    const char *date = arguments->values[FROM];
+    if (arguments->count != 1)
+        return misuse(arguments->count == 0 ? "no file is named" : "more than one file is named");
+    if (date != NULL && !take_date(date, &from))
+        return FAILED;
+    return explain(arguments->operands[0], from.first, arguments->rules);
+}
+
+const struct command explain_command = {
+    "explain",
+    "FILE",
+    "say in plain words when each entry of a crontab fires",
+    "Prints for each entry the number of its line and when it fires, its next firing in UTC, and its\n"
+    "command. Two spellings of one entry have the same words.\n"
+    "The exit status is 0 if the file is taken, 1 if it is refused, which standard error tells as\n"
+    "'eremothyn check' does, 2 if it can't be read or standard output can't be written.\n",
+    ALL_TABLES,
+    OPTIONS,
+    run,
+};

@@ -1,0 +1,22 @@
+//! `eremothyn agenda`: what will fire in a span, for a person.
+
+mod compared;
+mod edges;
+mod pages;
+mod parsed;
+mod wanted;
+mod worked;
+
+use c::{all, Subcommand};
+
+fn agenda_in(folder: &str) -> Subcommand {
+    Subcommand::new("agenda", folder)
+}
+
+/// The agenda of a table that is taken, by its bytes: each is a character.
+fn agenda_of(agenda: &Subcommand, arguments: &[&str], table: &[u8]) -> String {
+    let output = agenda.run_with(arguments, table);
+    let (_, complaint, status) = all(&output);
+    assert_eq!((complaint.as_str(), status), ("", Some(0)), "{arguments:?}");
+    output.stdout.iter().copied().map(char::from).collect()
+}
