@@ -1,9 +1,8 @@
 -- Laws of numbers in bytes: each way leads back.
 -- Assumes nothing.
 use mathlib.Core.Path.{_≡_, refl, sym, ap, _∙_}
-use mathlib.Core.List.{List, [], _∷_, _++_}
+use mathlib.Core.List.{List, [], _∷_}
 use Prim.Native.Nat.{ℕ, zero, suc, _+_, _-_, _*_, _/_, _%_, _≤_, _<_}
-use native.Mathlib.Nat.{mul-assoc}
 use native.Mathlib.Omega.{arith}
 use lib.ListN.{length, take, drop, getD, length-drop}
 use lib.Seq.{drop-cons, drop-drop, getD-drop, length-take-le}
@@ -38,12 +37,6 @@ unfolding littleEndian
 length-littleEndian zero n = refl
 length-littleEndian (suc k) n = ap suc (length-littleEndian k (n / 256))
 
-pub littleEndian-bytes : (k n : ℕ) → Bytes (littleEndian k n)
-unfolding littleEndian
-littleEndian-bytes zero n i = omega arith
-littleEndian-bytes (suc k) n zero = omega arith
-littleEndian-bytes (suc k) n (suc i) = littleEndian-bytes k (n / 256) i
-
 pub number-back : (k n : ℕ) → n < width k → numberOf (littleEndian k n) ≡ n
 unfolding littleEndian numberOf
 number-back zero n h = omega arith
@@ -63,11 +56,6 @@ bytes-back (b ∷ s) f =
     let low : (b + 256 * numberOf s) % 256 ≡ b = omega (arith, f 0) in
     let high : (b + 256 * numberOf s) / 256 ≡ numberOf s = omega (arith, f 0) in
     rw (low, high, bytes-back s (λ i. f (suc i)))
-
-pub number-append : (s t : List ℕ) → numberOf (s ++ t) ≡ numberOf s + width (length s) * numberOf t
-unfolding numberOf
-number-append [] t = omega arith
-number-append (b ∷ s) t = rw (number-append s t, mul-assoc 256 (width (length s)) (numberOf t)) (omega arith)
 
 -- ---- the number of bytes at a place, from its high byte on
 

@@ -1,13 +1,13 @@
 -- Laws of a number that is a whole field: it is divided by no byte, and is the only element of its list.
 -- Assumes nothing.
 use mathlib.Core.Path.{_≡_, refl, sym, ap, _∙_}
-use mathlib.Core.Bool.{Bool, true, false, cond, not, _&&_, and-eq-true-iff}
+use mathlib.Core.Bool.{Bool, true, false, cond, _&&_, and-eq-true-iff}
 use mathlib.Core.List.{List, [], _∷_}
-use Prim.Native.Nat.{ℕ, suc}
+use Prim.Native.Nat.{ℕ}
 use native.Mathlib.Omega.{arith}
 use lib.ListN.{length}
 use lib.Seq.{take-all}
-use lib.Dec.{eqb, leb}
+use lib.Dec.{leb}
 use borrow.Author.Tests.{le-ltb, ne-eqb}
 use Rattle.bytes.specs.declared.class.Class.the-variants.{Not}
 use Rattle.bytes.specs.Classes.{ofClass}
@@ -16,7 +16,7 @@ use Rattle.field.specs.declared.Limits.{Limits}
 use Rattle.field.specs.declared.Answer.the-variants.{Values}
 use Rattle.field.specs.declared.number.Number.the-variants.{Value, Malformed}
 use Rattle.field.specs.declared.element.Element.the-variants.{Range}
-use Rattle.field.specs.Parts.{contains, before, after, split}
+use Rattle.field.specs.Parts.{contains, before, split}
 use Rattle.field.specs.Numbers.{isDigit, areDigits, valueFrom, numberOf}
 use Rattle.field.specs.Elements.{isElement, ranging, numberOr, endOf, elementOf}
 use Rattle.field.specs.Judgement.{judged}

@@ -39,16 +39,6 @@ push-room n room e h q below out =
     let small : ltb (suc (length l)) limit ≡ true = lt-ltb (suc (length l)) limit (omega arith) in
     (rw (fits, small), rw (fits, small))
 
--- the line is longer by it, and the room holds a line of n entries again
-pub push-line : (n : ℕ) (room : List ℕ) (e : ℕ) → n < limit → isQueue n room ≡ true → e < n → standsIn e (queueOf room) ≡ false
-    → (queueOf (pushed e room) ≡ queueOf room ++ e ∷ []) × (isQueue n (pushed e room) ≡ true)
-push-line n room e h q below out =
-    let l = queueOf room in
-    let i = is-queue n room q in
-    let g = entries-snoc n l e (i .entries-is) below out in
-    let done = push-room n room e h q below out .1 in
-    (ap queueOf done ∙ queueOf-laid n (l ++ e ∷ []) room h g, ap (isQueue n) done ∙ isQueue-laid n (l ++ e ∷ []) room h g (i .roomy-is))
-
 -- the same of a line that was laid
 pub push-laid : (n : ℕ) (l room : List ℕ) (e : ℕ) → n < limit → queueRoomy n room ≡ true → entriesOf n l ≡ true → e < n → standsIn e l ≡ false
     → (canPush (queueLaid l room) ≡ true) × (pushed e (queueLaid l room) ≡ queueLaid (l ++ e ∷ []) room)

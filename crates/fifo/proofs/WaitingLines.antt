@@ -10,8 +10,8 @@ use native.Mathlib.Nat.{lt-of-not-le}
 use native.Mathlib.Decide.{decLe, ℕ-discrete}
 use lib.Dec.{ltb, eqb}
 use native.Mathlib.Numerals.{add-one}
-use lib.ListN.{drop-of-length-le, length, length-append, getD, take, drop}
-use lib.Seq.{drop-cons, split-at, take-suc}
+use lib.ListN.{length, length-append, getD, take, drop}
+use lib.Seq.{split-at, take-suc}
 use borrow.Author.Tests.{ltb-true, eqb-true, eqb-false, lt-ltb, le-ltb, eq-eqb, ne-eqb, not-true}
 use Rattle.fifo.specs.WaitingLine.{standsIn, entriesOf, pick}
 use Rattle.fifo.specs.Steps.{behind}
@@ -26,19 +26,6 @@ stands-append e (x ∷ l) k = go (eqb x e) (stands-append e l k)
     go : (b : Bool) → standsIn e (l ++ k) ≡ (standsIn e l || standsIn e k) → (b || standsIn e (l ++ k)) ≡ (b || standsIn e l || standsIn e k)
     go true h = refl
     go false h = h
-
--- a search from place i on: it finds e there, goes on, or is at the end
-pub stands-here : (e : ℕ) (l : List ℕ) (i : ℕ) → i < length l → getD l i 0 ≡ e → standsIn e (drop i l) ≡ true
-unfolding standsIn
-stands-here e l i h q = rw (drop-cons l i 0 h, eq-eqb _ _ q)
-
-pub stands-next : (e : ℕ) (l : List ℕ) (i : ℕ) → i < length l → (getD l i 0 ≡ e → ⊥) → standsIn e (drop (i + 1) l) ≡ standsIn e (drop i l)
-unfolding standsIn
-stands-next e l i h q = rw (add-one i, drop-cons l i 0 h, ne-eqb _ _ q)
-
-pub stands-end : (e : ℕ) (l : List ℕ) (i : ℕ) → length l ≤ i → standsIn e (drop i l) ≡ false
-unfolding standsIn
-stands-end e l i h = rw (drop-of-length-le l h)
 
 -- ---- lines of n entries
 

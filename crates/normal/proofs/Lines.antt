@@ -112,11 +112,6 @@ line-back d (timed x command) e =
 
 -- ---- its text has only bytes that a line may have
 
--- a byte of a line before others
-in-line : (b : ℕ) (s : List ℕ) → ofClass InLine b ≡ true → areOf InLine s ≡ true → areOf InLine (b ∷ s) ≡ true
-unfolding areOf
-in-line b s p q = rw (p, q)
-
 quoted-clean : (s : List ℕ) → areOf InLine s ≡ true → areOf InLine (quoted s) ≡ true
 unfolding quoted ofClass isControl areOf
 quoted-clean s h = go (areOf (Not 34) s)

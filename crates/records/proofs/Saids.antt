@@ -38,9 +38,6 @@ pub record Alike (a b : Said) : Type 0 where
   pub items : itemsSaid a ≡ itemsSaid b
   pub refusal : refusalSaid a ≡ refusalSaid b
 
-pub alike-refl : (a : Said) → Alike a a
-alike-refl a = record { items = refl; refusal = refl }
-
 after-alike : (m n : ℕ) (c : Content) {a b : Said} → Alike a b → Alike (afterRecord m c a) (afterRecord n c b)
 unfolding afterRecord itemsSaid refusalSaid
 after-alike m n skipped x = x

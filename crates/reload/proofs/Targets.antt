@@ -21,7 +21,7 @@ use Rattle.crontab.specs.declared.entry.Entry.{Entry}
 use Rattle.crontab.specs.declared.chosen.Chosen.{Chosen}
 use Rattle.crontab.specs.declared.table.EntryAnswer.{EntryAnswer}
 use Rattle.crontab.specs.declared.table.EntryAnswer.the-variants.{Found, Refused}
-use Rattle.crontab.specs.Tables.{tableOf, entryIn, blankEntry}
+use Rattle.crontab.specs.Tables.{tableOf, entryIn}
 use Rattle.crontab.specs.Choices.{markWords, choice, chosenBy}
 use Rattle.crontab.proofs.Theorems.{table-sound}
 use Rattle.runqueue.specs.Jobs.{jobAt}
@@ -47,9 +47,6 @@ below-less p n k h t =
     omega (arith, more, below-next p n t)
 
 -- ---- entries of a table have offsets that may be
-
-blank-zone : InZones (blankEntry .offset)
-blank-zone = omega arith
 
 duty-zone : (rules : Rules) (s : List ℕ) (i : ℕ) → i < tableOf rules s .count → InZones (dutyIn rules s i .offset)
 unfolding dutyIn dutyOf jobAt

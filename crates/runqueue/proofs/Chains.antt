@@ -9,7 +9,6 @@ use native.Mathlib.Nat.{lt-of-not-le}
 use native.Mathlib.Decide.{decLe}
 use native.Mathlib.Omega.{arith}
 use borrow.Author.Tests.{le-leb, lt-leb}
-use Rattle.bytes.specs.Search.{passes}
 use Rattle.bytes.specs.Passing.{passingUpTo}
 use Rattle.bytes.proofs.Search.{some-passes, passes-some}
 use Rattle.bytes.proofs.Passing.{up-end, up-here, up-skip}

@@ -61,6 +61,21 @@ pub fn job(table: &Table, entry: &Entry) -> String {
 
 const WEEKDAYS: [&str; 7] = ["Sun", "Mon", "Tue", "Wed", "Thu", "Fri", "Sat"];
 
+pub const MONTHS: [&str; 12] = [
+    "January",
+    "February",
+    "March",
+    "April",
+    "May",
+    "June",
+    "July",
+    "August",
+    "September",
+    "October",
+    "November",
+    "December",
+];
+
 /// A minute as 2026-11-15 Sun 21:30.
 pub fn minute_text(minute: u64) -> String {
     let date = date_of(minute).expect("a minute of the calendar");

@@ -1,5 +1,6 @@
 //! Minutes and dates.
 
+use crate::calls::counted;
 use crate::Run;
 use second::answer::{from_c, Answer};
 
@@ -31,33 +32,37 @@ unsafe extern "C" {
 pub fn date<'r>(minute: u64, run: impl Into<Run<'r, u16>>) -> Answer {
     let run = run.into();
     // SAFETY: the run has as many numbers as its length says.
-    from_c(unsafe { eremothyn_date(minute, run.start, run.length) })
+    from_c(counted(unsafe {
+        eremothyn_date(minute, run.start, run.length)
+    }))
 }
 
 pub fn minute_of_date(year: u64, month: u64, day: u64, hour: u64, minute: u64) -> Answer {
-    from_c(eremothyn_minute_of_date(year, month, day, hour, minute))
+    from_c(counted(eremothyn_minute_of_date(
+        year, month, day, hour, minute,
+    )))
 }
 
 pub fn year(minute: u64) -> Answer {
-    from_c(eremothyn_year(minute))
+    from_c(counted(eremothyn_year(minute)))
 }
 
 pub fn month(minute: u64) -> Answer {
-    from_c(eremothyn_month(minute))
+    from_c(counted(eremothyn_month(minute)))
 }
 
 pub fn day(minute: u64) -> Answer {
-    from_c(eremothyn_day(minute))
+    from_c(counted(eremothyn_day(minute)))
 }
 
 pub fn hour(minute: u64) -> Answer {
-    from_c(eremothyn_hour(minute))
+    from_c(counted(eremothyn_hour(minute)))
 }
 
 pub fn minute_of_hour(minute: u64) -> Answer {
-    from_c(eremothyn_minute_of_hour(minute))
+    from_c(counted(eremothyn_minute_of_hour(minute)))
 }
 
 pub fn weekday(minute: u64) -> Answer {
-    from_c(eremothyn_weekday(minute))
+    from_c(counted(eremothyn_weekday(minute)))
 }

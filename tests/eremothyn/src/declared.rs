@@ -1,5 +1,6 @@
 //! A table, and the C functions that take one. What a table is to C stands in this file alone.
 
+use crate::calls::counted;
 use second::table::{Dialect, Kind, Rules};
 use std::marker::PhantomData;
 
@@ -106,7 +107,7 @@ macro_rules! function_of_a_table {
         impl Table<'_> {
             #[inline]
             pub(crate) unsafe fn $name(self, $($parameter: $type),*) -> u64 {
-                unsafe { $name(self.start, self.length, $(self.numbers.$number,)* $($parameter),*) }
+                counted(unsafe { $name(self.start, self.length, $(self.numbers.$number,)* $($parameter),*) })
             }
         }
     };
@@ -174,7 +175,7 @@ impl Table<'_> {
         room_length: u64,
     ) -> u64 {
         let Numbers { kind, dialect } = self.numbers;
-        unsafe {
+        counted(unsafe {
             eremothyn_queue_reload(
                 self.start,
                 self.length,
@@ -185,7 +186,7 @@ impl Table<'_> {
                 room,
                 room_length,
             )
-        }
+        })
     }
 }
 

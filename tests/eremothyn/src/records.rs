@@ -1,5 +1,6 @@
 //! Records, and the C functions that take them.
 
+use crate::calls::counted;
 use crate::Run;
 use second::answer::{from_c, Answer};
 use std::marker::PhantomData;
@@ -44,11 +45,13 @@ impl<'a> Records<'a> {
     /// The length of the normal text, which is written to the front of a run.
     pub fn decompile<'t>(self, text: impl Into<Run<'t>>) -> Answer {
         let text = text.into();
-        from_c(unsafe { eremothyn_decompile(self.start, self.length, text.start, text.length) })
+        from_c(counted(unsafe {
+            eremothyn_decompile(self.start, self.length, text.start, text.length)
+        }))
     }
 
     /// The number of the first bad record, or 0.
     pub fn fault(self) -> u64 {
-        unsafe { eremothyn_record_fault(self.start, self.length) }
+        counted(unsafe { eremothyn_record_fault(self.start, self.length) })
     }
 }

@@ -1,7 +1,5 @@
 -- `fifo::waiting` meets its contract.
 -- Assumes nothing.
-use mathlib.Core.Path.{refl}
-use native.Mathlib.Omega.{arith}
 use borrow.Author.Needs.{needs}
 use Rattle.fifo.specs.Layout.{lineOf}
 use Rattle.fifo.proofs.Lines.{rest-whole}

@@ -1,5 +1,6 @@
 //! An agenda taken apart again. Blanks are taken out of jobs: where a line is broken, they aren't shown.
 
+use c::shown::MONTHS;
 use second::calendar::minute_of;
 
 #[derive(Debug, Default, PartialEq, Eq)]
@@ -14,21 +15,6 @@ pub struct Agenda {
     /// When, the entry's own hours, and the job.
     pub others: Vec<(String, String, String)>,
 }
-
-const MONTHS: [&str; 12] = [
-    "January",
-    "February",
-    "March",
-    "April",
-    "May",
-    "June",
-    "July",
-    "August",
-    "September",
-    "October",
-    "November",
-    "December",
-];
 
 pub fn squeezed(job: &str) -> String {
     job.replace(' ', "")

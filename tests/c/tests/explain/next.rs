@@ -1,21 +1,11 @@
 //! The next firing of each entry is the second program's.
 
 use super::explained;
+use c::shown::{minute_text, typed};
 use c::Subcommand;
-use second::calendar::{date_of, LAST_MINUTE};
+use second::calendar::LAST_MINUTE;
 use second::random::Random;
 use second::table::{read, samples, Entry, Kind, When};
-
-const WEEKDAYS: [&str; 7] = ["Sun", "Mon", "Tue", "Wed", "Thu", "Fri", "Sat"];
-
-fn shown(minute: u64) -> String {
-    let date = date_of(minute).expect("a date");
-    let weekday = WEEKDAYS[date.weekday as usize];
-    format!(
-        "{:04}-{:02}-{:02} {weekday} {:02}:{:02}",
-        date.year, date.month, date.day, date.hour, date.minute
-    )
-}
 
 /// The line that tells the first firing from a minute on, or why there is none.
 fn told_of(entry: &Entry, from: u64) -> Option<String> {
@@ -27,7 +17,7 @@ fn told_of(entry: &Entry, from: u64) -> Option<String> {
         false => entry.next_after(from),
     };
     Some(match first {
-        Ok(minute) => format!("next {}", shown(minute)),
+        Ok(minute) => format!("next {}", minute_text(minute)),
         Err(16) => "never fires".to_string(),
         Err(17) => "fires no more before the year 10000".to_string(),
         Err(other) => panic!("refused {other}"),
@@ -48,8 +38,7 @@ fn next_firings_are_the_second_program_s() {
         };
         let table = samples::table(&mut random, Kind::User, 60);
         let read = read(&table, Kind::User).expect("a good table");
-        let date = shown(from);
-        let typed = format!("{}T{}", &date[..10], &date[15..]);
+        let typed = typed(from);
         let found = explained(&explain, &["--from", &typed], &table);
         assert_eq!(found.len(), read.entries.len());
         for (entry, (first, below)) in read.entries.iter().zip(&found) {
@@ -96,7 +85,7 @@ fn without_a_date_it_is_now() {
     let found = explained(&explain, &[], b"* * * * * a\n");
     let after = now();
     let expected: Vec<String> = (before + 1..=after + 1)
-        .map(|minute| format!("next {}", shown(minute)))
+        .map(|minute| format!("next {}", minute_text(minute)))
         .collect();
     assert!(expected.contains(&found[0].1[0]), "{found:?}");
 }

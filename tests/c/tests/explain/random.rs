@@ -2,10 +2,11 @@
 
 use super::reader::{read as read_words, sunday_first, Meaning, EVERY};
 use super::words;
+use c::shown::reading;
 use c::Subcommand;
 use second::random::Random;
 use second::schedule::Schedule;
-use second::table::{read, samples, Dialect, Kind, Rules, When};
+use second::table::{read, samples, Kind, Rules, When};
 use std::collections::HashMap;
 
 /// What the words should mean. Where either set of days is enough and one of them has every day, every day is meant.
@@ -58,9 +59,7 @@ fn words_mean_what_the_second_program_reads() {
     let mut random = Random::seeded();
     let mut seen = HashMap::new();
     for rules in Rules::ALL {
-        let mut options = vec![];
-        options.extend((rules.kind == Kind::System).then_some("-s"));
-        options.extend((rules.dialect == Dialect::Wrapping).then_some("--dialect=wrapping"));
+        let options = reading(rules);
         for _ in 0..40 {
             let table = samples::table(&mut random, rules, 300);
             compare(&explain, &options, &table, rules, &mut seen);

@@ -1,5 +1,7 @@
 //! The words read back, as a person reads them.
 
+use c::shown::MONTHS;
+
 /// What words mean. Bit n of a set is the value n, and Sunday is 0; a set that isn't spoken of has every value.
 #[derive(Clone, Copy, Debug, PartialEq, Eq, Hash)]
 pub struct Meaning {
@@ -21,20 +23,6 @@ pub const EVERY: Meaning = Meaning {
     either: false,
 };
 
-const MONTHS: [&str; 12] = [
-    "January",
-    "February",
-    "March",
-    "April",
-    "May",
-    "June",
-    "July",
-    "August",
-    "September",
-    "October",
-    "November",
-    "December",
-];
 const WEEKDAYS: [&str; 7] = [
     "Monday",
     "Tuesday",

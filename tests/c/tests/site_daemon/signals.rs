@@ -224,9 +224,9 @@ fn the_end_names_who_waits() {
     daemon.ended();
 }
 
-/// The night that the README shows: two hours on and back, and a reload between them.
+/// The night that the daemon's page shows: two hours on and back, and a reload between them.
 #[test]
-fn the_night_of_the_readme() {
+fn the_night_of_the_page() {
     let site = Site::new("site-night");
     let [before, after] = ["night", "night_changed"]
         .map(|name| fs::read(root().join(format!("examples/{name}.crontab"))).expect("a table"));
@@ -253,8 +253,8 @@ fn the_night_of_the_readme() {
     daemon.shows(&log[log.len() - 1..]);
     daemon.ended();
     let block: String = log.iter().map(|line| format!("    {line}\n")).collect();
-    let readme = fs::read_to_string(root().join("README.md")).expect("the README");
-    assert!(readme.contains(&block), "the README doesn't show:\n{block}");
+    let page = fs::read_to_string(root().join("docs/DAEMON.md")).expect("the page");
+    assert!(page.contains(&block), "the page doesn't show:\n{block}");
 }
 
 /// The real clock: it starts at once, sleeps, and is woken by signals. What is said counts, and not when.

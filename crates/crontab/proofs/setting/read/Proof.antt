@@ -11,8 +11,6 @@ use Rattle.crontab.specs.Steps.{itemsAt, Reached}
 use Rattle.crontab.specs.Items.{itemsOf}
 use Rattle.crontab.specs.Settings.{settingFrom, settingIn}
 use Rattle.crontab.proofs.Items.{items-start, start-reached, items-end}
-use Rattle.crontab.specs.Steps.{itemsAt, Reached}
-use Rattle.crontab.proofs.Items.{items-start, start-reached, items-end}
 use Rattle.crontab.proofs.setting.read.Statement.{statement}
 use Rattle.crontab.proofs.setting.read.Tie as tie
 

@@ -15,9 +15,7 @@ use Rattle.crontab.proofs.Tables.{good}
 use Rattle.crontab.proofs.Items.{items-start, start-reached, items-end}
 use mathlib.Core.Path.{_≡_, _∙_}
 use lib.ListN.{length}
-use Rattle.crontab.specs.Steps.{itemsAt, Reached}
 use Rattle.crontab.specs.Tables.{withItems, tableOf}
-use Rattle.crontab.proofs.Items.{items-start, start-reached, items-end}
 use Rattle.crontab.proofs.table.read.Statement.{statement}
 use Rattle.crontab.proofs.table.read.Tie as tie
 

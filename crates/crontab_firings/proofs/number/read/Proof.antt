@@ -3,7 +3,6 @@
 use mathlib.Core.Path.{_≡_, sym, _∙_}
 use Prim.Native.Nat.{_-_}
 use native.Mathlib.Omega.{arith}
-use borrow.Author.Needs.{needs}
 use lib.ListN.{length, drop}
 use Rattle.crontab_firings.specs.Numbers.{valueFrom, numberOf}
 use Rattle.crontab_firings.proofs.Numbers.{some-digits, no-digits, digits-end, below-digits, above-digits, too-great, next-digit}

@@ -1,15 +1,13 @@
 -- `schedule::local::next_after_firing` meets its contract: what is found on the same day, or what the search gives.
 -- Assumes nothing.
-use mathlib.Core.Path.{_≡_, sym, ap, _∙_}
-use mathlib.Core.Bool.{true}
-use Prim.Native.Nat.{_+_, _%_, _≤_, _<_}
+use mathlib.Core.Path.{_≡_, sym, _∙_}
+use Prim.Native.Nat.{_+_, _≤_}
 use native.Mathlib.Omega.{arith}
 use borrow.Author.Needs.{needs}
 use borrow.Author.Tests.{ltb-true, leb-true}
 use lib.IntN.{ℤ}
 use Rattle.calendar.specs.Dates.{lastMinute}
 use Rattle.calendar.proofs.Tests.{and-true}
-use Rattle.schedule.specs.Match.{matches}
 use Rattle.schedule.specs.Local.{ahead, localOf, nextAfterIn}
 use Rattle.schedule.proofs.Offsets.{passed}
 use Rattle.schedule.proofs.LocalMinutes.{is-at, matches-at}
