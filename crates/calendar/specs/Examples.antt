@@ -33,6 +33,13 @@ past-the-end :
 unfolding dating
 past-the-end = refl
 
+-- and so is one whose low 32 bits are the minute 0
+past-32-bits :
+    dateOf 4294967296
+    ≡ record { refusal = 14; date = record { year = 0; month = 0; day = 0; hour = 0; minute = 0; weekday = 0 } }
+unfolding dating
+past-32-bits = refl
+
 -- 2100 isn't leap, 2096 is
 no-leap-day : minuteOf 2100 2 29 0 0 ≡ record { refusal = 14; minute = 0 }
 unfolding dating

@@ -25,7 +25,7 @@ use Rattle.crontab.specs.declared.firing.DueAnswer.the-variants as due
 use Rattle.crontab.specs.declared.table.EntryAnswer.{EntryAnswer}
 use Rattle.crontab.specs.declared.table.EntryAnswer.the-variants as answer
 use Rattle.crontab.specs.declared.setting.LineAnswer.the-variants as line
-use Rattle.crontab.specs.Limits.{maxTable, maxLine, maxEntries, maxAccount}
+use Rattle.crontab.specs.Limits.{maxLine, maxEntries, maxAccount}
 use Rattle.crontab.specs.Users.{absent}
 use Rattle.crontab.specs.Offsets.{utc}
 use Rattle.crontab.specs.Owners.{ownerIn}
@@ -112,8 +112,9 @@ lines-read : Hold (readLine ofUser)
     ∷ (text "*/30 0 1 1 0 x", Entry halfHours 13)
     -- no command: after the last byte, blanks counted
     ∷ (text "0 0 * * * ", refused 9 11)
-    -- too few fields: after the last byte, but a bad field before it comes first
+    -- too few fields: after the last byte, blanks counted, but a bad field before it comes first
     ∷ (text "5 5", refused 4 4)
+    ∷ (text "5 5 ", refused 4 5)
     ∷ (text "60 5", refused 6 1)
     -- blanks before and after, and a comment
     ∷ (text "\t 0 0 1 1 *  a ", Entry (midnight (1 ∷ []) (1 ∷ []) (upTo 0 6) false false true) 13)
@@ -156,6 +157,9 @@ lines-read : Hold (readLine ofUser)
     ∷ (text "A =", setting 0 1 3 3)
     ∷ (text "A=\"\"", setting 0 1 3 3)
     ∷ (text "A=b=#c", setting 0 1 2 6)
+    -- no comment stands behind a value: it is part of a bare one, and too much behind a quoted one
+    ∷ (text "A=b #c", setting 0 1 2 6)
+    ∷ (text "A='b' #c", refused 11 1)
     -- no settings: at the first byte that isn't blank
     ∷ (text " A\"B=c", refused 11 2)
     ∷ (text "\"A'=c", refused 11 1)
@@ -220,6 +224,8 @@ system-lines-read : Hold (readLine ofSystem)
     ((text "0 0 1 1 * root x", Entry (midnight (1 ∷ []) (1 ∷ []) (upTo 0 6) false false true) 15)
     ∷ (text "@reboot u:g/c  x", Entry Reboot 15)
     ∷ (text "@reboot A_1.-/c x", Entry Reboot 16)
+    -- each part starts with any of its bytes but `-`
+    ∷ (text "@reboot .1:_a/2 x", Entry Reboot 16)
     -- nothing behind the time, or behind the user: after the last byte
     ∷ (text "@reboot ", refused 9 9)
     ∷ (text "* * * * * cmd", refused 9 14)
@@ -289,10 +295,10 @@ tables-read : Hold fault
     ∷ (times 511 (text "@reboot x\n") ++ text "@reboot x", 26 ∷ 512 ∷ 10 ∷ 0 ∷ [])
     ∷ (times maxEntries (text "@reboot x\n") ++ text "@reboot x", 12 ∷ 513 ∷ 1 ∷ 0 ∷ [])
     ∷ (times maxEntries (text "@reboot x\n") ++ text "#", 26 ∷ 513 ∷ 2 ∷ 0 ∷ [])
-    -- as many bytes as there may be, and one more, which comes before the missing newline
-    ∷ (replicate maxTable 10, 0 ∷ 0 ∷ 0 ∷ 0 ∷ [])
-    ∷ (replicate (maxTable + 1) 10, 1 ∷ 0 ∷ 0 ∷ 0 ∷ [])
-    ∷ (replicate (maxTable + 1) 32, 1 ∷ 0 ∷ 0 ∷ 0 ∷ [])
+    -- as many bytes as there may be (ticket 2026-05), and one more, which comes before the missing newline
+    ∷ (replicate 49152 10, 0 ∷ 0 ∷ 0 ∷ 0 ∷ [])
+    ∷ (replicate 49153 10, 1 ∷ 0 ∷ 0 ∷ 0 ∷ [])
+    ∷ (replicate 49153 32, 1 ∷ 0 ∷ 0 ∷ 0 ∷ [])
     ∷ [])
 unfolding times reading
 tables-read = refl
@@ -410,8 +416,12 @@ due-last : Hold (dueAt (text "CRON_TZ=+14:00\n* * * * * x\n"))
 unfolding dueAt zoning
 due-last = refl
 
--- a minute off the calendar is refused, though it is on it locally
-due-off : Hold (dueAt (text "CRON_TZ=-12:00\n* * * * * x\n")) ((lastMinute, Yes) ∷ (lastMinute + 1, due.Refused 14) ∷ [])
+-- a minute off the calendar is refused, though it is on it locally, and one whose low 32 bits are the minute 720
+due-off : Hold (dueAt (text "CRON_TZ=-12:00\n* * * * * x\n"))
+    ((lastMinute, Yes)
+    ∷ (lastMinute + 1, due.Refused 14)
+    ∷ (4294968016, due.Refused 14)
+    ∷ [])
 unfolding dueAt zoning
 due-off = refl
 

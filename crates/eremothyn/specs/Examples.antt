@@ -75,6 +75,12 @@ minutes : Hold minuteOn
     -- half past four on the first day, and the calendar's last minute
     ∷ ((1970, 1, 1, 4, 30), 270)
     ∷ ((9999, 12, 31, 23, 59), 4223371679)
+    -- dates that don't exist: the hour 24, the minute 60, the day 0, the months 0 and 13
+    ∷ ((1970, 1, 1, 24, 0), 4294967310)
+    ∷ ((1970, 1, 1, 0, 60), 4294967310)
+    ∷ ((1970, 1, 0, 0, 0), 4294967310)
+    ∷ ((1970, 0, 1, 0, 0), 4294967310)
+    ∷ ((1970, 13, 1, 0, 0), 4294967310)
     ∷ [])
 unfolding answering
 minutes = refl
@@ -131,6 +137,9 @@ kinds : Hold checkedAs
     (((1, text "@reboot x\n"), 4294967305 ∷ 1 ∷ 10 ∷ [])
     ∷ ((1, text "\n@reboot -a x\n"), 4294967316 ∷ 2 ∷ 9 ∷ [])
     ∷ ((2, text "@reboot a x\n"), 1 ∷ 0 ∷ 0 ∷ [])
+    -- every number but 0 is the system's, one whose low 8 or 32 bits are 0 too
+    ∷ ((256, text "@reboot x\n"), 4294967305 ∷ 1 ∷ 10 ∷ [])
+    ∷ ((4294967296, text "@reboot x\n"), 4294967305 ∷ 1 ∷ 10 ∷ [])
     ∷ ((0, text "@reboot -a x\n"), 1 ∷ 0 ∷ 0 ∷ [])
     -- ticket 2026-11 holds for a system's table too
     ∷ ((1, text "@reboot a x"), 4294967322 ∷ 1 ∷ 12 ∷ [])
@@ -150,6 +159,8 @@ dialects : Hold checkedIn
     (((0, (0, text "0 22-3 * * * x\n")), 4294967303 ∷ 1 ∷ 3 ∷ [])
     ∷ ((0, (1, text "0 22-3 * * * x\n")), 1 ∷ 0 ∷ 0 ∷ [])
     ∷ ((0, (18446744073709551615, text "0 22-3 * * * x\n")), 1 ∷ 0 ∷ 0 ∷ [])
+    ∷ ((0, (256, text "0 22-3 * * * x\n")), 1 ∷ 0 ∷ 0 ∷ [])
+    ∷ ((0, (4294967296, text "0 22-3 * * * x\n")), 1 ∷ 0 ∷ 0 ∷ [])
     -- with a user between, in either
     ∷ ((1, (0, text "0 22-3 * * * u x\n")), 4294967303 ∷ 1 ∷ 3 ∷ [])
     ∷ ((1, (1, text "0 22-3 * * * u x\n")), 1 ∷ 0 ∷ 0 ∷ [])

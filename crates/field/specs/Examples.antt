@@ -78,6 +78,8 @@ names : Hold read
     ∷ ((weekdayLimits, text "FRI-Sun"), of (5 ∷ 6 ∷ 0 ∷ []))
     ∷ ((monthLimits, text "JAN"), of (1 ∷ []))
     ∷ ((monthLimits, text "fEb,DeC"), of (2 ∷ 12 ∷ []))
+    ∷ ((weekdayLimits, text "TUE,WED,THU"), of (2 ∷ 3 ∷ 4 ∷ []))
+    ∷ ((monthLimits, text "MAY,NOV"), of (5 ∷ 11 ∷ []))
     -- from high to low, also in the second element
     ∷ ((weekdayLimits, text "fri-mon"), Refused 7 1)
     ∷ ((weekdayLimits, text "mon,sat-tue"), Refused 7 5)
@@ -98,6 +100,10 @@ names : Hold read
     ∷ ((weekdayLimits, text "1-5/mon"), Refused 5 1)
     ∷ ((weekdayLimits, text "jan"), Refused 5 1)
     ∷ ((monthLimits, text "1-sun"), Refused 5 1)
+    -- a name has its three letters, no fewer and no more
+    ∷ ((weekdayLimits, text "mo"), Refused 5 1)
+    ∷ ((weekdayLimits, text "monday"), Refused 5 1)
+    ∷ ((monthLimits, text "1-"), Refused 5 1)
     ∷ [])
 unfolding reading
 names = refl

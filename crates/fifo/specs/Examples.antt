@@ -20,7 +20,7 @@ use Rattle.fifo.specs.WaitingLine.{standsIn, entriesOf, pick}
 use Rattle.fifo.specs.Queue.{numbers, bytes, counted, queueOf, queueImage, queueLaid, queueRoomy, isQueue}
 use Rattle.fifo.specs.Layout.{head, formatOf, markOf, lineOf, image, laid, roomy, isLine}
 use Rattle.fifo.specs.Steps.{Jobs, fresh, initStep, calls, joins, joiners, ticked, tickStep, front, behind, popped, popStep, standing, entryStep}
-use Rattle.fifo.specs.Fairness.{Call, tick, pop, roomAfter}
+use Rattle.fifo.specs.Fairness.{Call, tick, pop, roomAfter, Paced, upTo}
 use Rattle.fifo.specs.Buffer.{tickIn, popIn, lent, callOn, bufferAfter, callsOn, started}
 
 three : Jobs
@@ -55,7 +55,7 @@ abbrev begun : List ℕ
 begun = 69 ∷ 82 ∷ 81 ∷ 49 ∷ 0 ∷ 0 ∷ 0 ∷ 0 ∷ []
 
 -- a line in which nobody waits; one byte too few: 28; entry 0 twice: 28; a minute off the calendar: 14; a room that nobody made a line in,
--- of zeros, and one with another format number: 28
+-- of zeros, and one with another format number: 28; entry 2, which is the last, and entry 3: 28; four of three entries, where the room ends: 28
 refusals-run :
     map (answer three)
     (pop (begun ++ replicate 8 0)
@@ -65,8 +65,12 @@ refusals-run :
     ∷ pop (replicate 90 0)
     ∷ tick 59 (replicate 90 0)
     ∷ pop (70 ∷ 82 ∷ 81 ∷ 49 ∷ replicate 12 0)
+    ∷ pop (begun ++ 1 ∷ 0 ∷ 2 ∷ replicate 5 0)
+    ∷ pop (begun ++ 1 ∷ 0 ∷ 3 ∷ replicate 5 0)
+    ∷ pop (begun ++ 4 ∷ 0 ∷ 0 ∷ 0 ∷ 1 ∷ 0 ∷ 2 ∷ 0 ∷ [])
     ∷ [])
-    ≡ inr Nothing ∷ inr (NotPopped 28) ∷ inr (NotPopped 28) ∷ inl (NotTicked 14) ∷ inr (NotPopped 28) ∷ inl (NotTicked 28) ∷ inr (NotPopped 28) ∷ []
+    ≡ inr Nothing ∷ inr (NotPopped 28) ∷ inr (NotPopped 28) ∷ inl (NotTicked 14) ∷ inr (NotPopped 28) ∷ inl (NotTicked 28) ∷ inr (NotPopped 28)
+    ∷ inr (Entry 2) ∷ inr (NotPopped 28) ∷ inr (NotPopped 28) ∷ []
 unfolding three answer running
 refusals-run = refl
 
@@ -79,6 +83,13 @@ marks-run :
     ≡ inr Nothing ∷ inl (Joined 1) ∷ inr (NotPopped 28) ∷ inl (NotTicked 28) ∷ inl (NotTicked 28) ∷ []
 unfolding three answer running
 marks-run = refl
+
+-- The demand's second list: requests may come before the first announcement, and several after each; it counts up to the first after the last.
+paced : Paced 5 2 true (pop [] ∷ tick 5 [] ∷ pop [] ∷ pop [] ∷ tick 6 [] ∷ pop [] ∷ pop [] ∷ [])
+paced = (refl, refl, (refl, refl, (refl, refl)))
+
+up-to : upTo 2 (pop [] ∷ tick 5 [] ∷ pop [] ∷ pop [] ∷ tick 6 [] ∷ pop [] ∷ pop [] ∷ []) ≡ pop [] ∷ tick 5 [] ∷ pop [] ∷ pop [] ∷ tick 6 [] ∷ pop [] ∷ []
+up-to = refl
 
 -- Two entries, of every minute and of every even minute: a gap of 2. After minute 0 the second is named by the request of minute
 -- 3 = 2 + 2 - 1, and by none before: the bound can't be lower.

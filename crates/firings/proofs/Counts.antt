@@ -4,7 +4,8 @@ use mathlib.Core.Path.{_≡_, refl}
 use mathlib.Core.Bool.{Bool, true, false, cond}
 use mathlib.Core.Logic.{_⊎_, inl, inr}
 use mathlib.Core.List.{List, _∷_}
-use Prim.Native.Nat.{ℕ, zero, suc, _+_, _-_, _≤_}
+use Prim.Native.Nat.{ℕ, zero, suc, _+_, _-_, _≤_, min}
+use native.Mathlib.Nat.{min-eq-left}
 use native.Mathlib.Omega.{arith}
 use lib.ListN.{length, getD}
 use lib.Dec.{eqb, leb, ltb}
@@ -171,3 +172,9 @@ module _ (rules : Rules) (s : List ℕ) (a b : ℕ) (minutes entries : List ℕ)
       go true true false z e = tt
       go true true true true e = leb-true (length (mergedOf t a b)) (roomIn minutes entries) e
       go true true true false e = refl
+
+-- "the shorter counts", with all its places, as long as a 32-bit number counts them
+pub merged-room : (minutes entries : List ℕ) → min (length minutes) (length entries) ≤ 4294967295
+    → roomIn minutes entries ≡ min (length minutes) (length entries)
+unfolding roomIn
+merged-room minutes entries h = min-eq-left h

@@ -6,6 +6,7 @@
 --   merged-split: a list may be made in two pieces, up to a minute and after it
 --   firings-few, merged-few: a count is a 32-bit number
 --   merged-fits: a count is within the room, and is all of it where more remain
+--   merged-room: the room is the shorter run, as long as a 32-bit number counts its places
 --   firings-kept, merged-kept: a refused call changes no number of a run
 -- Assumes nothing.
 use mathlib.Core.Path.{_≡_, refl, sym, ap, _∙_}
@@ -34,7 +35,7 @@ use Rattle.firings.specs.Keys.{firingOf, isFiring}
 use Rattle.firings.specs.Rising.{Among, Rises, Earlier, Exactly}
 use Rattle.firings.proofs.Waiting.{firing-is, firing-entry}
 use Rattle.firings.proofs.Keys.{merged-keys}
-pub use Rattle.firings.proofs.Counts.{firings-few, firings-kept, merged-few, merged-fits, merged-kept}
+pub use Rattle.firings.proofs.Counts.{firings-few, firings-kept, merged-few, merged-fits, merged-kept, merged-room}
 
 -- ---- numbers that pass
 

@@ -49,6 +49,9 @@ of-an-entry : Hold (asked site)
     ∷ ((0, 4223371680, 0, 1 ∷ []), (Refused 14, 1 ∷ []))
     ∷ ((0, 0, 4223371680, 1 ∷ []), (Refused 14, 1 ∷ []))
     ∷ ((1, 0, 4223371680, 1 ∷ []), (Refused 14, 1 ∷ []))
+    -- 14 of one whose low 32 bits are a minute
+    ∷ ((0, 4294967301, 15, 1 ∷ []), (Refused 14, 1 ∷ []))
+    ∷ ((0, 5, 4294967311, 1 ∷ []), (Refused 14, 1 ∷ []))
     ∷ ((1, 0, 10, 1 ∷ []), (Refused 15, 1 ∷ []))
     -- 15 where b isn't after a, and where nothing fits
     ∷ ((1, 10, 10, 1 ∷ []), (Refused 15, 1 ∷ []))
@@ -101,6 +104,8 @@ of-a-table : Hold (merged three)
     -- 14 of a, and of b
     ∷ ((4223371680, 0, four, four), (Refused 14, four, four))
     ∷ ((0, 4223371680, four, four), (Refused 14, four, four))
+    ∷ ((4294967297, 4, four, four), (Refused 14, four, four))
+    ∷ ((1, 4294967300, four, four), (Refused 14, four, four))
     ∷ [])
 unfolding listing
 of-a-table = refl

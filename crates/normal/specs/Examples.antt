@@ -1,13 +1,12 @@
 -- Worked examples of ticket 2026-06 by table bytes, checked by computing: rows of a table and its normal text.
 -- Assumes nothing.
-use Prim.Native.Nat.{ℕ, zero, suc, _+_, _/_}
+use Prim.Native.Nat.{ℕ, zero, suc}
 use mathlib.Core.Path.{refl}
 use mathlib.Core.Bool.{true, false}
 use mathlib.Core.List.{List, [], _∷_, _++_}
 use lib.ListN.{replicate}
 use Rattle.bytes.specs.Texts.{text}
 use Rattle.bytes.specs.Rows.{Hold}
-use Rattle.crontab.specs.Limits.{maxTable}
 use Rattle.field.specs.declared.Dialect.the-variants.{Rising, Wrapping}
 use Rattle.normal.specs.declared.NormalAnswer.{NormalAnswer}
 use Rattle.normal.specs.declared.NormalAnswer.the-variants.{Written, Refused}
@@ -109,9 +108,9 @@ calls : Hold call
     -- a line as long as it may be, and a byte more, which comes before a short buffer
     ∷ ((long 822 ++ text "\n", text "1"), (Refused 18, text "1"))
     ∷ ((long 823 ++ text "\n", text "1"), (Refused 21, text "1"))
-    -- a table that is as long as it may be, and a line more
-    ∷ ((lines (maxTable / 1001), text "1"), (Refused 18, text "1"))
-    ∷ ((lines (maxTable / 1001 + 1), text "1"), (Refused 21, text "1"))
+    -- a table that is written in 49,049 bytes and 103, which it may have, and in one more
+    ∷ ((lines 49 ++ text "@reboot " ++ replicate 94 97 ++ text "\n", text "1"), (Refused 18, text "1"))
+    ∷ ((lines 49 ++ text "@reboot " ++ replicate 95 97 ++ text "\n", text "1"), (Refused 21, text "1"))
     ∷ [])
 unfolding lines writing
 calls = refl

@@ -9,6 +9,8 @@ use native.Mathlib.Decide.{decLe}
 use native.Mathlib.Omega.{arith}
 use lib.ListN.{take}
 use lib.IntN.{pos}
+use borrow.Author.Tests.{leb-true}
+use Rattle.bytes.specs.Texts.{text}
 use Rattle.bytes.proofs.Search.{none-passes}
 use Rattle.calendar.specs.Dates.{lastMinute}
 use Rattle.schedule.specs.declared.jump.Mark.the-variants.{At}
@@ -149,3 +151,10 @@ hold-reached size buffer r =
       table-fair-steady rules leapSundays 0 62147340 size buffer (steady size 62147520 1) can-fire room on-calendar,
       none-before size buffer n (n - 1) r (on-calendar .utc) (omega (arith, bound-is)) (omega (arith, bound-is)),
     )
+
+-- The demand's last minute may be the calendar's last, 4,223,371,679; at +14:00, where that is the last locally, the one 840 minutes sooner.
+pub demand-ends :
+    OnCalendar (record { kind = User; dialect = Rising }) (text "* * * * * a\n") 0 (4223371679 - 21037140)
+    × OnCalendar (record { kind = User; dialect = Rising }) (text "CRON_TZ=+14:00\n* * * * * a\n") 0 (4223370839 - 21037140)
+unfolding jobsOf jobAt reading
+demand-ends = (record { utc = leb-true _ _ refl; local = leb-true _ _ refl }, record { utc = leb-true _ _ refl; local = leb-true _ _ refl })

@@ -2,6 +2,7 @@
 --   table-fair, table-fair-from, table-fair-in-buffer, table-fair-steady: the third demand and its companions, as specs/Demand has them
 --   table-refused-only: a call is refused only for too little room or for a minute off the calendar
 --   hold-reached: a case in which the demand's bound is met exactly
+--   demand-ends: its last minute may be the last of the calendar, in UTC and locally
 --   chain-is-due: "starting from any minute and asking for next firing again and again yields exactly the later calendar minutes that match
 --     the entry", none skipped or added (ticket 2026-14)
 --   chain-is-ticks: "as announcements one by one would find on a line with no mark at first and emptied before each"
@@ -42,7 +43,7 @@ use Rattle.runqueue.specs.Demand.{jobsIn, TableDue, TableSteps, TableSte
 use Rattle.runqueue.proofs.Exits.{init-good, tick-good, pop-good}
 use Rattle.runqueue.proofs.Exits as exits
 pub use Rattle.runqueue.proofs.TableFair.{table-fair, table-fair-from, table-refused-only, table-fair-in-buffer, table-fair-steady}
-pub use Rattle.runqueue.proofs.Reached.{hold-reached}
+pub use Rattle.runqueue.proofs.Reached.{hold-reached, demand-ends}
 pub use Rattle.runqueue.proofs.Chains.{chain-is-due}
 pub use Rattle.runqueue.proofs.ChainTicks.{chain-is-ticks, chain-goes-on}
 pub use Rattle.runqueue.proofs.Shifts.{next-shifts}

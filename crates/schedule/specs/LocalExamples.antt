@@ -9,7 +9,7 @@ use Rattle.bytes.specs.Rows.{Hold}
 use Rattle.schedule.specs.declared.Schedule.{Schedule}
 use Rattle.schedule.specs.declared.local.LocalMinute.{LocalMinute}
 use Rattle.schedule.specs.declared.local.LocalMinute.the-variants.{Before, At, After}
-use Rattle.schedule.specs.Local.{ahead, localOf, matchesIn, localDate, matchesLocal}
+use Rattle.schedule.specs.Local.{ahead, localOf, matchesIn, gapIn, localDate, matchesLocal}
 use Rattle.schedule.specs.Examples.{mondays, everyMinute, schedules}
 
 -- -12:00, a minute behind UTC, UTC, and +14:00; `negsuc n` is -(n + 1)
@@ -39,6 +39,19 @@ places : Hold place
     ∷ [])
 unfolding schedules
 places = refl
+
+-- "where t falls before 1970 locally, 720 minutes are added": 21,036,960 and 720, up to the last such minute
+abbrev gapFrom : ℤ × ℕ → ℕ
+gapFrom (z, t) = gapIn (ahead z) t
+
+gaps : Hold gapFrom
+    (((negsuc 719, 719), 21037680)
+    ∷ ((negsuc 719, 720), 21036960)
+    ∷ ((negsuc 209, 209), 21037680)
+    ∷ ((negsuc 209, 210), 21036960)
+    ∷ ((pos 0, 0), 21036960)
+    ∷ [])
+gaps = refl
 
 -- an entry is due by its local minute, and not while that is off the calendar
 abbrev due : Schedule × ℤ × ℕ → Bool
