@@ -8,31 +8,11 @@ use lib.ListN.{replicate}
 use Rattle.bytes.specs.Texts.{text}
 use Rattle.bytes.specs.Rows.{Hold}
 use Rattle.crontab.specs.Limits.{maxTable}
-use Rattle.crontab.specs.Items.{itemsOf}
-use Rattle.crontab.specs.Tables.{tableOf, entryIn}
-use Rattle.crontab.specs.Owners.{ownerIn}
-use Rattle.crontab.specs.Settings.{settingIn, nextLineIn}
-use Rattle.crontab.specs.Firings.{dueIn, nextIn}
-use Rattle.normal.specs.NormalForms.{normalForm}
-use Rattle.records.specs.Calls.{compiled, decompiled, recordFault}
-use Rattle.firings.specs.Calls.{firingsIn, mergedIn}
-use Rattle.runqueue.specs.Calls.{initTable, tickTable, popTable, entryTable}
-use Rattle.reload.specs.Calls.{reloadTables}
+use Rattle.records.specs.Calls.{recordFault}
 use Rattle.reload.specs.Computing.{reloading}
-use Rattle.eremothyn.specs.Rules.{dialectOf, rulesOf}
 use Rattle.eremothyn.specs.declared.dates.DatePart.the-variants.{Year, Month, Day, Hour, Minute, Weekday}
-use Rattle.eremothyn.specs.declared.settings.Shown.the-variants.{NameOffset, NameLength, ValueOffset, ValueLength}
-use Rattle.eremothyn.specs.declared.owners.Owned.the-variants.{UserOffset, UserLength, GroupOffset, GroupLength, ClassOffset, ClassLength}
-use Rattle.eremothyn.specs.Owners.{ownerNumber}
 use Rattle.eremothyn.specs.Dates.{datePart, dateMinute, dateAnswer, dateRun}
-use Rattle.eremothyn.specs.Tables.{checkNumber}
-use Rattle.eremothyn.specs.declared.entries.Place.the-variants.{Line, CommandOffset, CommandLength}
-use Rattle.eremothyn.specs.Entries.{dueNumber, nextNumber, placeNumber}
-use Rattle.eremothyn.specs.Settings.{settingNumber, lineNumber}
-use Rattle.eremothyn.specs.Commands.{splitNumber, splitOf, stdinLength}
-use Rattle.eremothyn.specs.NormalForms.{normalNumber}
-use Rattle.eremothyn.specs.Queue.{tickNumber, popNumber}
-use Rattle.eremothyn.specs.Lists.{filledNumber}
+use Rattle.eremothyn.specs.Calls.{checkCall, faultLineCall, faultColumnCall, dueCall, nextCall, entryLineCall, commandOffsetCall, commandLengthCall, firingsCall, firingsRun, mergedFiringsCall, mergedFiringsMinutes, mergedFiringsEntries, splitCommandCall, splitCommandShell, splitCommandInput, stdinLengthCall, userOffsetCall, userLengthCall, groupOffsetCall, groupLengthCall, classOffsetCall, classLengthCall, settingNameOffsetCall, settingNameLengthCall, settingValueOffsetCall, settingValueLengthCall, nextSettingCall, normalFormCall, normalFormText, compileCall, compileRecords, decompileCall, decompileText, queueInitCall, queueInitRoom, queueTickCall, queueTickRoom, queuePopCall, queuePopRoom, queueEntryCall, queueReloadCall, queueReloadRoom}
 use Rattle.eremothyn.specs.Computing.{answering}
 
 -- ---- dates
@@ -88,7 +68,7 @@ minutes = refl
 -- ---- tables: the answer of a check, and the line and the column of its fault
 
 abbrev checked : List ℕ → List ℕ
-checked s = let t = tableOf (rulesOf 0 0) s in checkNumber t ∷ t .line ∷ t .column ∷ []
+checked s = checkCall s 0 0 ∷ faultLineCall s 0 0 ∷ faultColumnCall s 0 0 ∷ []
 
 tables : Hold checked
     ((text "@reboot x\n0 * * * * y\n", 2 ∷ 0 ∷ 0 ∷ [])
@@ -114,9 +94,8 @@ watch = text "A=b\n@reboot u:gh x\n0 * * * * v/c y\n"
 
 abbrev owned : ℕ × ℕ → List ℕ
 owned (kind, i) =
-    let a = ownerIn (rulesOf kind 0) watch i in
-    ownerNumber a UserOffset ∷ ownerNumber a UserLength ∷ ownerNumber a GroupOffset ∷ ownerNumber a GroupLength ∷ ownerNumber a ClassOffset
-    ∷ ownerNumber a ClassLength ∷ []
+    userOffsetCall watch kind 0 i ∷ userLengthCall watch kind 0 i ∷ groupOffsetCall watch kind 0 i ∷ groupLengthCall watch kind 0 i
+    ∷ classOffsetCall watch kind 0 i ∷ classLengthCall watch kind 0 i ∷ []
 
 owners : Hold owned
     (((1, 0), 12 ∷ 1 ∷ 14 ∷ 2 ∷ 0 ∷ 0 ∷ [])
@@ -130,7 +109,7 @@ owners = refl
 
 -- the check of a table by its kind, and the line and the column of its fault
 abbrev checkedAs : ℕ × List ℕ → List ℕ
-checkedAs (kind, s) = let t = tableOf (rulesOf kind 0) s in checkNumber t ∷ t .line ∷ t .column ∷ []
+checkedAs (kind, s) = checkCall s kind 0 ∷ faultLineCall s kind 0 ∷ faultColumnCall s kind 0 ∷ []
 
 kinds : Hold checkedAs
     -- 20 at the user, 9 behind it; a user's table has neither
@@ -152,7 +131,7 @@ kinds = refl
 
 -- the check of a table by its kind and dialect, and the line and the column of its fault
 abbrev checkedIn : ℕ × (ℕ × List ℕ) → List ℕ
-checkedIn (kind, (dialect, s)) = let t = tableOf (rulesOf kind dialect) s in checkNumber t ∷ t .line ∷ t .column ∷ []
+checkedIn (kind, (dialect, s)) = checkCall s kind dialect ∷ faultLineCall s kind dialect ∷ faultColumnCall s kind dialect ∷ []
 
 dialects : Hold checkedIn
     -- from high to low: 7, or over midnight
@@ -172,6 +151,50 @@ dialects : Hold checkedIn
 unfolding answering
 dialects = refl
 
+-- every call heeds both numbers, the kind first: a table that is good as a user's in the second dialect, and refused with 9 as the system's
+-- there, with 7 in the first
+abbrev heeding : List ℕ
+heeding = text "0 22-3 * * * x\n"
+
+abbrev room : List ℕ
+room = replicate 12 0
+
+abbrev heeded : ℕ × ℕ → List ℕ
+heeded (k, d) =
+    checkCall heeding k d ∷ faultLineCall heeding k d ∷ faultColumnCall heeding k d ∷ dueCall heeding k d 0 1320 ∷ nextCall heeding k d 1 0
+    ∷ firingsCall heeding k d 0 1319 1320 (7 ∷ []) ∷ mergedFiringsCall heeding k d 1319 1320 (7 ∷ []) (7 ∷ [])
+    ∷ entryLineCall heeding k d 0 ∷ commandOffsetCall heeding k d 0 ∷ commandLengthCall heeding k d 0
+    ∷ splitCommandCall heeding k d 0 (7 ∷ []) [] ∷ stdinLengthCall heeding k d 0
+    ∷ userOffsetCall heeding k d 0 ∷ userLengthCall heeding k d 0 ∷ groupOffsetCall heeding k d 0 ∷ groupLengthCall heeding k d 0
+    ∷ classOffsetCall heeding k d 0 ∷ classLengthCall heeding k d 0
+    ∷ settingNameOffsetCall heeding k d 1 ∷ settingNameLengthCall heeding k d 1 ∷ settingValueOffsetCall heeding k d 1
+    ∷ settingValueLengthCall heeding k d 1 ∷ nextSettingCall heeding k d 1
+    ∷ queueInitCall heeding k d room ∷ queueTickCall heeding k d room 0 ∷ queuePopCall heeding k d room ∷ queueEntryCall heeding k d room 0
+    ∷ queueReloadCall heeding heeding k d room ∷ []
+
+-- what each lent run holds then
+abbrev lent : ℕ × ℕ → List (List ℕ)
+lent (k, d) =
+    firingsRun heeding k d 0 1319 1320 (7 ∷ []) ∷ mergedFiringsMinutes heeding k d 1319 1320 (7 ∷ []) (7 ∷ [])
+    ∷ mergedFiringsEntries heeding k d 1319 1320 (7 ∷ []) (7 ∷ []) ∷ splitCommandShell heeding k d 0 (7 ∷ []) []
+    ∷ splitCommandInput heeding k d 0 (7 ∷ []) (7 ∷ []) ∷ []
+
+heed : Hold heeded
+    (((0, 1), 1 ∷ 0 ∷ 0 ∷ 1 ∷ 4294967309 ∷ 1 ∷ 1 ∷ 1 ∷ 13 ∷ 1 ∷ 1 ∷ 4294967296 ∷ replicate 6 0 ++ replicate 5 4294967315 ++ 0 ∷ replicate 4 4294967324)
+    ∷ ((1, 1), 4294967305 ∷ 1 ∷ 15 ∷ replicate 25 4294967305)
+    ∷ ((1, 0), 4294967303 ∷ 1 ∷ 3 ∷ replicate 25 4294967303)
+    ∷ [])
+unfolding answering reloading
+heed = refl
+
+heed-lent : Hold lent
+    (((0, 1), (1320 ∷ []) ∷ (1320 ∷ []) ∷ (0 ∷ []) ∷ text "x" ∷ (7 ∷ []) ∷ [])
+    ∷ ((1, 1), replicate 5 (7 ∷ []))
+    ∷ ((1, 0), replicate 5 (7 ∷ []))
+    ∷ [])
+unfolding answering
+heed-lent = refl
+
 -- ---- entries: one at boot, and one at the hour
 
 abbrev pair : List ℕ
@@ -182,7 +205,7 @@ abbrev clocks : List ℕ
 clocks = text "CRON_TZ=-12:00\n* * * * * a\nCRON_TZ='+14:00'\n* * * * * b\n0 0 * * * c\nCRON_TZ=-00:00\n0 0 * * * d\n"
 
 abbrev dueOn : List ℕ × ℕ × ℕ → ℕ
-dueOn (s, i, m) = dueNumber (dueIn (tableOf (rulesOf 0 0) s) i m)
+dueOn (s, i, m) = dueCall s 0 0 i m
 
 due : Hold dueOn
     -- at minute 60, not at 61, and a boot job never
@@ -212,7 +235,7 @@ unfolding answering
 due = refl
 
 abbrev nextOn : List ℕ × ℕ × ℕ → ℕ
-nextOn (s, i, m) = nextNumber (nextIn (tableOf (rulesOf 0 0) s) i m)
+nextOn (s, i, m) = nextCall s 0 0 i m
 
 next : Hold nextOn
     -- 15 of a boot job; 14 comes before it, 13 before 14, and a refused table before all
@@ -229,9 +252,7 @@ next = refl
 -- ---- where entries stand: the line, and the raw command's place and length
 
 abbrev placed : ℕ × List ℕ × ℕ → List ℕ
-placed (kind, s, i) =
-    let a = entryIn (tableOf (rulesOf kind 0) s) i in
-    placeNumber a Line ∷ placeNumber a CommandOffset ∷ placeNumber a CommandLength ∷ []
+placed (kind, s, i) = entryLineCall s kind 0 i ∷ commandOffsetCall s kind 0 i ∷ commandLengthCall s kind 0 i ∷ []
 
 places : Hold placed
     -- behind an empty line and a setting; the blanks behind the command and its `%` belong to it
@@ -251,8 +272,7 @@ places = refl
 
 abbrev shown : List ℕ × ℕ → List ℕ
 shown (s, n) =
-    let found = settingIn (itemsOf (rulesOf 0 0) s) n in
-    settingNumber found NameOffset ∷ settingNumber found NameLength ∷ settingNumber found ValueOffset ∷ settingNumber found ValueLength ∷ []
+    settingNameOffsetCall s 0 0 n ∷ settingNameLengthCall s 0 0 n ∷ settingValueOffsetCall s 0 0 n ∷ settingValueLengthCall s 0 0 n ∷ []
 
 settings : Hold shown
     -- on line 2, without the quotes
@@ -271,7 +291,7 @@ settings = refl
 
 -- the first line from a line on that has a setting
 abbrev lineFrom : List ℕ × ℕ → ℕ
-lineFrom (s, n) = lineNumber (nextLineIn (itemsOf (rulesOf 0 0) s) n)
+lineFrom (s, n) = nextSettingCall s 0 0 n
 
 next-settings : Hold lineFrom
     -- that line too, and 0 is as 1
@@ -301,8 +321,7 @@ input = text "===="
 
 abbrev splitAt : ℕ → ℕ × List ℕ × List ℕ × ℕ
 splitAt i =
-    let r = splitOf (rulesOf 0 0) commands i shell input in
-    (splitNumber (r .answer), r .shell, r .input, stdinLength (rulesOf 0 0) commands i)
+    (splitCommandCall commands 0 0 i shell input, splitCommandShell commands 0 0 i shell input, splitCommandInput commands 0 0 i shell input, stdinLengthCall commands 0 0 i)
 
 splits : Hold splitAt
     -- on line 2, with an input
@@ -320,7 +339,7 @@ splits = refl
 -- ---- ticket 2026-06: a table and a buffer, and the normal text's length with the buffer as it is then
 
 abbrev formOn : List ℕ × List ℕ → ℕ × List ℕ
-formOn (s, buffer) = let f = normalForm (dialectOf 0) s buffer in (normalNumber (f .answer), f .buffer)
+formOn (s, buffer) = (normalFormCall s 0 buffer, normalFormText s 0 buffer)
 
 -- a line of so many bytes, which are written in 165 more
 abbrev growing : ℕ → List ℕ
@@ -341,7 +360,7 @@ forms = refl
 
 -- ticket 2026-13: a table that only the first dialect takes, written and compiled in the second
 abbrev numbersIn : List ℕ → ℕ × ℕ
-numbersIn s = (normalNumber (normalForm (dialectOf 1) s (replicate 24 45) .answer), normalNumber (compiled (dialectOf 1) s (replicate 32 45) .answer))
+numbersIn s = (normalFormCall s 1 (replicate 24 45), compileCall s 1 (replicate 32 45))
 
 second-forms : numbersIn (text "0 0 * * 7 x\n") ≡ (4294967302, 4294967302)
 unfolding answering
@@ -350,7 +369,7 @@ second-forms = refl
 -- ---- ticket 2026-08: a table and a buffer, and the records' length with the buffer as it is then; and back, with the first bad record
 
 abbrev compileOn : List ℕ × List ℕ → ℕ × List ℕ
-compileOn (s, buffer) = let f = compiled (dialectOf 0) s buffer in (normalNumber (f .answer), f .buffer)
+compileOn (s, buffer) = (compileCall s 0 buffer, compileRecords s 0 buffer)
 
 compiles : Hold compileOn
     (((text "# a\n@reboot  b c\n", text "--------"), (7, 5 ∷ 0 ∷ 2 ∷ 0 ∷ text "b c-"))
@@ -363,7 +382,7 @@ unfolding answering
 compiles = refl
 
 abbrev decompileOn : List ℕ × List ℕ → ℕ × List ℕ × ℕ
-decompileOn (s, buffer) = let f = decompiled s buffer in (normalNumber (f .answer), f .buffer, recordFault s)
+decompileOn (s, buffer) = (decompileCall s buffer, decompileText s buffer, recordFault s)
 
 decompiles : Hold decompileOn
     (((5 ∷ 0 ∷ 2 ∷ 0 ∷ text "b c", text "-------------"), (12, text "@reboot b c\n-", 0))
@@ -382,7 +401,7 @@ abbrev hut : List ℕ
 hut = text "*/5 * * * * x\n@reboot y\n10 * * * * z\n"
 
 abbrev firingsOn : ℕ × ℕ × ℕ × List ℕ → ℕ × List ℕ
-firingsOn (i, a, b, room) = let s = firingsIn (tableOf (rulesOf 0 0) hut) i a b room in (filledNumber (s .answer), s .run)
+firingsOn (i, a, b, room) = (firingsCall hut 0 0 i a b room, firingsRun hut 0 0 i a b room)
 
 lists : Hold firingsOn
     (((0, 5, 15, 1 ∷ 2 ∷ 3 ∷ []), (2, 10 ∷ 15 ∷ 3 ∷ []))
@@ -400,8 +419,7 @@ lists = refl
 
 abbrev mergedOn : List ℕ × ℕ × ℕ × List ℕ × List ℕ → ℕ × List ℕ × List ℕ
 mergedOn (s, a, b, minutes, entries) =
-    let m = mergedIn (tableOf (rulesOf 0 0) s) a b minutes entries in
-    (filledNumber (m .answer), m .minutes, m .entries)
+    (mergedFiringsCall s 0 0 a b minutes entries, mergedFiringsMinutes s 0 0 a b minutes entries, mergedFiringsEntries s 0 0 a b minutes entries)
 
 merged-lists : Hold mergedOn
     (((hut, 5, 14, 1 ∷ 2 ∷ 3 ∷ [], 1 ∷ 2 ∷ []), (2, 10 ∷ 10 ∷ 3 ∷ [], 0 ∷ 2 ∷ []))
@@ -425,10 +443,10 @@ data Ask : Type 0 where
 -- one after the other, each with the room that the last one left
 run : List ℕ → List ℕ → List Ask → List ℕ
 run table room [] = []
-run table room (init ∷ asks) = let s = initTable (tableOf (rulesOf 0 0) table) room in tickNumber (s .answer) ∷ run table (s .room) asks
-run table room (tick minute ∷ asks) = let s = tickTable (tableOf (rulesOf 0 0) table) minute room in tickNumber (s .answer) ∷ run table (s .room) asks
-run table room (pop ∷ asks) = let s = popTable (tableOf (rulesOf 0 0) table) room in popNumber (s .answer) ∷ run table (s .room) asks
-run table room (look place ∷ asks) = popNumber (entryTable (tableOf (rulesOf 0 0) table) place room) ∷ run table room asks
+run table room (init ∷ asks) = queueInitCall table 0 0 room ∷ run table (queueInitRoom table 0 0 room) asks
+run table room (tick minute ∷ asks) = queueTickCall table 0 0 room minute ∷ run table (queueTickRoom table 0 0 room minute) asks
+run table room (pop ∷ asks) = queuePopCall table 0 0 room ∷ run table (queuePopRoom table 0 0 room) asks
+run table room (look place ∷ asks) = queueEntryCall table 0 0 room place ∷ run table room asks
 
 -- "Whole run: table `* * * * * a`, `@reboot b`, `0 * * * * c`. Request: entry 1. Announce 59: 1 joined. Announce 60: 1 joined. Requests:
 -- entry 0, entry 2, nothing."
@@ -474,9 +492,8 @@ refused-run = (refl, refl, refl, refl, refl, refl)
 -- both tables' kind, the old one, the new one, and the room's bytes, in which a fresh line of the old one is made and minute 0 announced
 abbrev carried : ℕ × List ℕ × List ℕ × ℕ → ℕ × List ℕ
 carried (kind, old, new, size) =
-    let t = tableOf (rulesOf kind 0) old in
-    let s = reloadTables (rulesOf kind 0) old new (tickTable t 0 (initTable t (replicate size 7) .room) .room) in
-    (tickNumber (s .answer), s .room)
+    let room = queueTickRoom old kind 0 (queueInitRoom old kind 0 (replicate size 7)) 0 in
+    (queueReloadCall old new kind 0 room, queueReloadRoom old new kind 0 room)
 
 abbrev kept : ℕ × List ℕ × List ℕ × ℕ → ℕ
 kept x = carried x .0
@@ -514,8 +531,7 @@ reloads = refl
 -- of two that mean the same the second waits: with one of them left, it isn't that one
 rank-kept :
     (let old = text "@reboot a\n@reboot a\n" in
-    let t = tableOf (rulesOf 0 0) old in
-    tickNumber (reloadTables (rulesOf 0 0) old (text "@reboot a\n") (popTable t (initTable t (replicate 20 7) .room) .room) .answer))
+    queueReloadCall old (text "@reboot a\n") 0 0 (queuePopRoom old 0 0 (queueInitRoom old 0 0 (replicate 20 7))))
     ≡ 0
 unfolding answering reloading
 rank-kept = refl

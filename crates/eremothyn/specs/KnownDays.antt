@@ -10,11 +10,8 @@ use Rattle.calendar.specs.Dates.{dateOf, minuteOf}
 use Rattle.field.specs.declared.Answer.the-variants.{Values, Refused}
 use Rattle.field.specs.Limits.{minuteLimits, monthLimits, weekdayLimits}
 use Rattle.field.specs.Fields.{readField}
-use Rattle.crontab.specs.Tables.{tableOf}
-use Rattle.crontab.specs.Firings.{nextIn}
 use Rattle.command.specs.Parts.{given, shellLine, inputOf}
-use Rattle.eremothyn.specs.Rules.{rulesOf}
-use Rattle.eremothyn.specs.Entries.{nextNumber}
+use Rattle.eremothyn.specs.Calls.{nextCall}
 
 abbrev pub KnownDays : Type 0
 KnownDays =
@@ -26,17 +23,17 @@ KnownDays =
     -- 2100-02-29: 14
     × (minuteOf 2100 2 29 0 0 .refusal ≡ 14)
     -- `0 0 29 2 *` after 66,355,200
-    × (nextNumber (nextIn (tableOf (rulesOf 0 0) (text "0 0 29 2 * a\n")) 0 66355200) ≡ 70561440)
+    × (nextCall (text "0 0 29 2 * a\n") 0 0 0 66355200 ≡ 70561440)
     -- `30 4 1,15 * 5` after 0
-    × (nextNumber (nextIn (tableOf (rulesOf 0 0) (text "30 4 1,15 * 5 a\n")) 0 0) ≡ 270)
+    × (nextCall (text "30 4 1,15 * 5 a\n") 0 0 0 0 ≡ 270)
     -- `30 4 1,15 * 5` after 270
-    × (nextNumber (nextIn (tableOf (rulesOf 0 0) (text "30 4 1,15 * 5 a\n")) 0 270) ≡ 1710)
+    × (nextCall (text "30 4 1,15 * 5 a\n") 0 0 0 270 ≡ 1710)
     -- `0 0 30 2 *`, never: 16
-    × (nextNumber (nextIn (tableOf (rulesOf 0 0) (text "0 0 30 2 * a\n")) 0 0) ≡ 4294967312)
+    × (nextCall (text "0 0 30 2 * a\n") 0 0 0 0 ≡ 4294967312)
     -- `0 0 30 2 1` after 0
-    × (nextNumber (nextIn (tableOf (rulesOf 0 0) (text "0 0 30 2 1 a\n")) 0 0) ≡ 46080)
+    × (nextCall (text "0 0 30 2 1 a\n") 0 0 0 0 ≡ 46080)
     -- `0 0 31 12 *` after 4,223,371,679, past the end: 17
-    × (nextNumber (nextIn (tableOf (rulesOf 0 0) (text "0 0 31 12 * a\n")) 0 4223371679) ≡ 4294967313)
+    × (nextCall (text "0 0 31 12 * a\n") 0 0 0 4223371679 ≡ 4294967313)
     -- `*/2` as month: 1, 3, 5, 7, 9, 11; it begins with a star
     × (readField monthLimits 1 (text "*/2") ≡ Values (setOf (1 ∷ 3 ∷ 5 ∷ 7 ∷ 9 ∷ 11 ∷ [])) true)
     -- `10-10` is 10; `10-9` is 7; `5/2` and `*,5` are 5

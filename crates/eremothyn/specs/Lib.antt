@@ -9,6 +9,7 @@ pub mod Owners
 pub mod NormalForms
 pub mod Queue
 pub mod Lists
+pub mod Calls
 pub mod Computing
 pub mod Examples
 pub mod KnownDays

@@ -1,7 +1,7 @@
 // Commands: splitting one into the buffers that the caller lends, and the length of its standard input.
 ghost use mathlib.Core.Path.{_≡_};
-ghost use Rattle.eremothyn.specs.Rules.{rulesOf};
-ghost use Rattle.eremothyn.specs.Commands.{splitNumber, inputNumber, splitOf, stdinLength};
+ghost use Rattle.eremothyn.specs.Commands.{splitNumber, inputNumber};
+ghost use Rattle.eremothyn.specs.Calls.{splitCommandCall, splitCommandShell, splitCommandInput, stdinLengthCall};
 use crate::answer::REFUSED;
 use crate::rules::rules_of;
 use command::Input;
@@ -37,9 +37,9 @@ pub extern "C" fn eremothyn_split_command(
     shell: &mut [u8],
     input: &mut [u8],
 ) -> u64
-    ensures answer { λ r. ⌜ r ≡ splitNumber (splitOf (rulesOf kind dialect) (now (table .entry)) entry (now (shell .entry)) (now (input .entry)) .answer) ⌝ }
-    ensures shell { λ _. ⌜ now (shell .exit) ≡ splitOf (rulesOf kind dialect) (now (table .entry)) entry (now (shell .entry)) (now (input .entry)) .shell ⌝ }
-    ensures input { λ _. ⌜ now (input .exit) ≡ splitOf (rulesOf kind dialect) (now (table .entry)) entry (now (shell .entry)) (now (input .entry)) .input ⌝ }
+    ensures answer { λ r. ⌜ r ≡ splitCommandCall (now (table .entry)) kind dialect entry (now (shell .entry)) (now (input .entry)) ⌝ }
+    ensures shell { λ _. ⌜ now (shell .exit) ≡ splitCommandShell (now (table .entry)) kind dialect entry (now (shell .entry)) (now (input .entry)) ⌝ }
+    ensures input { λ _. ⌜ now (input .exit) ≡ splitCommandInput (now (table .entry)) kind dialect entry (now (shell .entry)) (now (input .entry)) ⌝ }
 {
     match crontab::table::find_entry(table, rules_of(kind, dialect), entry) {
         EntryAnswer::Found(found) => {
@@ -53,7 +53,7 @@ pub extern "C" fn eremothyn_split_command(
 
 #[no_mangle]
 pub extern "C" fn eremothyn_stdin_length(table: &[u8], kind: u64, dialect: u64, entry: u64) -> u64
-    ensures { λ r. ⌜ r ≡ stdinLength (rulesOf kind dialect) (now (table .entry)) entry ⌝ }
+    ensures { λ r. ⌜ r ≡ stdinLengthCall (now (table .entry)) kind dialect entry ⌝ }
 {
     match crontab::table::find_entry(table, rules_of(kind, dialect), entry) {
         EntryAnswer::Found(found) => {

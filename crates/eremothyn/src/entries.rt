@@ -2,9 +2,9 @@
 ghost use mathlib.Core.Path.{_≡_};
 ghost use Prim.Native.Nat.{_≤_};
 ghost use Rattle.crontab.specs.Tables.{tableOf, entryIn};
-ghost use Rattle.crontab.specs.Firings.{dueIn, nextIn};
 ghost use Rattle.eremothyn.specs.Rules.{rulesOf};
-ghost use Rattle.eremothyn.specs.Entries.{dueNumber, nextNumber, placeIn, placeNumber};
+ghost use Rattle.eremothyn.specs.Entries.{placeIn, placeNumber};
+ghost use Rattle.eremothyn.specs.Calls.{dueCall, nextCall, entryLineCall, commandOffsetCall, commandLengthCall};
 use crate::answer::REFUSED;
 use crate::rules::rules_of;
 use crontab::entry::Entry;
@@ -22,7 +22,7 @@ pub extern "C" fn eremothyn_due(
     entry: u64,
     minute: u64,
 ) -> u64
-    ensures { λ r. ⌜ r ≡ dueNumber (dueIn (tableOf (rulesOf kind dialect) (now (table .entry))) entry minute) ⌝ }
+    ensures { λ r. ⌜ r ≡ dueCall (now (table .entry)) kind dialect entry minute ⌝ }
 {
     match firing::due(table, rules_of(kind, dialect), entry, minute) {
         DueAnswer::Yes => 1,
@@ -39,7 +39,7 @@ pub extern "C" fn eremothyn_next(
     entry: u64,
     minute: u64,
 ) -> u64
-    ensures { λ r. ⌜ r ≡ nextNumber (nextIn (tableOf (rulesOf kind dialect) (now (table .entry))) entry minute) ⌝ }
+    ensures { λ r. ⌜ r ≡ nextCall (now (table .entry)) kind dialect entry minute ⌝ }
 {
     match firing::next(table, rules_of(kind, dialect), entry, minute) {
         NextAnswer::At(m) => m,
@@ -76,21 +76,21 @@ fn place_number(table: &[u8], kind: u64, dialect: u64, entry: u64, what: Place) 
 
 #[no_mangle]
 pub extern "C" fn eremothyn_entry_line(table: &[u8], kind: u64, dialect: u64, entry: u64) -> u64
-    ensures { λ r. ⌜ r ≡ placeNumber (entryIn (tableOf (rulesOf kind dialect) (now (table .entry))) entry) Place.Line ⌝ }
+    ensures { λ r. ⌜ r ≡ entryLineCall (now (table .entry)) kind dialect entry ⌝ }
 {
     place_number(table, kind, dialect, entry, Place::Line)
 }
 
 #[no_mangle]
 pub extern "C" fn eremothyn_command_offset(table: &[u8], kind: u64, dialect: u64, entry: u64) -> u64
-    ensures { λ r. ⌜ r ≡ placeNumber (entryIn (tableOf (rulesOf kind dialect) (now (table .entry))) entry) Place.CommandOffset ⌝ }
+    ensures { λ r. ⌜ r ≡ commandOffsetCall (now (table .entry)) kind dialect entry ⌝ }
 {
     place_number(table, kind, dialect, entry, Place::CommandOffset)
 }
 
 #[no_mangle]
 pub extern "C" fn eremothyn_command_length(table: &[u8], kind: u64, dialect: u64, entry: u64) -> u64
-    ensures { λ r. ⌜ r ≡ placeNumber (entryIn (tableOf (rulesOf kind dialect) (now (table .entry))) entry) Place.CommandLength ⌝ }
+    ensures { λ r. ⌜ r ≡ commandLengthCall (now (table .entry)) kind dialect entry ⌝ }
 {
     place_number(table, kind, dialect, entry, Place::CommandLength)
 }

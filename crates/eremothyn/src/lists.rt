@@ -1,10 +1,8 @@
 // The winter list: the firings of an entry or of a table, in runs of numbers that the caller lends.
 ghost use mathlib.Core.Path.{_≡_};
-ghost use Rattle.crontab.specs.Tables.{tableOf};
-ghost use Rattle.firings.specs.Calls.{firingsIn, mergedIn};
 ghost use Rattle.firings.specs.Rising.{Few};
-ghost use Rattle.eremothyn.specs.Rules.{rulesOf};
 ghost use Rattle.eremothyn.specs.Lists.{filledNumber};
+ghost use Rattle.eremothyn.specs.Calls.{firingsCall, firingsRun, mergedFiringsCall, mergedFiringsMinutes, mergedFiringsEntries};
 use crate::answer::REFUSED;
 use crate::rules::rules_of;
 use firings::Filled;
@@ -34,8 +32,8 @@ pub extern "C" fn eremothyn_firings(
     b: u64,
     run: &mut [u32],
 ) -> u64
-    ensures answer { λ r. ⌜ r ≡ filledNumber (firingsIn (tableOf (rulesOf kind dialect) (now (table .entry))) entry a b (now (run .entry)) .answer) ⌝ }
-    ensures run { λ _. ⌜ now (run .exit) ≡ firingsIn (tableOf (rulesOf kind dialect) (now (table .entry))) entry a b (now (run .entry)) .run ⌝ }
+    ensures answer { λ r. ⌜ r ≡ firingsCall (now (table .entry)) kind dialect entry a b (now (run .entry)) ⌝ }
+    ensures run { λ _. ⌜ now (run .exit) ≡ firingsRun (now (table .entry)) kind dialect entry a b (now (run .entry)) ⌝ }
 {
     filled_number(firings::of_entry(table, rules_of(kind, dialect), entry, a, b, run))
 }
@@ -50,9 +48,9 @@ pub extern "C" fn eremothyn_merged_firings(
     minutes: &mut [u32],
     entries: &mut [u16],
 ) -> u64
-    ensures answer { λ r. ⌜ r ≡ filledNumber (mergedIn (tableOf (rulesOf kind dialect) (now (table .entry))) a b (now (minutes .entry)) (now (entries .entry)) .answer) ⌝ }
-    ensures minutes { λ _. ⌜ now (minutes .exit) ≡ mergedIn (tableOf (rulesOf kind dialect) (now (table .entry))) a b (now (minutes .entry)) (now (entries .entry)) .minutes ⌝ }
-    ensures entries { λ _. ⌜ now (entries .exit) ≡ mergedIn (tableOf (rulesOf kind dialect) (now (table .entry))) a b (now (minutes .entry)) (now (entries .entry)) .entries ⌝ }
+    ensures answer { λ r. ⌜ r ≡ mergedFiringsCall (now (table .entry)) kind dialect a b (now (minutes .entry)) (now (entries .entry)) ⌝ }
+    ensures minutes { λ _. ⌜ now (minutes .exit) ≡ mergedFiringsMinutes (now (table .entry)) kind dialect a b (now (minutes .entry)) (now (entries .entry)) ⌝ }
+    ensures entries { λ _. ⌜ now (entries .exit) ≡ mergedFiringsEntries (now (table .entry)) kind dialect a b (now (minutes .entry)) (now (entries .entry)) ⌝ }
 {
     filled_number(firings::merged(table, rules_of(kind, dialect), a, b, minutes, entries))
 }

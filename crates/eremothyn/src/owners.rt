@@ -4,6 +4,7 @@ ghost use Prim.Native.Nat.{_≤_};
 ghost use Rattle.crontab.specs.Owners.{ownerIn};
 ghost use Rattle.eremothyn.specs.Rules.{rulesOf};
 ghost use Rattle.eremothyn.specs.Owners.{ownedIn, ownerNumber};
+ghost use Rattle.eremothyn.specs.Calls.{userOffsetCall, userLengthCall, groupOffsetCall, groupLengthCall, classOffsetCall, classLengthCall};
 use crate::answer::answer;
 use crate::rules::rules_of;
 use crontab::owner;
@@ -46,42 +47,42 @@ fn owner_number(table: &[u8], kind: u64, dialect: u64, entry: u64, what: Owned) 
 
 #[no_mangle]
 pub extern "C" fn eremothyn_user_offset(table: &[u8], kind: u64, dialect: u64, entry: u64) -> u64
-    ensures { λ r. ⌜ r ≡ ownerNumber (ownerIn (rulesOf kind dialect) (now (table .entry)) entry) Owned.UserOffset ⌝ }
+    ensures { λ r. ⌜ r ≡ userOffsetCall (now (table .entry)) kind dialect entry ⌝ }
 {
     owner_number(table, kind, dialect, entry, Owned::UserOffset)
 }
 
 #[no_mangle]
 pub extern "C" fn eremothyn_user_length(table: &[u8], kind: u64, dialect: u64, entry: u64) -> u64
-    ensures { λ r. ⌜ r ≡ ownerNumber (ownerIn (rulesOf kind dialect) (now (table .entry)) entry) Owned.UserLength ⌝ }
+    ensures { λ r. ⌜ r ≡ userLengthCall (now (table .entry)) kind dialect entry ⌝ }
 {
     owner_number(table, kind, dialect, entry, Owned::UserLength)
 }
 
 #[no_mangle]
 pub extern "C" fn eremothyn_group_offset(table: &[u8], kind: u64, dialect: u64, entry: u64) -> u64
-    ensures { λ r. ⌜ r ≡ ownerNumber (ownerIn (rulesOf kind dialect) (now (table .entry)) entry) Owned.GroupOffset ⌝ }
+    ensures { λ r. ⌜ r ≡ groupOffsetCall (now (table .entry)) kind dialect entry ⌝ }
 {
     owner_number(table, kind, dialect, entry, Owned::GroupOffset)
 }
 
 #[no_mangle]
 pub extern "C" fn eremothyn_group_length(table: &[u8], kind: u64, dialect: u64, entry: u64) -> u64
-    ensures { λ r. ⌜ r ≡ ownerNumber (ownerIn (rulesOf kind dialect) (now (table .entry)) entry) Owned.GroupLength ⌝ }
+    ensures { λ r. ⌜ r ≡ groupLengthCall (now (table .entry)) kind dialect entry ⌝ }
 {
     owner_number(table, kind, dialect, entry, Owned::GroupLength)
 }
 
 #[no_mangle]
 pub extern "C" fn eremothyn_class_offset(table: &[u8], kind: u64, dialect: u64, entry: u64) -> u64
-    ensures { λ r. ⌜ r ≡ ownerNumber (ownerIn (rulesOf kind dialect) (now (table .entry)) entry) Owned.ClassOffset ⌝ }
+    ensures { λ r. ⌜ r ≡ classOffsetCall (now (table .entry)) kind dialect entry ⌝ }
 {
     owner_number(table, kind, dialect, entry, Owned::ClassOffset)
 }
 
 #[no_mangle]
 pub extern "C" fn eremothyn_class_length(table: &[u8], kind: u64, dialect: u64, entry: u64) -> u64
-    ensures { λ r. ⌜ r ≡ ownerNumber (ownerIn (rulesOf kind dialect) (now (table .entry)) entry) Owned.ClassLength ⌝ }
+    ensures { λ r. ⌜ r ≡ classLengthCall (now (table .entry)) kind dialect entry ⌝ }
 {
     owner_number(table, kind, dialect, entry, Owned::ClassLength)
 }

@@ -1,10 +1,7 @@
 // The run queue: the line of waiting jobs of a table, in a room that the caller lends.
 ghost use mathlib.Core.Path.{_≡_};
-ghost use Rattle.crontab.specs.Tables.{tableOf};
-ghost use Rattle.runqueue.specs.Calls.{initTable, tickTable, popTable, entryTable};
-ghost use Rattle.reload.specs.Calls.{reloadTables};
-ghost use Rattle.eremothyn.specs.Rules.{rulesOf};
 ghost use Rattle.eremothyn.specs.Queue.{tickNumber, popNumber};
+ghost use Rattle.eremothyn.specs.Calls.{queueInitCall, queueInitRoom, queueTickCall, queueTickRoom, queuePopCall, queuePopRoom, queueEntryCall, queueReloadCall, queueReloadRoom};
 use crate::answer::REFUSED;
 use crate::rules::rules_of;
 use fifo::Popped;
@@ -38,8 +35,8 @@ pub extern "C" fn eremothyn_queue_init(
     dialect: u64,
     room: &mut [u8],
 ) -> u64
-    ensures answer { λ r. ⌜ r ≡ tickNumber (initTable (tableOf (rulesOf kind dialect) (now (table .entry))) (now (room .entry)) .answer) ⌝ }
-    ensures room { λ _. ⌜ now (room .exit) ≡ initTable (tableOf (rulesOf kind dialect) (now (table .entry))) (now (room .entry)) .room ⌝ }
+    ensures answer { λ r. ⌜ r ≡ queueInitCall (now (table .entry)) kind dialect (now (room .entry)) ⌝ }
+    ensures room { λ _. ⌜ now (room .exit) ≡ queueInitRoom (now (table .entry)) kind dialect (now (room .entry)) ⌝ }
 {
     ticked_number(runqueue::init(table, rules_of(kind, dialect), room))
 }
@@ -52,16 +49,16 @@ pub extern "C" fn eremothyn_queue_tick(
     room: &mut [u8],
     minute: u64,
 ) -> u64
-    ensures answer { λ r. ⌜ r ≡ tickNumber (tickTable (tableOf (rulesOf kind dialect) (now (table .entry))) minute (now (room .entry)) .answer) ⌝ }
-    ensures room { λ _. ⌜ now (room .exit) ≡ tickTable (tableOf (rulesOf kind dialect) (now (table .entry))) minute (now (room .entry)) .room ⌝ }
+    ensures answer { λ r. ⌜ r ≡ queueTickCall (now (table .entry)) kind dialect (now (room .entry)) minute ⌝ }
+    ensures room { λ _. ⌜ now (room .exit) ≡ queueTickRoom (now (table .entry)) kind dialect (now (room .entry)) minute ⌝ }
 {
     ticked_number(runqueue::tick(table, rules_of(kind, dialect), room, minute))
 }
 
 #[no_mangle]
 pub extern "C" fn eremothyn_queue_pop(table: &[u8], kind: u64, dialect: u64, room: &mut [u8]) -> u64
-    ensures answer { λ r. ⌜ r ≡ popNumber (popTable (tableOf (rulesOf kind dialect) (now (table .entry))) (now (room .entry)) .answer) ⌝ }
-    ensures room { λ _. ⌜ now (room .exit) ≡ popTable (tableOf (rulesOf kind dialect) (now (table .entry))) (now (room .entry)) .room ⌝ }
+    ensures answer { λ r. ⌜ r ≡ queuePopCall (now (table .entry)) kind dialect (now (room .entry)) ⌝ }
+    ensures room { λ _. ⌜ now (room .exit) ≡ queuePopRoom (now (table .entry)) kind dialect (now (room .entry)) ⌝ }
 {
     popped_number(runqueue::pop(table, rules_of(kind, dialect), room))
 }
@@ -74,7 +71,7 @@ pub extern "C" fn eremothyn_queue_entry(
     room: &[u8],
     place: u64,
 ) -> u64
-    ensures { λ r. ⌜ r ≡ popNumber (entryTable (tableOf (rulesOf kind dialect) (now (table .entry))) place (now (room .entry))) ⌝ }
+    ensures { λ r. ⌜ r ≡ queueEntryCall (now (table .entry)) kind dialect (now (room .entry)) place ⌝ }
 {
     popped_number(runqueue::entry_at(table, rules_of(kind, dialect), room, place))
 }
@@ -87,8 +84,8 @@ pub extern "C" fn eremothyn_queue_reload(
     dialect: u64,
     room: &mut [u8],
 ) -> u64
-    ensures answer { λ r. ⌜ r ≡ tickNumber (reloadTables (rulesOf kind dialect) (now (old .entry)) (now (new .entry)) (now (room .entry)) .answer) ⌝ }
-    ensures room { λ _. ⌜ now (room .exit) ≡ reloadTables (rulesOf kind dialect) (now (old .entry)) (now (new .entry)) (now (room .entry)) .room ⌝ }
+    ensures answer { λ r. ⌜ r ≡ queueReloadCall (now (old .entry)) (now (new .entry)) kind dialect (now (room .entry)) ⌝ }
+    ensures room { λ _. ⌜ now (room .exit) ≡ queueReloadRoom (now (old .entry)) (now (new .entry)) kind dialect (now (room .entry)) ⌝ }
 {
     ticked_number(reload::reload(old, new, rules_of(kind, dialect), room))
 }

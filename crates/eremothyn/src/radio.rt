@@ -1,8 +1,7 @@
 // A user's table in records for the radio, and back, in the buffers that the caller lends.
 ghost use mathlib.Core.Path.{_≡_};
-ghost use Rattle.records.specs.Calls.{compiled, decompiled, recordFault};
-ghost use Rattle.eremothyn.specs.Rules.{dialectOf};
-ghost use Rattle.eremothyn.specs.NormalForms.{normalNumber};
+ghost use Rattle.records.specs.Calls.{recordFault};
+ghost use Rattle.eremothyn.specs.Calls.{compileCall, compileRecords, decompileCall, decompileText};
 use crate::normal_forms::normal_number;
 use crate::rules::dialect_of;
 use records::compile;
@@ -10,16 +9,16 @@ use records::decompile;
 
 #[no_mangle]
 pub extern "C" fn eremothyn_compile(table: &[u8], dialect: u64, records: &mut [u8]) -> u64
-    ensures answer { λ r. ⌜ r ≡ normalNumber (compiled (dialectOf dialect) (now (table .entry)) (now (records .entry)) .answer) ⌝ }
-    ensures records { λ _. ⌜ now (records .exit) ≡ compiled (dialectOf dialect) (now (table .entry)) (now (records .entry)) .buffer ⌝ }
+    ensures answer { λ r. ⌜ r ≡ compileCall (now (table .entry)) dialect (now (records .entry)) ⌝ }
+    ensures records { λ _. ⌜ now (records .exit) ≡ compileRecords (now (table .entry)) dialect (now (records .entry)) ⌝ }
 {
     normal_number(compile::compile(table, dialect_of(dialect), records))
 }
 
 #[no_mangle]
 pub extern "C" fn eremothyn_decompile(records: &[u8], text: &mut [u8]) -> u64
-    ensures answer { λ r. ⌜ r ≡ normalNumber (decompiled (now (records .entry)) (now (text .entry)) .answer) ⌝ }
-    ensures text { λ _. ⌜ now (text .exit) ≡ decompiled (now (records .entry)) (now (text .entry)) .buffer ⌝ }
+    ensures answer { λ r. ⌜ r ≡ decompileCall (now (records .entry)) (now (text .entry)) ⌝ }
+    ensures text { λ _. ⌜ now (text .exit) ≡ decompileText (now (records .entry)) (now (text .entry)) ⌝ }
 {
     normal_number(decompile::decompile(records, text))
 }

@@ -2,9 +2,10 @@
 ghost use mathlib.Core.Path.{_≡_};
 ghost use Prim.Native.Nat.{_≤_};
 ghost use Rattle.crontab.specs.Items.{itemsOf};
-ghost use Rattle.crontab.specs.Settings.{settingIn, nextLineIn};
+ghost use Rattle.crontab.specs.Settings.{settingIn};
 ghost use Rattle.eremothyn.specs.Rules.{rulesOf};
-ghost use Rattle.eremothyn.specs.Settings.{shownIn, settingNumber, lineNumber};
+ghost use Rattle.eremothyn.specs.Settings.{shownIn, settingNumber};
+ghost use Rattle.eremothyn.specs.Calls.{settingNameOffsetCall, settingNameLengthCall, settingValueOffsetCall, settingValueLengthCall, nextSettingCall};
 use crate::answer::REFUSED;
 use crate::answer::answer;
 use crate::rules::rules_of;
@@ -48,7 +49,7 @@ pub extern "C" fn eremothyn_setting_name_offset(
     dialect: u64,
     line: u64,
 ) -> u64
-    ensures { λ r. ⌜ r ≡ settingNumber (settingIn (itemsOf (rulesOf kind dialect) (now (table .entry))) line) Shown.NameOffset ⌝ }
+    ensures { λ r. ⌜ r ≡ settingNameOffsetCall (now (table .entry)) kind dialect line ⌝ }
 {
     setting_number(table, kind, dialect, line, Shown::NameOffset)
 }
@@ -60,7 +61,7 @@ pub extern "C" fn eremothyn_setting_name_length(
     dialect: u64,
     line: u64,
 ) -> u64
-    ensures { λ r. ⌜ r ≡ settingNumber (settingIn (itemsOf (rulesOf kind dialect) (now (table .entry))) line) Shown.NameLength ⌝ }
+    ensures { λ r. ⌜ r ≡ settingNameLengthCall (now (table .entry)) kind dialect line ⌝ }
 {
     setting_number(table, kind, dialect, line, Shown::NameLength)
 }
@@ -72,7 +73,7 @@ pub extern "C" fn eremothyn_setting_value_offset(
     dialect: u64,
     line: u64,
 ) -> u64
-    ensures { λ r. ⌜ r ≡ settingNumber (settingIn (itemsOf (rulesOf kind dialect) (now (table .entry))) line) Shown.ValueOffset ⌝ }
+    ensures { λ r. ⌜ r ≡ settingValueOffsetCall (now (table .entry)) kind dialect line ⌝ }
 {
     setting_number(table, kind, dialect, line, Shown::ValueOffset)
 }
@@ -84,14 +85,14 @@ pub extern "C" fn eremothyn_setting_value_length(
     dialect: u64,
     line: u64,
 ) -> u64
-    ensures { λ r. ⌜ r ≡ settingNumber (settingIn (itemsOf (rulesOf kind dialect) (now (table .entry))) line) Shown.ValueLength ⌝ }
+    ensures { λ r. ⌜ r ≡ settingValueLengthCall (now (table .entry)) kind dialect line ⌝ }
 {
     setting_number(table, kind, dialect, line, Shown::ValueLength)
 }
 
 #[no_mangle]
 pub extern "C" fn eremothyn_next_setting(table: &[u8], kind: u64, dialect: u64, line: u64) -> u64
-    ensures { λ r. ⌜ r ≡ lineNumber (nextLineIn (itemsOf (rulesOf kind dialect) (now (table .entry))) line) ⌝ }
+    ensures { λ r. ⌜ r ≡ nextSettingCall (now (table .entry)) kind dialect line ⌝ }
 {
     match setting::next(table, rules_of(kind, dialect), line) {
         LineAnswer::At(k) => k,

@@ -12,8 +12,8 @@ filled-number-requires c κs = rw (c .before .before .of-entry .ensures .0) (fir
 
 returns : tie.Need-returns
 returns c =
-    let filled = c .before .before .before .of-entry .ensures in
-    rw (← (c .before .before .before .before .before .rules-of .ensures)) (c .filled-number .ensures ∙ ap filledNumber (filled .0), filled .1)
+    let filled = rw (c .before .before .before .before .before .rules-of .ensures) at (c .before .before .before .of-entry .ensures) in
+    (c .filled-number .ensures ∙ ap filledNumber (filled .0), filled .1)
 
 pub eremothyn-firings-spec : {M : Type 1} → statement M
 eremothyn-firings-spec =

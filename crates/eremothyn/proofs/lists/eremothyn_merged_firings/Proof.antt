@@ -13,8 +13,8 @@ filled-number-requires c κs = rw (c .before .before .before .before .merged .en
 returns : tie.Need-returns
 returns c =
     let merged = c .before .before .before .before .before in
-    let filled = merged .merged .ensures in
-    rw (← (merged .before .before .before .rules-of .ensures)) (c .filled-number .ensures ∙ ap filledNumber (filled .0), filled .1)
+    let filled = rw (merged .before .before .before .rules-of .ensures) at (merged .merged .ensures) in
+    (c .filled-number .ensures ∙ ap filledNumber (filled .0), filled .1)
 
 pub eremothyn-merged-firings-spec : {M : Type 1} → statement M
 eremothyn-merged-firings-spec =

@@ -8,8 +8,8 @@ use Rattle.eremothyn.proofs.normal_forms.eremothyn_normal_form.Tie as t
 
 returns : tie.Need-returns
 returns c =
-    let form = c .before .before .before .normal-form .ensures in
-    rw (← (c .before .before .before .before .before .dialect-of .ensures)) (c .normal-number .ensures ∙ ap normalNumber (form .0), form .1)
+    let form = rw (c .before .before .before .before .before .dialect-of .ensures) at (c .before .before .before .normal-form .ensures) in
+    (c .normal-number .ensures ∙ ap normalNumber (form .0), form .1)
 
 pub eremothyn-normal-form-spec : {M : Type 1} → statement M
 eremothyn-normal-form-spec =

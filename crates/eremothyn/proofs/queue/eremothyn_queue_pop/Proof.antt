@@ -9,7 +9,8 @@ use Rattle.eremothyn.proofs.queue.eremothyn_queue_pop.Tie as tie
 returns : tie.Need-returns
 returns c =
     let e = c .before .before .before .before .before .rules-of .ensures in
-    rw (← e) (c .popped-number .ensures ∙ ap popNumber (c .before .before .before .pop .ensures .0), c .before .before .before .pop .ensures .1)
+    let s = rw e at (c .before .before .before .pop .ensures) in
+    (c .popped-number .ensures ∙ ap popNumber (s .0), s .1)
 
 pub eremothyn-queue-pop-spec : {M : Type 1} → statement M
 eremothyn-queue-pop-spec =

@@ -8,8 +8,8 @@ use Rattle.eremothyn.proofs.radio.eremothyn_compile.Tie as tie
 
 returns : tie.Need-returns
 returns c =
-    let form = c .before .before .before .compile .ensures in
-    rw (← (c .before .before .before .before .before .dialect-of .ensures)) (c .normal-number .ensures ∙ ap normalNumber (form .0), form .1)
+    let form = rw (c .before .before .before .before .before .dialect-of .ensures) at (c .before .before .before .compile .ensures) in
+    (c .normal-number .ensures ∙ ap normalNumber (form .0), form .1)
 
 pub eremothyn-compile-spec : {M : Type 1} → statement M
 eremothyn-compile-spec =
