@@ -1,11 +1,13 @@
 /* eremothyn agenda [-s] [--dialect NAME] [--local] [--page] FILE FROM TO: what will fire in a span, for a person. */
 
-#include <ctype.h>
+#define _XOPEN_SOURCE 700
+
 #include <inttypes.h>
 #include <stdio.h>
 #include <string.h>
 
 #include "agenda.h"
+#include "character.h"
 #include "command.h"
 #include "date.h"
 #include "fault.h"
@@ -37,7 +39,7 @@ static void write_end(char text[MOST_MINUTE], uint64_t minute, bool is_whole)
 /* More than any name has that leads to a file. */
 enum { MOST_NAME = 8192 };
 
-/* The title, or what stands in its place on every page. A control byte of the name is shown as a question mark. */
+/* The title, or what stands in its place on every page. */
 static void put_title(struct agenda *agenda, const char *name, bool has_pages)
 {
     static char shown[MOST_NAME], title[MOST_NAME + COLUMNS], span[2 * MOST_MINUTE + COLUMNS];
@@ -45,10 +47,7 @@ static void put_title(struct agenda *agenda, const char *name, bool has_pages)
     write_end(from, agenda->from, agenda->from % MINUTES_A_DAY == 0);
     write_end(to, agenda->to, agenda->to % MINUTES_A_DAY == MINUTES_A_DAY - 1);
     snprintf(span, sizeof span, "%s to %s, UTC", from, to);
-    snprintf(shown, sizeof shown, "%s", name);
-    for (char *at = shown; *at != '\0'; at++)
-        if (iscntrl((unsigned char)*at))
-            *at = '?';
+    show_text(shown, (struct part){ (const uint8_t *)name, strnlen(name, sizeof shown - 1) });
     if (has_pages) {
         start_pages(&agenda->page, shown, span);
         return;

@@ -1,4 +1,4 @@
-/* Texts in columns: characters are those of UTF-8, a column each, and a byte that belongs to none counts as one. */
+/* Texts in columns: their characters are whole, as they are shown (character.h), and have a column each. */
 
 #ifndef COLUMN_H
 #define COLUMN_H

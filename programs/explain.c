@@ -3,11 +3,14 @@
 #include <inttypes.h>
 #include <stdio.h>
 
+#include "character.h"
 #include "command.h"
 #include "date.h"
 #include "entry.h"
 #include "fault.h"
+#include "field.h"
 #include "firing.h"
+#include "job.h"
 #include "say.h"
 #include "words.h"
 
@@ -37,21 +40,36 @@ static void print_next(const struct file *table, uint64_t number, const struct e
     putchar('\n');
 }
 
+/* What the job reads, a line each, as the shell would have it; nothing where it reads nothing. */
+static void print_input(const struct file *table, const struct entry *entry)
+{
+    uint8_t bytes[EREMOTHYN_MAX_LINE];
+    struct part rest;
+    if (!input_of(table, entry, bytes, &rest))
+        return;
+    do {
+        char shown[MOST_JOB];
+        struct part line = cut_at('\n', rest, &rest);
+        show_text(shown, line);
+        printf("    <%s%s\n", line.length > 0 ? " " : "", shown);
+    } while (rest.start != NULL);
+}
+
 static void explain_entry(const struct file *table, uint64_t number, const struct entry *entry, uint64_t from)
 {
     char words[MOST_WORDS];
     char clock[CLOCK_WORDS];
+    char job[MOST_JOB];
     words_of(entry, words);
     clock_of(entry, clock);
+    job_of(table, entry, job);
     printf("line %" PRIu64 ": %s", entry->line, words);
     if (entry->has_clock && !entry->at_boot)
         printf(", by the clock %s", clock);
     putchar('\n');
     print_next(table, number, entry, from);
-    fputs("    ", stdout);
-    if (entry->owner.length > 0)
-        printf("%.*s  ", (int)entry->owner.length, (const char *)entry->owner.start);
-    printf("%.*s\n", (int)entry->command.length, (const char *)entry->command.start);
+    printf("    %s\n", job);
+    print_input(table, entry);
 }
 
 static int explain(const char *name, uint64_t from, struct rules rules)
@@ -84,8 +102,8 @@ const struct command explain_command = {
     "explain",
     "FILE",
     "say in plain words when each entry of a crontab fires",
-    "Prints for each entry the number of its line and when it fires, its next firing in UTC, and its\n"
-    "command. Two spellings of one entry have the same words.\n"
+    "Prints for each entry the number of its line and when it fires, its next firing in UTC, its command,\n"
+    "and behind < what the command reads. Two spellings of one entry have the same words.\n"
     "The exit status is 0 if the file is taken, 1 if it is refused, which standard error tells as\n"
     "'eremothyn check' does, 2 if it can't be read or standard output can't be written.\n",
     ALL_TABLES,

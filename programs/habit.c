@@ -50,9 +50,11 @@ static bool is_path(const struct sight *sight)
     return sight->spot.before == WEEKDAY && (memchr("/.$", word.start[0], 3) != NULL || starts_with(word, "~/"));
 }
 
+/* A word of letters there; in a list or a range it is a mistyped name. */
 static bool is_command(const struct sight *sight)
 {
-    return sight->spot.before == WEEKDAY && sight->flawed.flaw == UNKNOWN_NAME;
+    bool is_whole = sight->flawed.text.length == sight->spot.word.length;
+    return sight->spot.before == WEEKDAY && sight->flawed.flaw == UNKNOWN_NAME && is_whole;
 }
 
 static bool has_colon(const struct sight *sight)

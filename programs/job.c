@@ -3,6 +3,7 @@
 #include <stdio.h>
 #include <string.h>
 
+#include "character.h"
 #include "date.h"
 #include "job.h"
 #include "words.h"
@@ -12,16 +13,25 @@ void job_of(const struct file *table, const struct entry *entry, char job[MOST_J
     uint8_t shell[EREMOTHYN_MAX_LINE];
     uint8_t input[EREMOTHYN_MAX_LINE];
     struct part line = text_of(table, entry);
-    size_t length = entry->owner.length;
-    if (length > 0) {
-        memcpy(job, entry->owner.start, length);
-        memcpy(job + length, "  ", 2);
-        length += 2;
-    }
-    uint64_t more = eremothyn_split_command(LINE(line, table->rules), 0, shell, sizeof shell, input, sizeof input);
-    for (uint64_t i = 0; i < more; i++)
-        job[length++] = shell[i] == '\t' ? ' ' : (char)shell[i];
-    strcpy(job + length, more > 0 ? "" : "(an empty command)");
+    if (entry->owner.length > 0)
+        job += sprintf(job, "%.*s  ", (int)entry->owner.length, (const char *)entry->owner.start);
+    uint64_t length = eremothyn_split_command(LINE(line, table->rules), 0, shell, sizeof shell, input, sizeof input);
+    if (length > 0)
+        show_text(job, (struct part){ shell, length });
+    else
+        strcpy(job, "(an empty command)");
+}
+
+bool input_of(const struct file *table, const struct entry *entry, uint8_t bytes[EREMOTHYN_MAX_LINE], struct part *input)
+{
+    uint8_t shell[EREMOTHYN_MAX_LINE];
+    struct part line = text_of(table, entry);
+    uint64_t length = eremothyn_stdin_length(LINE(line, table->rules), 0);
+    if (length == EREMOTHYN_NO_INPUT)
+        return false;
+    eremothyn_split_command(LINE(line, table->rules), 0, shell, sizeof shell, bytes, EREMOTHYN_MAX_LINE);
+    *input = (struct part){ bytes, length };
+    return true;
 }
 
 void local_of(const struct entry *entry, uint64_t minute, char local[MOST_LOCAL])

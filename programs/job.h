@@ -5,12 +5,12 @@
 
 #include "entry.h"
 
-/*
- * The shell line of an entry, in a system table behind its user column and two blanks. A tab is shown as a blank, and an empty
- * line as "(an empty command)".
- */
+/* The line for the shell, in a system table behind the user column and two blanks; an empty one is "(an empty command)". */
 enum { MOST_JOB = EREMOTHYN_MAX_LINE + 32 };
 void job_of(const struct file *table, const struct entry *entry, char job[MOST_JOB]);
+
+/* Takes the bytes of the standard input; false where there is none. */
+bool input_of(const struct file *table, const struct entry *entry, uint8_t bytes[EREMOTHYN_MAX_LINE], struct part *input);
 
 /* What its own clock shows at a minute at which it fires, as "[Mon 07:00 +12:45] "; "" where no CRON_TZ stands before it. */
 enum { MOST_LOCAL = 40 };

@@ -1,4 +1,4 @@
-/* A table's bytes as they can be shown. */
+/* A line of a table, and a place in it, as they can be shown. */
 
 #include <stdbool.h>
 #include <string.h>
@@ -14,56 +14,20 @@ struct window {
     uint64_t to;
 };
 
-/* How many bytes the first byte of a character in UTF-8 announces; 1 where it is no such byte. */
-static uint64_t announced(uint8_t first)
+/* What of a text stands from a place on. */
+static struct part part_from(struct part text, uint64_t at)
 {
-    if (first < 0xc2 || first > 0xf4)
-        return 1;
-    return first < 0xe0 ? 2 : first < 0xf0 ? 3 : 4;
-}
-
-/* How many bytes the character at a place has; a byte that belongs to none counts as one. */
-static uint64_t character(struct part text, uint64_t at)
-{
-    uint64_t length = announced(text.start[at]);
-    if (length > text.length - at)
-        return 1;
-    for (uint64_t i = 1; i < length; i++)
-        if ((text.start[at + i] & 0xc0) != 0x80)
-            return 1;
-    return length;
-}
-
-/* Whether a character is printed as it is: no control character, no lone byte above 127, and no byte order mark. */
-static bool is_plain(const uint8_t *bytes, uint64_t length)
-{
-    if (length == 1)
-        return bytes[0] >= ' ' && bytes[0] < 127;
-    bool is_control = bytes[0] == 0xc2 && bytes[1] < 0xa0;
-    bool is_mark = length == 3 && memcmp(bytes, BYTE_ORDER_MARK, 3) == 0;
-    return !is_control && !is_mark;
-}
-
-/* Copies the character at a place as it is shown; answers where the next goes. */
-static char *copy(char *to, struct part text, uint64_t at, uint64_t length)
-{
-    const uint8_t *bytes = text.start + at;
-    if (is_plain(bytes, length)) {
-        memcpy(to, bytes, length);
-        return to + length;
-    }
-    *to = bytes[0] == '\t' ? ' ' : '?';
-    return to + 1;
+    return (struct part){ text.start + at, text.length - at };
 }
 
 /* The column, from 0, of the character that has the byte at a place; behind the last one, the column after it. */
 static uint64_t column_of(struct part text, uint64_t place)
 {
     uint64_t column = 0;
-    uint64_t at = 0;
-    while (at < text.length && at + character(text, at) <= place) {
-        at += character(text, at);
-        column++;
+    for (uint64_t at = 0; at < text.length; column++) {
+        at += first_character(part_from(text, at));
+        if (at > place)
+            break;
     }
     return column;
 }
@@ -73,12 +37,12 @@ static void copy_window(char *to, struct part text, struct window window, uint64
 {
     uint64_t column = 0;
     for (uint64_t at = 0; at < text.length && column < window.to; column++) {
-        uint64_t length = character(text, at);
+        uint64_t length = first_character(part_from(text, at));
         bool is_dot = (window.from > 0 && column < window.from + DOTS) || (window.to < columns && column >= window.to - DOTS);
         if (column >= window.from && is_dot)
             *to++ = '.';
         else if (column >= window.from)
-            to = copy(to, text, at, length);
+            to = show_character(to, part_from(text, at), length);
         at += length;
     }
     *to = '\0';

@@ -1,12 +1,12 @@
-/* A table's bytes as they can be shown: each character has one column, and none moves the cursor. */
+/* A line of a table, and a place in it, as they can be shown. */
 
 #ifndef SHOWN_H
 #define SHOWN_H
 
-#include "file.h"
+#include "character.h"
 
 /* So many columns of a line are shown at most. */
-enum { SHOWN_COLUMNS = 76, BYTES_A_CHARACTER = 4 };
+enum { SHOWN_COLUMNS = 76 };
 
 /* A line, or what of it stands around a place, and a caret below the place. */
 struct shown {

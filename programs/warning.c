@@ -76,6 +76,33 @@ static struct part look_for_six_fields(const struct view *view, char words[MOST_
     return word;
 }
 
+/* The % that ends a command for the shell, or no bytes. */
+static struct part first_percent(struct part command)
+{
+    for (uint64_t at = 0; at < command.length; at++) {
+        if (command.start[at] == '\\')
+            at++;
+        else if (command.start[at] == '%')
+            return (struct part){ command.start + at, 1 };
+    }
+    return none();
+}
+
+/* date +%F, which people bring from the shell; a quote may stand before the sign or behind it. */
+static struct part look_for_percent(const struct view *view, char words[MOST_WORDS_OF_WARNING])
+{
+    struct part percent = first_percent(view->entry->command);
+    if (percent.length == 0)
+        return none();
+    uint64_t before = (uint64_t)(percent.start - view->entry->command.start);
+    if (before > 0 && (percent.start[-1] == '"' || percent.start[-1] == '\''))
+        before--;
+    if (before == 0 || view->entry->command.start[before - 1] != '+')
+        return none();
+    snprintf(words, MOST_WORDS_OF_WARNING, "the command ends before this %%: what follows is its standard input");
+    return percent;
+}
+
 /* By their columns in a line. */
 static const struct {
     look *look;
@@ -86,6 +113,7 @@ static const struct {
     { look_for_never, "never", NULL },
     { look_for_user, "user", NULL },
     { look_for_six_fields, "six-fields", "seconds and years aren't here: minute, hour, day, month, weekday" },
+    { look_for_percent, "percent", "\\% is a percent sign, as in date +\\%F" },
 };
 
 /* What stands before a name is part of it. */

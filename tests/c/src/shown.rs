@@ -34,17 +34,25 @@ pub fn firings(entry: &Entry, [from, to]: Span) -> impl Iterator<Item = u64> {
     first.into_iter().chain(others)
 }
 
-/// What an entry runs, in printable characters, with all its blanks.
+/// Bytes as they are shown: a tab as a blank, and a question mark for what is no character, or none that is seen.
+pub fn text(bytes: &[u8]) -> String {
+    let mut text = String::new();
+    for chunk in bytes.utf8_chunks() {
+        let seen = |letter: char| match letter {
+            '\t' => ' ',
+            '\u{feff}' => '?',
+            letter if letter.is_control() => '?',
+            letter => letter,
+        };
+        text.extend(chunk.valid().chars().map(seen));
+        text.extend(chunk.invalid().iter().map(|_| '?'));
+    }
+    text
+}
+
+/// What an entry runs, with all its blanks.
 pub fn job(table: &Table, entry: &Entry) -> String {
-    let shown = |bytes: &[u8]| -> String {
-        let shown = bytes.iter().map(|&byte| match byte {
-            b'\t' => ' ',
-            byte if byte.is_ascii() => char::from(byte),
-            _ => '~',
-        });
-        shown.collect()
-    };
-    let of = |part: Part| shown(&table.bytes[part.offset..part.offset + part.length]);
+    let of = |part: Part| text(&table.bytes[part.offset..part.offset + part.length]);
     let [user, group, class] = entry.column.parts().map(|part| part.map(of));
     let mut job = user.unwrap_or_default();
     job += &group.map_or(String::new(), |group| format!(":{group}"));
@@ -55,7 +63,7 @@ pub fn job(table: &Table, entry: &Entry) -> String {
     let shell = split(entry.command).shell;
     match shell.is_empty() {
         true => job + "(an empty command)",
-        false => job + &shown(&shell),
+        false => job + &text(&shell),
     }
 }
 

@@ -14,7 +14,7 @@ fn next_in(folder: &str) -> Subcommand {
     Subcommand::new("next", folder)
 }
 
-/// The lines that the second program wants, with `~` for bytes that aren't ASCII.
+/// The lines that the second program wants.
 fn wanted(table: &Table, from: u64, count: usize, is_local: bool) -> Vec<String> {
     let mut list: Vec<(u64, usize)> = Vec::new();
     for (number, entry) in table.entries.iter().enumerate() {
@@ -41,22 +41,13 @@ fn wanted(table: &Table, from: u64, count: usize, is_local: bool) -> Vec<String>
     list.iter().map(line).collect()
 }
 
-/// What is printed of a table that is taken, in the same form, and what is said.
+/// What is printed of a table that is taken, which is UTF-8 whatever the table is, and what is said.
 fn printed(next: &Subcommand, arguments: &[&str], table: &[u8]) -> (Vec<String>, String) {
     let output = next.run_with(arguments, table);
     assert_eq!(output.status.code(), Some(0), "{arguments:?} {output:?}");
-    let shown = |&byte: &u8| {
-        if byte.is_ascii() {
-            char::from(byte)
-        } else {
-            '~'
-        }
-    };
-    let text: String = output.stdout.iter().map(shown).collect();
-    (
-        text.lines().map(str::to_string).collect(),
-        complaint(&output),
-    )
+    let said = complaint(&output);
+    let text = String::from_utf8(output.stdout).expect("UTF-8");
+    (text.lines().map(str::to_string).collect(), said)
 }
 
 #[test]

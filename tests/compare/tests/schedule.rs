@@ -219,7 +219,11 @@ fn a_firing_is_at_most_the_gap_ahead() {
 /// The slow engine of ticket 2026-07, compared with the quick one and with the second program.
 fn by_clock(schedule: &Schedule, minute: u64) -> Answer {
     let clock = schedules::next_by_clock(schedule.numbers(), minute);
-    assert_eq!(clock, next_after(schedule, minute), "{schedule:x?} after {minute}");
+    assert_eq!(
+        clock,
+        next_after(schedule, minute),
+        "{schedule:x?} after {minute}"
+    );
     clock
 }
 
@@ -235,14 +239,23 @@ fn the_clock_and_the_search_agree() {
         let early = schedule.next_after(0).is_ok_and(|first| first <= NEAR);
         let near = schedule
             .next_after(minute)
-            .map_or(LAST_MINUTE - NEAR <= minute, |firing| firing - minute <= NEAR);
+            .map_or(LAST_MINUTE - NEAR <= minute, |firing| {
+                firing - minute <= NEAR
+            });
         if early && near {
             let _ = by_clock(&schedule, minute);
             asked += 1;
         }
     }
     let every_minute = schedule_of("* * * * *");
-    for minute in [0, 1, LAST_MINUTE - 1, LAST_MINUTE, LAST_MINUTE + 1, u64::MAX] {
+    for minute in [
+        0,
+        1,
+        LAST_MINUTE - 1,
+        LAST_MINUTE,
+        LAST_MINUTE + 1,
+        u64::MAX,
+    ] {
         let _ = by_clock(&every_minute, minute);
     }
     assert_eq!(by_clock(&every_minute, LAST_MINUTE), Err(17));

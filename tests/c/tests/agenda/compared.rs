@@ -25,7 +25,6 @@ fn held(
     for line in text.lines() {
         assert_eq!(line.trim_end_matches(' '), line, "{text}");
     }
-    // Each byte is a column at most.
     assert!(unbroken(&table, &text), "{text}");
     let mut found = parsed(&text);
     let words: Vec<String> = (found.often.iter_mut())
@@ -46,12 +45,8 @@ fn held(
 
 /// Whether the jobs of a table that need no second line stand there with all their blanks, if they stand there at all.
 fn unbroken(table: &Table, text: &str) -> bool {
-    let text: String = text
-        .chars()
-        .map(|byte| if byte.is_ascii() { byte } else { '~' })
-        .collect();
     let jobs = table.entries.iter().map(|entry| job(table, entry));
-    jobs.filter(|job| job.len() <= 31)
+    jobs.filter(|job| job.chars().count() <= 31)
         .all(|job| text.contains(job.trim_end()))
 }
 

@@ -2,7 +2,7 @@
 
 use crate::parsed::{parsed, squeezed};
 use crate::{agenda_in, agenda_of};
-use c::shown::{reading, typed};
+use c::shown::{reading, text as shown, typed};
 use c::{all, root, word};
 use second::random::Random;
 use second::table::{samples, Rules};
@@ -56,9 +56,9 @@ fn command(random: &mut Random, bytes: usize) -> String {
 }
 
 /// Whether no line has more than 72 characters. A form feed has no column.
-fn is_narrow(bytes: &[u8]) -> bool {
-    let mut lines = bytes.split(|byte| b"\n\x0c".contains(byte));
-    lines.all(|line| String::from_utf8_lossy(line).chars().count() <= COLUMNS)
+fn is_narrow(text: &str) -> bool {
+    let mut lines = text.split(['\n', '\u{c}']);
+    lines.all(|line| line.chars().count() <= COLUMNS)
 }
 
 /// Long commands, with and without pages: the same is told in both, and nothing is too wide, too long or torn.
@@ -88,18 +88,16 @@ fn random_pages() {
         let span = format!("{} to {}, UTC", &first[..10], &last[..10]);
         let more: &[&str] = [&["-"][..], &["--local", "-"]][turn % 2];
         let plain = [more, &[&first, &last]].concat();
-        let output = agenda.run_with(&[&["--page"], &plain[..]].concat(), table.as_bytes());
-        assert!(is_narrow(&output.stdout), "{table}");
-        let (text, complaint, status) = all(&output);
-        assert_eq!((complaint.as_str(), status), ("", Some(0)));
+        let with_pages = [&["--page"], &plain[..]].concat();
+        let text = agenda_of(&agenda, &with_pages, table.as_bytes());
+        assert!(is_narrow(&text), "{table}");
         let pages = pages(&text, "-", &span);
         for page in &pages {
             assert!(is_whole(page), "{page}");
         }
         most = most.max(pages.len());
-        let whole = agenda.run_with(&plain, table.as_bytes());
-        assert!(is_narrow(&whole.stdout), "{table}");
-        let whole = all(&whole).0;
+        let whole = agenda_of(&agenda, &plain, table.as_bytes());
+        assert!(is_narrow(&whole), "{table}");
         assert_eq!(parsed(&pages.concat()), parsed(&whole), "{table}");
         assert!(!whole.contains('\u{c}') && !whole.contains("page 1"));
         let jobs = table.lines().filter(|line| !line.starts_with("CRON_TZ"));
@@ -113,7 +111,7 @@ fn random_pages() {
     assert!(most > 20, "{most} pages");
 }
 
-/// Bytes that are no UTF-8 count as a column each, whatever stands beside them.
+/// Bytes that are no UTF-8 are a question mark each, whatever stands beside them.
 #[test]
 fn bytes_that_are_no_characters() {
     let agenda = agenda_in("agenda-bytes");
@@ -123,20 +121,12 @@ fn bytes_that_are_no_characters() {
         let some =
             b"\xc3\xa9\xe2\x82\xac\xf0\x9f\x8c\x99\xed\xa0\x80\xf4\x90\xc0\xaf\xff\xe0\x80x ";
         table.extend((0..600).map(|_| random.pick(some)));
-        let shell = table[10..].to_vec();
+        let shell = squeezed(&shown(&table[10..]));
         table.push(b'\n');
-        let output = agenda.run_with(&["-", "2026-11-16", "2026-11-16"], &table);
-        assert!(is_narrow(&output.stdout), "{}", table.escape_ascii());
-        let squeezed = |bytes: &[u8]| -> Vec<u8> {
-            let kept = bytes.iter().copied().filter(|byte| !b" \n".contains(byte));
-            kept.collect()
-        };
-        let told = squeezed(&output.stdout);
-        assert!(
-            told.ends_with(&squeezed(&shell)),
-            "{}",
-            table.escape_ascii()
-        );
+        let text = agenda_of(&agenda, &["-", "2026-11-16", "2026-11-16"], &table);
+        assert!(is_narrow(&text), "{}", table.escape_ascii());
+        let told = squeezed(&text.replace('\n', ""));
+        assert!(told.ends_with(&shell), "{}", table.escape_ascii());
     }
 }
 
@@ -147,9 +137,8 @@ fn random_tables_are_narrow() {
     for rules in Rules::ALL.repeat(30) {
         let table = samples::table(&mut random, rules, 12);
         let arguments = [&reading(rules)[..], &["-", "2026-11-01", "2026-12-31"]].concat();
-        let output = agenda.run_with(&arguments, &table);
-        assert!(is_narrow(&output.stdout), "{}", table.escape_ascii());
-        let _ = agenda_of(&agenda, &arguments, &table);
+        let text = agenda_of(&agenda, &arguments, &table);
+        assert!(is_narrow(&text), "{}", table.escape_ascii());
     }
 }
 
@@ -224,7 +213,7 @@ fn a_command_of_more_than_a_page() {
     assert!(pages[1].ends_with("\n2026-12-31 Thu 11:15  [Fri 00:00 +12:45] a\n"));
 }
 
-/// The end of a long name stands at the top; a title has all of it. Control bytes are shown as question marks.
+/// The end of a long name stands at the top; a title has all of it. What can't be shown is a question mark.
 #[test]
 fn names() {
     let agenda = agenda_in("agenda-names");
@@ -233,6 +222,7 @@ fn names() {
     let date = "2026-11-14";
     for (name, title, top) in [
         ("l\nine\x07\x0c", "Agenda of l?ine??\n", "l?ine??"),
+        ("c1\u{9b}1m", "Agenda of c1?1m\n", "c1?1m"),
         ("%s %n", "Agenda of %s %n\n", "%s %n"),
         (
             "caf\u{e9} \u{1f319}",
@@ -246,10 +236,8 @@ fn names() {
         ),
     ] {
         agenda.write(name, "@daily a\n");
-        let output = agenda.run(&["--", name, date, date]);
-        assert!(is_narrow(&output.stdout));
-        let (text, complaint, status) = all(&output);
-        assert_eq!((complaint.as_str(), status), ("", Some(0)));
+        let text = agenda_of(&agenda, &["--", name, date, date], b"");
+        assert!(is_narrow(&text));
         assert!(text.starts_with(title), "{text}");
         let (title, _) = text.split_once(span).expect("a span");
         assert_eq!(

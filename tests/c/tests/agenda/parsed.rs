@@ -142,12 +142,7 @@ impl Parser {
     }
 }
 
-/// The agenda in a text whose characters are bytes.
 pub fn parsed(text: &str) -> Agenda {
-    let text: String = text
-        .chars()
-        .map(|byte| if byte.is_ascii() { byte } else { '~' })
-        .collect();
     let mut parser = Parser::default();
     let mut now = Section::Title;
     for line in text.lines().filter(|line| !line.is_empty()) {

@@ -3,7 +3,7 @@
 use super::{check_in, says};
 
 /// A line of a user table, and its hint; none is "".
-const HINTS: [(&[u8], &str); 52] = [
+const HINTS: [(&[u8], &str); 54] = [
     (
         b"\xef\xbb\xbf# a comment",
         "the line starts with a byte order mark (BOM): take its three bytes away",
@@ -107,6 +107,9 @@ const HINTS: [(&[u8], &str); 52] = [
         b"0 0 * * L x",
         "other crons write L for the last day: here days are numbers",
     ),
+    // In a range or a list it is a mistyped name.
+    (b"0 0 * * mon-fry x", ""),
+    (b"0 0 * * mon,wen x", ""),
     // A letter of a name is no sign.
     (
         b"0 WED * * * x",

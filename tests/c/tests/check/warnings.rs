@@ -4,6 +4,8 @@ use super::{check_in, says, short};
 
 const NEVER: &str = "the entry never fires: there is no such date [never]";
 const USER: &str = "the command is 'root': is this a system table? (--system) [user]";
+const PERCENT: &str =
+    "the command ends before this %: what follows is its standard input [percent]";
 const BOM: &str = "a byte order mark is part of the first setting's name [bom]";
 
 fn same(line: u64) -> String {
@@ -18,7 +20,7 @@ fn six(sign: char) -> String {
 #[test]
 fn known_warnings() {
     let check = check_in("check-warnings");
-    let rows: [(&str, &[(&str, String)]); 26] = [
+    let rows: [(&str, &[(&str, String)]); 32] = [
         ("0 0 30 2 * x\n", &[("1:5", NEVER.into())]),
         (
             "A=b\n\n 0 0  31  4,6,9-11/2 * x\n",
@@ -60,6 +62,19 @@ fn known_warnings() {
             &[("1:12", six('?')), ("2:13", six('*'))],
         ),
         ("0 0 * * * *.sh x\n0 0 * * * ?x\n", &[]),
+        // As date writes a time, in quotes or not; what is escaped or comes later isn't the end.
+        ("@daily date +%F\n", &[("1:14", PERCENT.into())]),
+        ("@daily date '+%F'\n", &[("1:15", PERCENT.into())]),
+        ("@daily date +\"%F %T\"\n", &[("1:15", PERCENT.into())]),
+        ("@daily echo 5\\% +%s\n", &[("1:18", PERCENT.into())]),
+        (
+            "@daily date +\\%F\n@daily x%+%F\n@daily %\n@daily '%\n",
+            &[],
+        ),
+        (
+            "0 12 14 2 * mailx john%Happy Birthday!%Time for lunch.\n",
+            &[],
+        ),
         ("\u{feff}A=b\n", &[("1:1", BOM.into())]),
         // One line may have several, by their columns.
         (
@@ -125,7 +140,7 @@ fn a_refused_table_has_no_warnings() {
 fn warnings_are_shown_as_errors_are() {
     let check = check_in("check-warnings-shown");
     let table =
-        "\u{feff}A=b\n0 0 30 2 * x\n0 0 12 * * ? x\n0 0 30 2 *  x\n@daily root x\n* * * * * * y\n";
+        "\u{feff}A=b\n0 0 30 2 * x\n0 0 12 * * ? x\n0 0 30 2 *  x\n@daily root x\n* * * * * * y\n@hourly date +%s\n";
     let text = "\
 t:1:1: warning: a byte order mark is part of the first setting's name [bom]
     ?A=b
@@ -149,7 +164,11 @@ t:5:8: warning: the command is 'root': is this a system table? (--system) [user]
 t:6:11: warning: the command starts with *: are there six time fields? [six-fields]
     * * * * * * y
               ^
-t: 5 entries, 7 warnings
+t:7:15: warning: the command ends before this %: what follows is its standard input [percent]
+    @hourly date +%s
+                  ^
+    hint: \\% is a percent sign, as in date +\\%F
+t: 6 entries, 8 warnings
 ";
     assert_eq!(says(&check, &[], table), (text.to_string(), Some(0)));
     let one = says(&check, &["--short"], "0 0 30 2 * x\n").0;

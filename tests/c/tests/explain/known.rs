@@ -126,11 +126,11 @@ fn words_are_those_of_the_table() {
     }
 }
 
-/// An entry's line, its clock, its next firing by both clocks, and its command as it stands, with its user.
+/// An entry's line, its clock, its next firing by both clocks, its command with its user, and what that reads.
 #[test]
 fn an_entry_is_told_whole() {
     let explain = Subcommand::new("explain", "explain-whole");
-    let table = b"# one\n@reboot\ta%b\n\nCRON_TZ=+12:45\n0 7 * * mon  root  wash\t it\n0 0 30 2 * me never\nCRON_TZ=-00:00\n@daily me x\n";
+    let table = b"# one\n@reboot\ta%b%%c d%\n\nCRON_TZ=+12:45\n0 7 * * mon  root  wash\t it\n0 0 30 2 * me never\nCRON_TZ=-00:00\n@daily me x\n";
     let rows = |rows: &[(&str, &[&str])]| {
         let row = |(first, below): &(&str, &[&str])| {
             (
@@ -147,12 +147,12 @@ fn an_entry_is_told_whole() {
     assert_eq!(
         explained(&explain, &from, table),
         rows(&[
-            ("line 2: at boot", &["a%b"]),
+            ("line 2: at boot", &["a", "< b", "<", "< c d", "<"]),
             (
                 "line 5: at 07:00 on Mondays, by the clock +12:45",
                 &[
                     "next 2026-11-15 Sun 18:15, by its clock 2026-11-16 Mon 07:00",
-                    "root  wash\t it"
+                    "root  wash  it"
                 ],
             ),
             (

@@ -1,11 +1,12 @@
-//! The next firing of each entry is the second program's.
+//! The next firing of each entry, its command and what that reads are the second program's.
 
 use super::explained;
-use c::shown::{minute_text, typed};
+use c::shown::{job, minute_text, text, typed};
 use c::Subcommand;
 use second::calendar::LAST_MINUTE;
+use second::command::split;
 use second::random::Random;
-use second::table::{read, samples, Entry, Kind, When};
+use second::table::{read, samples, Entry, Kind, Table, When};
 
 /// The line that tells the first firing from a minute on, or why there is none.
 fn told_of(entry: &Entry, from: u64) -> Option<String> {
@@ -24,8 +25,21 @@ fn told_of(entry: &Entry, from: u64) -> Option<String> {
     })
 }
 
+/// The lines that tell the command, and what it reads.
+fn runs(table: &Table, entry: &Entry) -> Vec<String> {
+    let mut lines = vec![job(table, entry)];
+    if let Some(input) = split(entry.command).input {
+        let read = input.split(|&byte| byte == b'\n');
+        lines.extend(read.map(|line| match line {
+            [] => "<".to_string(),
+            line => format!("< {}", text(line)),
+        }));
+    }
+    lines
+}
+
 #[test]
-fn next_firings_are_the_second_program_s() {
+fn next_firings_and_jobs_are_the_second_program_s() {
     let explain = Subcommand::new("explain", "explain-next");
     let mut random = Random::seeded();
     for round in 0..60 {
@@ -43,7 +57,9 @@ fn next_firings_are_the_second_program_s() {
         assert_eq!(found.len(), read.entries.len());
         for (entry, (first, below)) in read.entries.iter().zip(&found) {
             let next = told_of(entry, from);
-            assert_eq!(below.len(), 1 + next.iter().count(), "{first}");
+            let runs = runs(&read, entry);
+            assert_eq!(below.len(), next.iter().count() + runs.len(), "{first}");
+            assert!(below.ends_with(&runs), "{below:?}\nnot\n{runs:?}");
             if let Some(next) = next {
                 let (utc, _) = below[0]
                     .split_once(", by its clock ")

@@ -47,7 +47,9 @@ fn the_examples_go_through() {
 #[test]
 fn documents_and_full_tables_go_through() {
     let command = Subcommand::new("compile", "pipe-documents");
-    let lines = documents::ENTRIES.iter().map(|(line, _)| format!("{line}\n"));
+    let lines = documents::ENTRIES
+        .iter()
+        .map(|(line, _)| format!("{line}\n"));
     let is_good = |line: &String| second::table::records::compiled(line.as_bytes()).is_ok();
     let good: String = lines.filter(is_good).collect();
     assert!(goes_through(&command, good.as_bytes()).len() > 100);
