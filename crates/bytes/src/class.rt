@@ -1,5 +1,6 @@
 // Kinds of bytes.
 ghost use mathlib.Core.Path.{_≡_};
+ghost use Rattle.bytes.specs.declared.class.Class.the-variants.{InLine};
 ghost use Rattle.bytes.specs.Classes.{isBlank, isQuote, isAccount, isControl, ofClass};
 
 pub enum Class {
@@ -44,6 +45,16 @@ fn is_control(b: u8) -> bool
     ((1 <= b) & (b <= 8)) | (((11 <= b) & (b <= 31)) | (b == 127))
 }
 
+// What a line may have. Most bytes can be printed, and are told by one look.
+fn is_in_line(b: u8) -> bool
+    ensures { λ r. ⌜ r ≡ ofClass InLine b ⌝ }
+{
+    if (b' ' <= b) & (b < 127) {
+        return true;
+    }
+    !((b == b'\n') | ((b == 0) | is_control(b)))
+}
+
 pub fn is_in(class: Class, b: u8) -> bool
     ensures { λ r. ⌜ r ≡ ofClass class b ⌝ }
 {
@@ -53,6 +64,6 @@ pub fn is_in(class: Class, b: u8) -> bool
         Class::Name => !(is_blank(b) | ((b == b'=') | is_quote(b))),
         Class::Account => is_account(b),
         Class::Not(other) => b != other,
-        Class::InLine => !((b == b'\n') | ((b == 0) | is_control(b))),
+        Class::InLine => is_in_line(b),
     }
 }

@@ -1,9 +1,9 @@
--- Laws of a number that is a whole field: it is divided by no byte, and is the only element of its list.
+-- Laws of a number that is a whole field: it is divided by no byte, is the only element of its list, and is judged as one value.
 -- Assumes nothing.
 use mathlib.Core.Path.{_≡_, refl, sym, ap, _∙_}
 use mathlib.Core.Bool.{Bool, true, false, cond, _&&_, and-eq-true-iff}
 use mathlib.Core.List.{List, [], _∷_}
-use Prim.Native.Nat.{ℕ}
+use Prim.Native.Nat.{ℕ, _-_}
 use native.Mathlib.Omega.{arith}
 use lib.ListN.{length}
 use lib.Seq.{take-all}
@@ -12,14 +12,17 @@ use borrow.Author.Tests.{le-ltb, ne-eqb}
 use Rattle.bytes.specs.declared.class.Class.the-variants.{Not}
 use Rattle.bytes.specs.Classes.{ofClass}
 use Rattle.bytes.specs.Runs.{run}
+use Rattle.bytes.specs.Sets.{put}
 use Rattle.field.specs.declared.Limits.{Limits}
-use Rattle.field.specs.declared.Answer.the-variants.{Values}
+use Rattle.field.specs.declared.Answer.the-variants.{Values, Refused}
 use Rattle.field.specs.declared.number.Number.the-variants.{Value, Malformed}
 use Rattle.field.specs.declared.element.Element.the-variants.{Range}
 use Rattle.field.specs.Parts.{contains, before, split}
 use Rattle.field.specs.Numbers.{isDigit, areDigits, valueFrom, numberOf}
 use Rattle.field.specs.Elements.{isElement, ranging, numberOr, endOf, elementOf}
-use Rattle.field.specs.Judgement.{judged}
+use Rattle.field.specs.Refusals.{outOfLimits}
+use Rattle.field.specs.Values.{everyStep, valuesOf, lastOf, rangeOf, bitOf, including}
+use Rattle.field.specs.Judgement.{outside, judged}
 use Rattle.field.specs.Fields.{areElements, judgedAll, listField}
 use Rattle.field.proofs.Parts.{split-first}
 
@@ -54,7 +57,7 @@ module _ (b : ℕ) (other : isDigit b ≡ false) where
     digits-split = split-first b s ∙ rw (digits-whole, digits-run s digits, take-all (length s) s (omega arith))
 
 module _ (s : List ℕ) {n : ℕ} (number : numberOf s ≡ Value n) where
-  alone-element : (l : Limits) → elementOf l s ≡ Range n n 1
+  pub alone-element : (l : Limits) → elementOf l s ≡ Range n n 1
   unfolding elementOf endOf numberOr ranging isDigit
   alone-element l = rw (digits-whole 45 refl s (number-digits s number), number)
 
@@ -62,3 +65,13 @@ module _ (s : List ℕ) {n : ℕ} (number : numberOf s ≡ Value n) where
   pub number-alone : (l : Limits) (column : ℕ) → listField l column s ≡ judged l column (Values 0 false) (Range n n 1)
   unfolding listField areElements judgedAll isElement isDigit
   number-alone l column = rw (digits-split 44 refl s (number-digits s number), alone-element l)
+
+-- how it is judged
+module _ (l : Limits) (column n : ℕ) where
+  pub number-outside : outside l n ≡ true → judged l column (Values 0 false) (Range n n 1) ≡ Refused outOfLimits column
+  unfolding judged
+  number-outside e = rw e
+
+  pub number-inside : outside l n ≡ false → judged l column (Values 0 false) (Range n n 1) ≡ Values (put 0 (bitOf l n)) false
+  unfolding judged rangeOf lastOf valuesOf everyStep including
+  number-inside e = let none : n - n ≡ 0 = omega arith in rw (e, le-ltb n n (omega arith), none)

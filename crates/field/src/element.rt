@@ -68,7 +68,7 @@ fn upper(low: &[u8], high: &[u8], limits: Limits) -> Number
 }
 
 // A dash parts n from what follows, and there a slash parts m from the step; with no step it is 1.
-pub(crate) fn read(s: &[u8], limits: Limits) -> Element
+fn divided(s: &[u8], limits: Limits) -> Element
     ensures { λ r. ⌜ r ≡ elementOf limits (now (s .entry)) ⌝ }
 {
     let names = limits.names;
@@ -83,4 +83,18 @@ pub(crate) fn read(s: &[u8], limits: Limits) -> Element
         return range(low, high, Number::Value(1));
     }
     range(low, high, number::read(&s[slash + 1..]))
+}
+
+// Most elements are one number, and needn't be divided.
+pub(crate) fn read(s: &[u8], limits: Limits) -> Element
+    ensures { λ r. ⌜ r ≡ elementOf limits (now (s .entry)) ⌝ }
+{
+    if let Number::Value(n) = number::read(s) {
+        return Element::Range {
+            low: n,
+            high: n,
+            step: 1,
+        };
+    }
+    divided(s, limits)
 }

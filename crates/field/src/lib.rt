@@ -152,16 +152,7 @@ pub fn read(s: &[u8], column: u32, limits: Limits) -> Answer
     }
     // Most fields are one number.
     if let Number::Value(n) = number::read(s) {
-        let start = Answer::Values {
-            set: 0,
-            star: false,
-        };
-        let element = Element::Range {
-            low: n,
-            high: n,
-            step: 1,
-        };
-        return values::judge(limits, column, start, element);
+        return values::judge_number(limits, column, n);
     }
     list::read(s, column, limits)
 }

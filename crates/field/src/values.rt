@@ -1,6 +1,9 @@
 // The values of an element within a field's limits, put into the field's set.
 ghost use mathlib.Core.Path.{_≡_};
 ghost use Prim.Native.Nat.{_+_, _-_, _^_, _≤_, _<_};
+ghost use mathlib.Core.Bool.{false};
+ghost use Rattle.field.specs.declared.Answer.the-variants.{Values};
+ghost use Rattle.field.specs.declared.element.Element.the-variants.{Range};
 ghost use Rattle.field.specs.Values.{bitOf, lastOf, valuesOf, including};
 ghost use Rattle.field.specs.Steps.{lastNew};
 ghost use Rattle.field.specs.Judgement.{outside, judged};
@@ -124,4 +127,18 @@ pub(crate) fn judge(limits: Limits, column: u64, answer: Answer, element: Elemen
     let last = last_of(limits, low, high);
     let set = with_values(set, limits, low, last, step);
     Answer::Values { set, star }
+}
+
+// The answer for a field that is one number, whose first byte stands at the column.
+pub(crate) fn judge_number(limits: Limits, column: u64, n: u16) -> Answer
+    ensures { λ r. ⌜ r ≡ judged limits column (Values 0 false) (Range n n 1) ⌝ }
+{
+    if is_outside(limits, n) {
+        return Answer::Refused {
+            number: OUT_OF_LIMITS,
+            column,
+        };
+    }
+    let set = bytes::set::with(0, bit_of(limits, n as u64));
+    Answer::Values { set, star: false }
 }

@@ -23,7 +23,7 @@ returns-3 c =
     let b = c .before .before .before .before in
     let s = b .before .before .before .before .before .args .s .now in
     let n = sym (b .read .ensures) ∙ c .before .before .n .given .1 in
-    c .judge2 .ensures ∙ sym (read-list _ _ s (omega arith) (b .before .if2 .left) ∙ number-alone s n _ _)
+    c .judge-number .ensures ∙ sym (read-list _ _ s (omega arith) (b .before .if2 .left) ∙ number-alone s n _ _)
 
 returns-4 : tie.Need-returns-4
 returns-4 c =

@@ -27,7 +27,7 @@ returns-5 c = rw (c .before .class .given .1)
 
 returns-6 : tie.Need-returns-6
 unfolding ofClass
-returns-6 c = rw (c .before .enum-told5 .given .1, c .is-control .ensures)
+returns-6 c = rw (c .before .enum-told5 .given .1) (c .is-in-line .ensures)
 
 pub is-in-spec : {M : Type 1} → statement M
 is-in-spec =
