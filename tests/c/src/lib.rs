@@ -6,9 +6,9 @@ mod subcommand;
 pub use subcommand::Subcommand;
 
 use std::ffi::OsStr;
-use std::fs;
+use std::fs::{self, File};
 use std::path::{Path, PathBuf};
-use std::process::{Command, Output};
+use std::process::{Command, Output, Stdio};
 use std::sync::{Mutex, PoisonError};
 
 const STRICT: [&str; 5] = ["-Wall", "-Wextra", "-Wpedantic", "-Wconversion", "-Werror"];
@@ -76,6 +76,18 @@ pub fn build_command(folder: &Path) -> PathBuf {
         .collect();
     let sources: Vec<&str> = sources.iter().map(|path| word(path)).collect();
     build(&sources, folder)
+}
+
+/// What becomes of a command whose standard output is full.
+pub fn filled(command: &mut Command) -> Output {
+    let full = File::options().write(true).open("/dev/full");
+    let child = command
+        .stdout(full.expect("a full device"))
+        .stderr(Stdio::piped())
+        .spawn();
+    child
+        .and_then(|child| child.wait_with_output())
+        .expect("the command runs")
 }
 
 /// What a program wrote to standard output, and its exit status.

@@ -88,6 +88,15 @@ impl Subcommand {
         child.wait_with_output().expect("the command ends")
     }
 
+    /// The same in the shell, with something behind it: `>&-` closes its standard output.
+    pub fn run_before(&self, arguments: &[&str], behind: &str) -> Output {
+        let script = format!("\"$0\" \"$@\" {behind}");
+        let mut shell = Command::new("sh");
+        shell.current_dir(&self.folder).args(["-c", &script]);
+        shell.arg(&self.program).arg(self.name).args(arguments);
+        shell.output().expect("the shell runs")
+    }
+
     /// The call, for a test that runs it in its own way.
     pub fn command<A: AsRef<OsStr>>(&self, arguments: &[A]) -> Command {
         let mut command = Command::new(&self.program);

@@ -1,8 +1,8 @@
 //! `eremothyn` itself: help, the version, and what isn't a subcommand.
 
-use c::{build_command, complaint, root, run, scratch, told};
-use std::fs::{self, File};
-use std::process::{Command, Stdio};
+use c::{build_command, complaint, filled, root, run, scratch, told};
+use std::fs;
+use std::process::Command;
 
 /// The subcommands, as the overview lists them.
 fn subcommands(overview: &str) -> Vec<&str> {
@@ -103,14 +103,7 @@ fn a_full_standard_output_is_an_error() {
         (&["check", "/dev/null", "/dev/zero"], "eremothyn check"),
     ];
     for (arguments, name) in rows {
-        let full = File::options().write(true).open("/dev/full");
-        let output = Command::new(&program)
-            .args(arguments)
-            .stdout(Stdio::from(full.expect("a full device")))
-            .stderr(Stdio::piped())
-            .spawn()
-            .and_then(|child| child.wait_with_output())
-            .expect("the command runs");
+        let output = filled(Command::new(&program).args(arguments));
         assert_eq!(output.status.code(), Some(2), "{arguments:?}");
         let text = format!("{name}: standard output: No space left on device\n");
         assert_eq!(complaint(&output), text, "{arguments:?}");

@@ -1,13 +1,11 @@
 //! `eremothyn next`: the next firings of a table, against the second program, and what it says where there are none.
 
 use c::shown::{clock, firings, job, minute_text, reading, typed};
-use c::{all, complaint, is, told, word, Subcommand};
+use c::{all, complaint, filled, is, told, word, Subcommand};
 use second::calendar::{minute_of, LAST_MINUTE};
 use second::random::Random;
 use second::schedule::samples::start;
 use second::table::{read, samples, Rules, Table};
-use std::fs::File;
-use std::process::Stdio;
 use std::time::{Duration, Instant, SystemTime, UNIX_EPOCH};
 
 fn next_in(folder: &str) -> Subcommand {
@@ -322,36 +320,14 @@ fn wrong_arguments() {
 #[test]
 fn standard_output_that_cannot_be_written() {
     let next = next_in("next-full");
-    let table = next.write("table", "* * * * * a\n");
-    for count in ["1", "100000"] {
-        let full = File::options().write(true).open("/dev/full");
-        let output = next
-            .command(&[word(&table), count])
-            .stdout(Stdio::from(full.expect("a full device")))
-            .stderr(Stdio::piped())
-            .spawn()
-            .and_then(|child| child.wait_with_output())
-            .expect("the command runs");
-        assert_eq!(output.status.code(), Some(2));
-        assert_eq!(
-            complaint(&output),
-            "eremothyn next: standard output: No space left on device\n"
-        );
-        for (redirected, text, status) in [
-            (
-                ">&-",
-                "eremothyn next: standard output: Bad file descriptor\n",
-                2,
-            ),
-            ("| head -n 1 > /dev/null", "", 0),
-        ] {
-            let script = format!(
-                "'{}' next '{}' {count} {redirected}",
-                word(&next.program),
-                word(&table)
-            );
-            let output = c::run("sh", &["-c", &script]);
-            assert_eq!(all(&output), is("", text, status), "{script}");
-        }
+    next.write("table", "* * * * * a\n");
+    let said = |why: &str| is("", &format!("eremothyn next: standard output: {why}\n"), 2);
+    for arguments in [["table", "1"], ["table", "100000"]] {
+        let full = filled(&mut next.command(&arguments));
+        assert_eq!(all(&full), said("No space left on device"));
+        let closed = next.run_before(&arguments, ">&-");
+        assert_eq!(all(&closed), said("Bad file descriptor"));
+        let cut = next.run_before(&arguments, "| head -n 1 > /dev/null");
+        assert_eq!(all(&cut), is("", "", 0));
     }
 }

@@ -1,9 +1,7 @@
 //! What isn't read, what is wrong, and what can't be written.
 
 use crate::{agenda_in, agenda_of};
-use c::{all, complaint, is, told, word};
-use std::fs::File;
-use std::process::Stdio;
+use c::{all, filled, is, told, word};
 use std::time::{Duration, Instant};
 
 const DAY: &str = "2026-11-14";
@@ -132,49 +130,23 @@ fn a_dash_is_standard_input() {
 #[test]
 fn standard_output_that_cannot_be_written() {
     let agenda = agenda_in("agenda-full");
-    let table = agenda.write("table", "0 0,6,12,18 * * * a\n".repeat(8));
-    let full = || {
-        File::options()
-            .write(true)
-            .open("/dev/full")
-            .expect("a full device")
+    agenda.write("table", "0 0,6,12,18 * * * a\n".repeat(8));
+    let said = |why: &str| {
+        is(
+            "",
+            &format!("eremothyn agenda: standard output: {why}\n"),
+            2,
+        )
     };
-    for arguments in [
-        ["agenda", word(&table), DAY, DAY],
-        ["agenda", word(&table), "1970-01-01", "9999-12-31"],
-    ] {
+    for arguments in [["table", DAY, DAY], ["table", "1970-01-01", "9999-12-31"]] {
         let start = Instant::now();
-        let output = agenda
-            .command(&arguments[1..])
-            .stdout(Stdio::from(full()))
-            .stderr(Stdio::piped())
-            .spawn()
-            .and_then(|child| child.wait_with_output())
-            .expect("the command runs");
-        assert_eq!(output.status.code(), Some(2));
-        assert_eq!(
-            complaint(&output),
-            "eremothyn agenda: standard output: No space left on device\n"
-        );
+        let full = filled(&mut agenda.command(&arguments));
+        assert_eq!(all(&full), said("No space left on device"));
+        let closed = agenda.run_before(&arguments, ">&-");
+        assert_eq!(all(&closed), said("Bad file descriptor"));
+        let cut = agenda.run_before(&arguments, "| head -n 1 > /dev/null");
+        assert_eq!(all(&cut), is("", "", 0));
         assert!(start.elapsed() < Duration::from_secs(10), "{arguments:?}");
-        for (redirected, text, status) in [
-            (
-                ">&-",
-                "eremothyn agenda: standard output: Bad file descriptor\n",
-                2,
-            ),
-            ("| head -n 1 > /dev/null", "", 0),
-        ] {
-            let script = format!(
-                "'{}' {} {redirected}",
-                word(&agenda.program),
-                arguments.join(" ")
-            );
-            let start = Instant::now();
-            let output = c::run("sh", &["-c", &script]);
-            assert_eq!(all(&output), is("", text, status), "{script}");
-            assert!(start.elapsed() < Duration::from_secs(10), "{script}");
-        }
     }
 }
 

@@ -1,12 +1,12 @@
 //! Names, standard input, the longest files, what can't be read, and a standard output that can't be written.
 
 use super::{check_in, short};
-use c::{all, complaint, is, word, Subcommand};
+use c::{all, complaint, filled, is, word};
 use second::table::TABLE_BYTES;
-use std::fs::{self, File, Permissions};
+use std::fs::{self, Permissions};
 use std::os::unix::fs::PermissionsExt;
 use std::os::unix::process::CommandExt;
-use std::process::{Command, Output, Stdio};
+use std::process::Command;
 
 /// Names are printed as they were given; behind `--` they may look like options.
 #[test]
@@ -149,16 +149,6 @@ fn what_may_not_be_read_is_said() {
     assert_eq!(all(&output), is("", &line, 2));
 }
 
-fn with_output(check: &Subcommand, arguments: &[&str], to: Stdio) -> Output {
-    check
-        .command(arguments)
-        .stdout(to)
-        .stderr(Stdio::piped())
-        .spawn()
-        .and_then(|child| child.wait_with_output())
-        .expect("the command runs")
-}
-
 /// A standard output that is full is said once, and the status tells it; where nothing has to be written, nothing fails.
 #[test]
 fn a_full_standard_output_is_an_error() {
@@ -175,8 +165,7 @@ fn a_full_standard_output_is_an_error() {
         (&["-q", "good", "/dev/null"], false),
     ];
     for (arguments, is_error) in rows {
-        let full = File::options().write(true).open("/dev/full");
-        let output = with_output(&check, arguments, full.expect("a full device").into());
+        let output = filled(&mut check.command(arguments));
         let said = "eremothyn check: standard output: No space left on device\n";
         let complaint = complaint(&output);
         assert_eq!(complaint.contains(said), is_error, "{arguments:?}");
@@ -192,18 +181,12 @@ fn a_closed_standard_output_is_an_error() {
     let check = check_in("check-closed");
     check.write("good", "@daily x\n");
     check.write("bad", "@\n".repeat(10_000));
-    let run = |arguments: &str| {
-        let script = format!("'{}' check {arguments} >&-", word(&check.program));
-        let output = Command::new("sh")
-            .current_dir(&check.folder)
-            .args(["-c", &script])
-            .output()
-            .expect("the shell runs");
-        all(&output)
-    };
     let said = "eremothyn check: standard output: Bad file descriptor\n";
-    for arguments in ["good", "bad", "--short bad good"] {
-        assert_eq!(run(arguments), is("", said, 2), "{arguments}");
+    let rows: [&[&str]; 3] = [&["good"], &["bad"], &["--short", "bad", "good"]];
+    for arguments in rows {
+        let closed = check.run_before(arguments, ">&-");
+        assert_eq!(all(&closed), is("", said, 2), "{arguments:?}");
     }
-    assert_eq!(run("-q good"), is("", "", 0));
+    let closed = check.run_before(&["-q", "good"], ">&-");
+    assert_eq!(all(&closed), is("", "", 0));
 }

@@ -1,9 +1,7 @@
 //! Files that can't be read or are refused, names, wrong arguments, and a standard output that can't be written.
 
 use super::explained;
-use c::{all, complaint, is, told, word, Subcommand};
-use std::fs::File;
-use std::process::Stdio;
+use c::{all, complaint, filled, is, told, word, Subcommand};
 
 #[test]
 fn what_cannot_be_read_or_is_refused_is_said() {
@@ -103,25 +101,15 @@ fn wrong_arguments_are_said() {
 fn a_full_or_closed_standard_output_is_an_error() {
     let explain = Subcommand::new("explain", "explain-full");
     explain.write("table", "@reboot x\n");
-    let full = File::options()
-        .write(true)
-        .open("/dev/full")
-        .expect("a full device");
-    let mut command = explain.command(&["table"]);
-    let output = command
-        .stdout(Stdio::from(full))
-        .stderr(Stdio::piped())
-        .spawn();
-    let output = output
-        .and_then(|child| child.wait_with_output())
-        .expect("it runs");
-    let line = "eremothyn explain: standard output: No space left on device\n";
-    assert_eq!(all(&output), is("", line, 2));
-    let closed = format!("{} explain table >&-", word(&explain.program));
-    let output = std::process::Command::new("sh")
-        .current_dir(&explain.folder)
-        .args(["-c", &closed])
-        .output();
-    let line = "eremothyn explain: standard output: Bad file descriptor\n";
-    assert_eq!(all(&output.expect("it runs")), is("", line, 2));
+    let said = |why: &str| {
+        is(
+            "",
+            &format!("eremothyn explain: standard output: {why}\n"),
+            2,
+        )
+    };
+    let full = filled(&mut explain.command(&["table"]));
+    assert_eq!(all(&full), said("No space left on device"));
+    let closed = explain.run_before(&["table"], ">&-");
+    assert_eq!(all(&closed), said("Bad file descriptor"));
 }

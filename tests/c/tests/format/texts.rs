@@ -1,12 +1,10 @@
 //! What is printed without options and by `-l`, and what is said of files that can't be read or are refused.
 
 use super::{all, format_in, is};
-use c::{complaint, told, word};
+use c::{complaint, filled, told, word};
 use second::random::Random;
 use second::table::normal::{normal_text, samples};
 use second::table::{read, Kind, LINE_BYTES, TABLE_BYTES};
-use std::fs::File;
-use std::process::Stdio;
 
 const TABLE: &str =
     "# office\nMAILTO = \"duty office\"\n\n@daily  rotate  logs\n0 9-17/4 * * mon-fri\tring\n";
@@ -243,14 +241,7 @@ fn a_full_standard_output_is_an_error() {
         (&["/dev/null"], false),
     ];
     for (arguments, is_error) in rows {
-        let full = File::options().write(true).open("/dev/full");
-        let output = format
-            .command(arguments)
-            .stdout(Stdio::from(full.expect("a full device")))
-            .stderr(Stdio::piped())
-            .spawn()
-            .and_then(|child| child.wait_with_output())
-            .expect("the command runs");
+        let output = filled(&mut format.command(arguments));
         let said = "eremothyn format: standard output: No space left on device\n";
         let (text, status) = if is_error { (said, 2) } else { ("", 0) };
         assert_eq!(complaint(&output), text, "{arguments:?}");

@@ -1,9 +1,7 @@
 //! What both say of wrong arguments, and of what can't be read or written.
 
-use c::{all, is, word, Subcommand};
+use c::{all, filled, is, word, Subcommand};
 use second::table::records::known::{hex, RECORDS, TABLE};
-use std::fs::File;
-use std::process::Stdio;
 
 const BOTH: [&str; 2] = ["compile", "decompile"];
 
@@ -48,14 +46,7 @@ fn a_full_standard_output_is_an_error() {
     for (name, bytes) in BOTH.into_iter().zip(files) {
         let subcommand = Subcommand::new(name, &format!("{name}-full"));
         subcommand.write("file", bytes);
-        let full = File::options().write(true).open("/dev/full");
-        let output = subcommand
-            .command(&["file"])
-            .stdout(Stdio::from(full.expect("a full device")))
-            .stderr(Stdio::piped())
-            .spawn()
-            .and_then(|child| child.wait_with_output())
-            .expect("the command runs");
+        let output = filled(&mut subcommand.command(&["file"]));
         let complaint = format!("eremothyn {name}: standard output: No space left on device\n");
         assert_eq!(all(&output), is("", &complaint, 2));
     }
