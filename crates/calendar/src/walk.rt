@@ -2,7 +2,7 @@
 // and benchmarks call this; everything else goes the direct way.
 ghost use mathlib.Core.Path.{_≡_};
 ghost use Prim.Native.Nat.{_-_, _≤_, _<_};
-ghost use Rattle.calendar.specs.Gregorian.{yearDays, monthDays};
+ghost use Rattle.calendar.specs.Gregorian.{yearDays};
 ghost use Rattle.calendar.specs.Walk.{span};
 ghost use Rattle.calendar.specs.Dates.{calendarDays, yearOf, monthOf, dateOf, minuteOf};
 use crate::DAY_MINUTES;

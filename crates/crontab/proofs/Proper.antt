@@ -73,7 +73,7 @@ Proper n (line.Refused fault) = Numbered (maxLine + 1) (fault .number) (fault .c
 
 -- a field's bytes stand in the line
 field-length : (s : List ℕ) (at : ℕ) → at ≤ length s → at + length (fieldBytes s at) ≤ length s
-unfolding fieldBytes between
+unfolding between
 field-length s at h =
     let a = skipped-within Solid s at h in
     let b = skipped-from Solid s at in

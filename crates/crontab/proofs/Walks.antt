@@ -4,9 +4,9 @@
 use mathlib.Core.Path.{_≡_, _∙_}
 use mathlib.Core.Bool.{cond}
 use mathlib.Core.List.{List}
-use Prim.Native.Nat.{ℕ, _+_, _<_}
+use Prim.Native.Nat.{ℕ, _+_, _-_, _<_}
 use native.Mathlib.Omega.{arith}
-use lib.ListN.{set}
+use lib.ListN.{length, set}
 use lib.Dec.{eqb}
 use Rattle.crontab.specs.declared.Rules.{Rules}
 use Rattle.crontab.specs.declared.Part.{Part}
@@ -28,6 +28,10 @@ use Rattle.crontab.specs.Settings.{refusedSetting, shown, settingFrom, l
 use Rattle.crontab.proofs.Tables.{good, verdictFrom, entryFrom}
 
 module _ {rules : Rules} {s : List ℕ} {c : Cursor} {r : Step} (step : StepIs rules s c r) where
+  -- each step leaves less to walk
+  pub step-less : length s + 1 - r .next .at < length s + 1 - c .at
+  step-less = omega (arith, step .onward, step .reached .place)
+
   module _ {x : Item} (is : r .item ≡ x) where
     left : itemsAt rules s c ≡ given (c .line) x (itemsAt rules s (r .next))
     left = step .gives ∙ rw is

@@ -17,7 +17,7 @@ use Rattle.crontab.specs.Tables.{noEntries, refusedTable, emptyTable, wi
 use Rattle.crontab.specs.Choices.{isChosen, dateUnder, markWords, choice, chosenBy}
 use Rattle.crontab.proofs.Tables.{good}
 use Rattle.crontab.proofs.Items.{items-start, start-reached, items-end}
-use Rattle.crontab.proofs.Walks.{count-entry, count-setting, count-nothing, entry-under, entry-room, table-here, table-setting, table-nothing, table-refused}
+use Rattle.crontab.proofs.Walks.{step-less, count-entry, count-setting, count-nothing, entry-under, entry-room, table-here, table-setting, table-nothing, table-refused}
 use Rattle.crontab.proofs.Choices.{chosen-more, chosen-refused, date-kept, date-back}
 use Rattle.crontab.proofs.Offsets.{kept-in}
 use Rattle.crontab.proofs.chosen.read.Statement.{statement}
@@ -71,11 +71,6 @@ is-chosen-requires c κs =
     let under = entry-under (c .before .before .before .before .before .before .before .advance .ensures) (c .before .before .item2 .given .1) in
     (rw under (inv .4 .zone), inv .5 ∙ ap (dateUnder _) (sym under))
 
-loop-less : tie.Need-loop-less Inv-loop μ-loop
-loop-less c =
-    let step = c .before .before .before .before .before .before .before .before .before .advance .ensures in
-    omega (arith, step .onward, step .reached .place)
-
 loop-again : tie.Need-loop-again Inv-loop μ-loop
 loop-again c =
     let inv = c .before .before .before .before .before .before .before .before .before .before .before .before .before .loop .inv in
@@ -84,11 +79,6 @@ loop-again c =
     let is = c .before .before .before .before .item2 .given .1 in
     (set (inv .0) _ _, table-here step (inv .0) is ∙ inv .1, simp length-set (inv .2), rw (count-entry step is) (c .mark-if .ensures ∙ rw (c .before .is-chosen .ensures, inv .3) (sym (chosen-more _ (inv .0) _ _ (omega (arith, entry-room step is, inv .2))))), step .reached, date-kept _ (a .result .next .offset) (step .reached .zone) (c .before .before .before .before .before .before .moved-on .ensures))
 
-loop-less-2 : tie.Need-loop-less-2 Inv-loop μ-loop
-loop-less-2 c =
-    let step = c .before .before .before .before .before .advance .ensures in
-    omega (arith, step .onward, step .reached .place)
-
 loop-again-2 : tie.Need-loop-again-2 Inv-loop μ-loop
 loop-again-2 c =
     let inv = c .before .before .before .before .before .before .before .before .before .loop .inv in
@@ -96,11 +86,6 @@ loop-again-2 c =
     let step = a .ensures in
     let is = c .enum-told .given .1 in
     (inv .0, table-setting step (inv .0) is ∙ inv .1, inv .2, rw (count-setting step is) (inv .3), step .reached, date-kept _ (a .result .next .offset) (step .reached .zone) (c .before .before .moved-on .ensures))
-
-loop-less-3 : tie.Need-loop-less-3 Inv-loop μ-loop
-loop-less-3 c =
-    let step = c .before .before .before .before .before .advance .ensures in
-    omega (arith, step .onward, step .reached .place)
 
 loop-again-3 : tie.Need-loop-again-3 Inv-loop μ-loop
 loop-again-3 c =
@@ -134,12 +119,12 @@ read-spec =
     (λ c. search needs)
     is-chosen-requires
     (λ c κs. tt)
-    loop-less
+    (λ c. step-less (c .before .before .before .before .before .before .before .before .before .advance .ensures))
     loop-again
     (λ c. search needs)
-    loop-less-2
+    (λ c. step-less (c .before .before .before .before .before .advance .ensures))
     loop-again-2
     (λ c. search needs)
-    loop-less-3
+    (λ c. step-less (c .before .before .before .before .before .advance .ensures))
     loop-again-3
     returns-3)

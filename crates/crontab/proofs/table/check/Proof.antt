@@ -3,7 +3,6 @@
 use mathlib.Core.Path.{_≡_, sym, _∙_}
 use Prim.Native.Nat.{_+_, _-_}
 use lib.ListN.{length}
-use native.Mathlib.Omega.{arith}
 use borrow.Author.Needs.{needs}
 use borrow.Author.Tests.{lt-ltb}
 use Rattle.crontab.specs.Items.{itemsOf}
@@ -11,7 +10,7 @@ use Rattle.crontab.specs.Steps.{itemsAt, Reached}
 use Rattle.crontab.specs.Tables.{tableOf, verdictOf}
 use Rattle.crontab.proofs.Tables.{verdictFrom, table-verdict}
 use Rattle.crontab.proofs.Items.{items-start, start-reached, items-end}
-use Rattle.crontab.proofs.Walks.{verdict-entry, verdict-setting, verdict-nothing, verdict-refused}
+use Rattle.crontab.proofs.Walks.{step-less, verdict-entry, verdict-setting, verdict-nothing, verdict-refused}
 use Rattle.crontab.proofs.table.check.Statement.{statement}
 use Rattle.crontab.proofs.table.check.Tie as tie
 
@@ -34,22 +33,13 @@ advance-requires c κs = (c .before .before .loop .inv .1, c .if2 .taken)
 returns-2 : tie.Need-returns-2 Inv-loop μ-loop
 returns-2 c = verdict-refused (c .before .before .before .before .advance .ensures) (c .before .item .given .1) ∙ c .before .before .before .before .before .before .before .loop .inv .0
 
-loop-less : tie.Need-loop-less Inv-loop μ-loop
-loop-less c = omega (arith, c .before .before .before .advance .ensures .onward, c .before .before .before .advance .ensures .reached .place)
-
 loop-again : tie.Need-loop-again Inv-loop μ-loop
 loop-again c = let step = c .before .before .before .advance .ensures in
     (verdict-entry step (c .enum-told .given .1) ∙ c .before .before .before .before .before .before .loop .inv .0, step .reached)
 
-loop-less-2 : tie.Need-loop-less-2 Inv-loop μ-loop
-loop-less-2 c = omega (arith, c .before .before .before .advance .ensures .onward, c .before .before .before .advance .ensures .reached .place)
-
 loop-again-2 : tie.Need-loop-again-2 Inv-loop μ-loop
 loop-again-2 c = let step = c .before .before .before .advance .ensures in
     (verdict-setting step (c .enum-told2 .given .1) ∙ c .before .before .before .before .before .before .loop .inv .0, step .reached)
-
-loop-less-3 : tie.Need-loop-less-3 Inv-loop μ-loop
-loop-less-3 c = omega (arith, c .before .before .before .advance .ensures .onward, c .before .before .before .advance .ensures .reached .place)
 
 loop-again-3 : tie.Need-loop-again-3 Inv-loop μ-loop
 loop-again-3 c = let step = c .before .before .before .advance .ensures in
@@ -71,12 +61,12 @@ check-spec =
     (λ c. search needs)
     returns-2
     (λ c. search needs)
-    loop-less
+    (λ c. step-less (c .before .before .before .advance .ensures))
     loop-again
     (λ c. search needs)
-    loop-less-2
+    (λ c. step-less (c .before .before .before .advance .ensures))
     loop-again-2
     (λ c. search needs)
-    loop-less-3
+    (λ c. step-less (c .before .before .before .advance .ensures))
     loop-again-3
     returns-3)

@@ -1,6 +1,6 @@
 -- `crontab::table::read` meets its contract: what is left of the items, with the table so far, always gives the same.
 -- Assumes nothing.
-use Rattle.crontab.proofs.Walks.{entry-room, table-here, table-setting, table-nothing, table-refused}
+use Rattle.crontab.proofs.Walks.{step-less, entry-room, table-here, table-setting, table-nothing, table-refused}
 use mathlib.Core.Path.{_≡_, refl, _∙_}
 use Prim.Native.Nat.{_+_, _-_}
 use lib.ListN.{length, length-set}
@@ -13,9 +13,6 @@ use Rattle.crontab.specs.Steps.{itemsAt, Reached}
 use Rattle.crontab.specs.Tables.{noEntries, refusedTable, emptyTable, withItems, tableOf}
 use Rattle.crontab.proofs.Tables.{good}
 use Rattle.crontab.proofs.Items.{items-start, start-reached, items-end}
-use mathlib.Core.Path.{_≡_, _∙_}
-use lib.ListN.{length}
-use Rattle.crontab.specs.Tables.{withItems, tableOf}
 use Rattle.crontab.proofs.table.read.Statement.{statement}
 use Rattle.crontab.proofs.table.read.Tie as tie
 
@@ -45,22 +42,13 @@ mul-entries c = omega (arith, entry-room (c .before .before .before .before .adv
 array-set-from-entries : tie.Need-array-set-from-entries Inv-loop μ-loop
 array-set-from-entries c = omega (arith, entry-room (c .before .before .before .before .advance .ensures) (c .before .item2 .given .1), c .before .before .before .before .before .before .before .loop .inv .2)
 
-loop-less : tie.Need-loop-less Inv-loop μ-loop
-loop-less c = omega (arith, c .before .before .before .before .advance .ensures .onward, c .before .before .before .before .advance .ensures .reached .place)
-
 loop-again : tie.Need-loop-again Inv-loop μ-loop
 loop-again c = let step = c .before .before .before .before .advance .ensures in
     (table-here step _ (c .before .item2 .given .1) ∙ c .before .before .before .before .before .before .before .loop .inv .0, step .reached, simp length-set (c .before .before .before .before .before .before .before .loop .inv .2))
 
-loop-less-2 : tie.Need-loop-less-2 Inv-loop μ-loop
-loop-less-2 c = omega (arith, c .before .before .before .advance .ensures .onward, c .before .before .before .advance .ensures .reached .place)
-
 loop-again-2 : tie.Need-loop-again-2 Inv-loop μ-loop
 loop-again-2 c = let step = c .before .before .before .advance .ensures in
     (table-setting step _ (c .enum-told .given .1) ∙ c .before .before .before .before .before .before .loop .inv .0, step .reached, c .before .before .before .before .before .before .loop .inv .2)
-
-loop-less-3 : tie.Need-loop-less-3 Inv-loop μ-loop
-loop-less-3 c = omega (arith, c .before .before .before .advance .ensures .onward, c .before .before .before .advance .ensures .reached .place)
 
 loop-again-3 : tie.Need-loop-again-3 Inv-loop μ-loop
 loop-again-3 c = let step = c .before .before .before .advance .ensures in
@@ -86,12 +74,12 @@ read-spec =
     (λ c. search needs)
     mul-entries
     array-set-from-entries
-    loop-less
+    (λ c. step-less (c .before .before .before .before .advance .ensures))
     loop-again
     (λ c. search needs)
-    loop-less-2
+    (λ c. step-less (c .before .before .before .advance .ensures))
     loop-again-2
     (λ c. search needs)
-    loop-less-3
+    (λ c. step-less (c .before .before .before .advance .ensures))
     loop-again-3
     returns-3)

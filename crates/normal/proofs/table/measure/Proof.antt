@@ -12,6 +12,7 @@ use Rattle.crontab.specs.Steps.{itemsAt}
 use Rattle.crontab.proofs.Items.{items-start, items-end}
 use Rattle.normal.specs.Meanings.{ofUser}
 use Rattle.normal.specs.Steps.{measured}
+use Rattle.crontab.proofs.Walks.{step-less}
 use Rattle.normal.proofs.Walks.{last-variant, not-refused, Going, going-starts, going-within, going-next, answered, measureFrom}
 use Rattle.normal.proofs.Walks.{measure-whole, measure-next, measure-refused}
 use Rattle.normal.proofs.table.measure.Statement.{statement}
@@ -47,9 +48,6 @@ text-length-requires c κs =
 add-size : tie.Need-add-size Inv-loop μ-loop
 add-size c = let inv = c .before .before .before .before .before .before .loop .inv in omega (arith, inv .1 .reached .short, inv .2, c .text-length .ensures .1)
 
-loop-less : tie.Need-loop-less Inv-loop μ-loop
-loop-less c = let step = c .before .before .before .advance .ensures in omega (arith, step .onward, step .reached .place)
-
 loop-again : tie.Need-loop-again Inv-loop μ-loop
 loop-again c =
     let at = c .before .before .before .before .before .before .loop in
@@ -82,7 +80,7 @@ measure-spec =
     text-length-requires
     add-size
     (λ c. omega arith)
-    loop-less
+    (λ c. step-less (c .before .before .before .advance .ensures))
     loop-again
     returns-3
     returns-4)

@@ -2,11 +2,11 @@
 -- Assumes nothing.
 use mathlib.Core.Path.{_≡_, refl}
 use Prim.Native.Nat.{_+_, _-_, _≤_}
-use native.Mathlib.Omega.{arith}
 use borrow.Author.Needs.{needs}
 use lib.ListN.{length}
 use Rattle.normal.specs.Meanings.{meaningOf}
 use Rattle.normal.specs.Texts.{normalText}
+use Rattle.crontab.proofs.Walks.{step-less}
 use Rattle.normal.proofs.Walks.{text-parts, Lined, lined-starts, lined-room, lined-next, lined-ends}
 use Rattle.normal.proofs.table.write.Statement.{statement}
 use Rattle.normal.proofs.table.write.Tie as tie
@@ -29,9 +29,6 @@ write-requires c κs =
     let inv = c .before .before .before .before .before .loop .inv in
     lined-room (text-parts _) (inv .0) (c .before .before .advance .ensures) (inv .2)
 
-loop-less : tie.Need-loop-less Inv-loop μ-loop
-loop-less c = let step = c .before .before .before .before .before .advance .ensures in omega (arith, step .onward, step .reached .place)
-
 loop-again : tie.Need-loop-again Inv-loop μ-loop
 loop-again c =
     let inv = c .before .before .before .before .before .before .before .before .loop .inv in
@@ -50,7 +47,7 @@ write-spec =
     loop-holds
     advance-requires
     write-requires
-    loop-less
+    (λ c. step-less (c .before .before .before .before .before .advance .ensures))
     loop-again
     (λ c. search needs)
     returns)

@@ -12,6 +12,7 @@ use Rattle.crontab.specs.Steps.{itemsAt}
 use Rattle.crontab.proofs.Items.{items-start, items-end}
 use Rattle.normal.specs.Meanings.{ofUser, meanings, meaningOf}
 use Rattle.normal.specs.Steps.{measured}
+use Rattle.crontab.proofs.Walks.{step-less}
 use Rattle.normal.proofs.Walks.{last-variant, not-refused, Going, going-starts, going-within, going-next, answered, measureFrom}
 use Rattle.normal.proofs.Walks.{measure-whole, measure-next, measure-refused, size-starts, size-next, size-ends}
 use Rattle.records.specs.Formats.{recordsOf}
@@ -68,9 +69,6 @@ record-length-requires c κs =
 add-size : tie.Need-add-size Inv-loop μ-loop
 add-size c = let inv = c .before .before .before .before .before .before .before .loop .inv in omega (arith, inv .1 .reached .short, inv .4, c .record-length .ensures .1)
 
-loop-less : tie.Need-loop-less Inv-loop μ-loop
-loop-less c = let step = c .before .before .before .before .advance .ensures in omega (arith, step .onward, step .reached .place)
-
 loop-again : tie.Need-loop-again Inv-loop μ-loop
 loop-again c =
     let at = c .before .before .before .before .before .before .before .loop in
@@ -110,7 +108,7 @@ measure-spec =
     (λ c. omega arith)
     record-length-requires
     add-size
-    loop-less
+    (λ c. step-less (c .before .before .before .before .advance .ensures))
     loop-again
     returns-3
     returns-4)

@@ -2,10 +2,10 @@
 -- Assumes nothing.
 use mathlib.Core.Path.{_≡_, refl}
 use Prim.Native.Nat.{_+_, _-_, _≤_}
-use native.Mathlib.Omega.{arith}
 use borrow.Author.Needs.{needs}
 use lib.ListN.{length}
 use Rattle.normal.specs.Meanings.{meaningOf}
+use Rattle.crontab.proofs.Walks.{step-less}
 use Rattle.normal.proofs.Walks.{Lined, lined-starts, lined-room, lined-next, lined-ends}
 use Rattle.records.specs.Formats.{recordsOf}
 use Rattle.records.proofs.Compiling.{record-parts}
@@ -28,9 +28,6 @@ advance-requires c κs = (c .before .before .loop .inv .0 .going .reached, c .if
 write-record-requires : tie.Need-write-record-requires Inv-loop μ-loop
 write-record-requires c κs = let inv = c .before .before .before .before .before .loop .inv in lined-room (record-parts _) (inv .0) (c .before .before .advance .ensures) (inv .2)
 
-loop-less : tie.Need-loop-less Inv-loop μ-loop
-loop-less c = let step = c .before .before .before .before .before .advance .ensures in omega (arith, step .onward, step .reached .place)
-
 loop-again : tie.Need-loop-again Inv-loop μ-loop
 loop-again c =
     let inv = c .before .before .before .before .before .before .before .before .loop .inv in
@@ -49,7 +46,7 @@ write-spec =
     loop-holds
     advance-requires
     write-record-requires
-    loop-less
+    (λ c. step-less (c .before .before .before .before .before .advance .ensures))
     loop-again
     (λ c. search needs)
     returns)
