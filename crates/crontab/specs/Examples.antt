@@ -37,7 +37,7 @@ use Rattle.schedule.specs.Next.{canFire}
 use Rattle.schedule.specs.Local.{firingFromIn, firingAfterIn, nextAfterIn}
 use Rattle.crontab.specs.declared.firing.NextAnswer.{NextAnswer}
 use Rattle.crontab.specs.declared.firing.NextAnswer.the-variants as next
-use Rattle.crontab.specs.Firings.{dueIn, told, nextOf, nextAnswer, nextIn}
+use Rattle.crontab.specs.Firings.{isFixed, dueIn, told, nextOf, nextAnswer, nextIn}
 use Rattle.crontab.specs.Computing.{reading, zoning}
 
 -- ---- lines of a user's table
@@ -240,6 +240,8 @@ system-lines-read : Hold (readLine ofSystem)
     ∷ (text "@reboot :b x", refused 20 9)
     ∷ (text "@reboot a: x", refused 20 9)
     ∷ (text "@reboot a:/c x", refused 20 9)
+    ∷ (text "@reboot a/ x", refused 20 9)
+    ∷ (text "@reboot a:b/ x", refused 20 9)
     ∷ (text "@reboot a:-b x", refused 20 9)
     ∷ (text "@reboot a/-c x", refused 20 9)
     ∷ (text "@reboot a$ x", refused 20 9)
@@ -247,6 +249,8 @@ system-lines-read : Hold (readLine ofSystem)
     ∷ (text "@reboot " ++ replicate maxAccount 97 ++ text " x", Entry Reboot 41)
     ∷ (text "@reboot " ++ replicate (maxAccount + 1) 97 ++ text " x", refused 20 9)
     ∷ (text "@reboot a:" ++ replicate (maxAccount + 1) 97 ++ text " x", refused 20 9)
+    ∷ (text "@reboot a:" ++ replicate maxAccount 97 ++ text "/" ++ replicate maxAccount 98 ++ text " x", Entry Reboot 76)
+    ∷ (text "@reboot a/" ++ replicate (maxAccount + 1) 97 ++ text " x", refused 20 9)
     -- settings and comments as in a user's
     ∷ (text "A=b", setting 0 1 2 3)
     ∷ (text "CRON_TZ=-01:30", zone 0 7 8 14 (negsuc 89))
@@ -291,6 +295,7 @@ tables-read : Hold fault
     ∷ (text "A=b\n#\n" ++ times maxEntries (text "@reboot x\n"), 0 ∷ 0 ∷ 0 ∷ 512 ∷ [])
     ∷ (times (maxEntries + 1) (text "@reboot x\n") ++ text "A\n", 12 ∷ 513 ∷ 1 ∷ 0 ∷ [])
     ∷ (times maxEntries (text "@reboot x\n") ++ text "60\n", 6 ∷ 513 ∷ 1 ∷ 0 ∷ [])
+    ∷ (times maxEntries (text "@reboot x\n") ++ text "  @reboot x\n", 12 ∷ 513 ∷ 1 ∷ 0 ∷ [])
     -- the last entry that there may be, and one more, without a newline
     ∷ (times 511 (text "@reboot x\n") ++ text "@reboot x", 26 ∷ 512 ∷ 10 ∷ 0 ∷ [])
     ∷ (times maxEntries (text "@reboot x\n") ++ text "@reboot x", 12 ∷ 513 ∷ 1 ∷ 0 ∷ [])
@@ -331,6 +336,24 @@ under-offset : Hold (λ i. underOf (entryIn (tableOf ofUser zones) i))
     ((0, pos 0) ∷ (1, negsuc 209) ∷ (2, negsuc 209) ∷ (3, pos 345) ∷ (4, pos 345) ∷ (5, pos 0) ∷ (6, pos 13) ∷ [])
 unfolding reading
 under-offset = refl
+
+-- ticket 2026-10: whether an entry is fixed, by how its minute and its hour begin, and not by their values
+abbrev fixedIn : EntryAnswer → Bool
+fixedIn (answer.Found e) = isFixed e
+fixedIn (answer.Refused number) = false
+
+fixed : Hold (λ (s : List ℕ). fixedIn (entryIn (tableOf ofUser s) 0))
+    ((text "30 4 * * * x\n", true)
+    ∷ (text "*/30 4 * * * x\n", false)
+    ∷ (text "30 */4 * * * x\n", false)
+    ∷ (text "0-59 4 * * * x\n", true)
+    ∷ (text "30 0-23 * * * x\n", true)
+    ∷ (text "@hourly x\n", false)
+    ∷ (text "@daily x\n", true)
+    ∷ (text "@reboot x\n", false)
+    ∷ [])
+unfolding reading isFixed
+fixed = refl
 
 abbrev named : ℕ → ℕ × List ℕ × List ℕ
 named n = let a = settingIn (itemsOf ofUser three) n in (a .refusal, partBytes three (a .name), partBytes three (a .value))

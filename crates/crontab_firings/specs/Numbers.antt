@@ -38,6 +38,7 @@ arguments : Hold numberOf
     ∷ (text "+1", Bad)
     ∷ (text "1 ", Bad)
     ∷ (text "1:", Bad)
+    ∷ (text "1/", Bad)
     ∷ [])
 unfolding goesOn valueFrom numberOf
 arguments = refl

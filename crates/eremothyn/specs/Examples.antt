@@ -3,16 +3,18 @@
 -- Assumes nothing.
 use mathlib.Core.Path.{_≡_, refl}
 use mathlib.Core.List.{List, [], _∷_, _++_}
-use Prim.Native.Nat.{ℕ, _+_, _-_}
+use Prim.Native.Nat.{ℕ, zero, suc, _+_, _-_}
 use lib.ListN.{replicate}
 use Rattle.bytes.specs.Texts.{text}
 use Rattle.bytes.specs.Rows.{Hold}
 use Rattle.crontab.specs.Limits.{maxTable}
 use Rattle.records.specs.Calls.{recordFault}
 use Rattle.reload.specs.Computing.{reloading}
+use Rattle.firings.specs.declared.Filled.the-variants.{All, More}
 use Rattle.eremothyn.specs.declared.dates.DatePart.the-variants.{Year, Month, Day, Hour, Minute, Weekday}
 use Rattle.eremothyn.specs.Dates.{datePart, dateMinute, dateAnswer, dateRun}
 use Rattle.eremothyn.specs.Calls.{checkCall, faultLineCall, faultColumnCall, dueCall, nextCall, entryLineCall, commandOffsetCall, commandLengthCall, firingsCall, firingsRun, mergedFiringsCall, mergedFiringsMinutes, mergedFiringsEntries, splitCommandCall, splitCommandShell, splitCommandInput, stdinLengthCall, userOffsetCall, userLengthCall, groupOffsetCall, groupLengthCall, classOffsetCall, classLengthCall, settingNameOffsetCall, settingNameLengthCall, settingValueOffsetCall, settingValueLengthCall, nextSettingCall, normalFormCall, normalFormText, compileCall, compileRecords, decompileCall, decompileText, queueInitCall, queueInitRoom, queueTickCall, queueTickRoom, queuePopCall, queuePopRoom, queueEntryCall, queueReloadCall, queueReloadRoom}
+use Rattle.eremothyn.specs.Lists.{filledNumber}
 use Rattle.eremothyn.specs.Computing.{answering}
 
 -- ---- dates
@@ -183,6 +185,9 @@ heed : Hold heeded
     (((0, 1), 1 ∷ 0 ∷ 0 ∷ 1 ∷ 4294967309 ∷ 1 ∷ 1 ∷ 1 ∷ 13 ∷ 1 ∷ 1 ∷ 4294967296 ∷ replicate 6 0 ++ replicate 5 4294967315 ++ 0 ∷ replicate 4 4294967324)
     ∷ ((1, 1), 4294967305 ∷ 1 ∷ 15 ∷ replicate 25 4294967305)
     ∷ ((1, 0), 4294967303 ∷ 1 ∷ 3 ∷ replicate 25 4294967303)
+    -- numbers whose low 32 bits are 0 are another kind and dialect, too
+    ∷ ((0, 4294967296), 1 ∷ 0 ∷ 0 ∷ 1 ∷ 4294967309 ∷ 1 ∷ 1 ∷ 1 ∷ 13 ∷ 1 ∷ 1 ∷ 4294967296 ∷ replicate 6 0 ++ replicate 5 4294967315 ++ 0 ∷ replicate 4 4294967324)
+    ∷ ((4294967296, 4294967296), 4294967305 ∷ 1 ∷ 15 ∷ replicate 25 4294967305)
     ∷ [])
 unfolding answering reloading
 heed = refl
@@ -194,6 +199,182 @@ heed-lent : Hold lent
     ∷ [])
 unfolding answering
 heed-lent = refl
+
+-- an input, the normal text, the records; and rooms, which hold a fresh line, one in which nobody waits, and one in which the entry does
+abbrev giving : List ℕ
+giving = text "0 22-3 * * * x%y\n"
+
+abbrev lineWith : List ℕ → List ℕ
+lineWith waiting = 69 ∷ 82 ∷ 81 ∷ 49 ∷ 0 ∷ 0 ∷ 0 ∷ 0 ∷ waiting
+
+abbrev lentMore : ℕ × ℕ → List (List ℕ)
+lentMore (k, d) =
+    splitCommandInput giving k d 0 (7 ∷ []) (7 ∷ [])
+    ∷ queueInitRoom heeding k d (replicate 13 7)
+    ∷ queueTickRoom heeding k d (lineWith (0 ∷ 0 ∷ 7 ∷ 7 ∷ [])) 1320
+    ∷ queuePopRoom heeding k d (lineWith (1 ∷ 0 ∷ 0 ∷ 0 ∷ []))
+    ∷ queueReloadRoom heeding giving k d (lineWith (1 ∷ 0 ∷ 0 ∷ 0 ∷ []))
+    ∷ []
+
+-- the mark of minute 1320 is 1321; bytes behind a line stay
+heed-more : Hold lentMore
+    ((
+      (0, 1),
+      text "y"
+          ∷ (lineWith (0 ∷ 0 ∷ 7 ∷ 7 ∷ 7 ∷ []))
+          ∷ (69 ∷ 82 ∷ 81 ∷ 49 ∷ 41 ∷ 5 ∷ 0 ∷ 0 ∷ 1 ∷ 0 ∷ 0 ∷ 0 ∷ [])
+          ∷ (lineWith (0 ∷ 0 ∷ 0 ∷ 0 ∷ []))
+          ∷ (lineWith (0 ∷ 0 ∷ 0 ∷ 0 ∷ []))
+          ∷ [],
+    )
+    ∷ (
+      (1, 1),
+      (7 ∷ []) ∷ replicate 13 7 ∷ lineWith (0 ∷ 0 ∷ 7 ∷ 7 ∷ []) ∷ lineWith (1 ∷ 0 ∷ 0 ∷ 0 ∷ []) ∷ lineWith (1 ∷ 0 ∷ 0 ∷ 0 ∷ []) ∷ [],
+    )
+    ∷ (
+      (1, 0),
+      (7 ∷ []) ∷ replicate 13 7 ∷ lineWith (0 ∷ 0 ∷ 7 ∷ 7 ∷ []) ∷ lineWith (1 ∷ 0 ∷ 0 ∷ 0 ∷ []) ∷ lineWith (1 ∷ 0 ∷ 0 ∷ 0 ∷ []) ∷ [],
+    )
+    ∷ [])
+unfolding answering reloading
+heed-more = refl
+
+-- the normal text and the records of the same table by the dialect, with a byte behind them: 7 in the first
+abbrev writtenIn : ℕ → (ℕ × List ℕ) × (ℕ × List ℕ)
+writtenIn d = (
+  (normalFormCall heeding d (replicate 25 45), normalFormText heeding d (replicate 25 45)),
+  (compileCall heeding d (replicate 26 45), compileRecords heeding d (replicate 26 45)),
+)
+
+abbrev inSecond : (ℕ × List ℕ) × (ℕ × List ℕ)
+inSecond = (
+  (24, text "0 0,1,2,3,22,23 * * * x\n-"),
+  (
+    25,
+    23 ∷ 0 ∷ 1 ∷ 0 ∷ 1 ∷ 0 ∷ 0 ∷ 0 ∷ 0 ∷ 0 ∷ 0 ∷ 0 ∷ 15 ∷ 0 ∷ 192 ∷ 0 ∷ 254 ∷ 255 ∷ 255 ∷ 255 ∷ 254 ∷ 31 ∷ 127 ∷ 28 ∷ text "x-",
+  ),
+)
+
+heed-written : Hold writtenIn
+    ((0, ((4294967303, replicate 25 45), (4294967303, replicate 26 45)))
+    ∷ (1, inSecond)
+    ∷ (4294967296, inSecond)
+    ∷ [])
+unfolding answering
+heed-written = refl
+
+-- ---- numbers are heeded whole: one whose low 8, 16 or 32 bits are those of an entry, a minute, a line or a place is none
+
+abbrev few : List ℕ
+few = text "A=b\n0 * * * * x%y\n"
+
+abbrev fewRoom : List ℕ
+fewRoom = lineWith (1 ∷ 0 ∷ 0 ∷ 0 ∷ [])
+
+-- no such entry: 13
+abbrev byEntry : ℕ → List ℕ
+byEntry i =
+    dueCall few 0 0 i 60 ∷ nextCall few 0 0 i 60 ∷ entryLineCall few 0 0 i ∷ commandOffsetCall few 0 0 i ∷ commandLengthCall few 0 0 i
+    ∷ firingsCall few 0 0 i 0 60 (7 ∷ []) ∷ splitCommandCall few 0 0 i (7 ∷ []) (7 ∷ []) ∷ stdinLengthCall few 0 0 i
+    ∷ userOffsetCall few 0 0 i ∷ userLengthCall few 0 0 i ∷ groupOffsetCall few 0 0 i ∷ groupLengthCall few 0 0 i
+    ∷ classOffsetCall few 0 0 i ∷ classLengthCall few 0 0 i ∷ []
+
+wide-entries : byEntry 4294967296 ≡ replicate 14 4294967309
+unfolding answering
+wide-entries = refl
+
+-- a minute that isn't on the calendar: 14
+abbrev byMinute : ℕ → List ℕ
+byMinute m =
+    dueCall few 0 0 0 m ∷ nextCall few 0 0 0 m ∷ queueTickCall few 0 0 fewRoom m
+    ∷ firingsCall few 0 0 0 m 120 (7 ∷ []) ∷ firingsCall few 0 0 0 0 m (7 ∷ [])
+    ∷ mergedFiringsCall few 0 0 m 120 (7 ∷ []) (7 ∷ []) ∷ mergedFiringsCall few 0 0 0 m (7 ∷ []) (7 ∷ []) ∷ []
+
+wide-minutes : byMinute 4294967356 ≡ replicate 7 4294967310
+unfolding answering
+wide-minutes = refl
+
+-- no such line: 19; nobody stands at such a place
+abbrev byLine : ℕ → List ℕ
+byLine n =
+    settingNameOffsetCall few 0 0 n ∷ settingNameLengthCall few 0 0 n ∷ settingValueOffsetCall few 0 0 n ∷ settingValueLengthCall few 0 0 n
+    ∷ nextSettingCall few 0 0 n ∷ []
+
+wide-lines : (byLine 4294967297 ≡ replicate 5 4294967315) × (queueEntryCall few 0 0 fewRoom 4294967296 ≡ 4294967296)
+unfolding answering
+wide-lines = (refl, refl)
+
+-- and no lent number or byte changes
+wide-lent :
+    (firingsRun few 0 0 4294967296 0 60 (7 ∷ []) ∷ firingsRun few 0 0 0 4294967296 60 (7 ∷ []) ∷ firingsRun few 0 0 0 0 4294967356 (7 ∷ [])
+    ∷ mergedFiringsMinutes few 0 0 4294967296 60 (7 ∷ []) (7 ∷ []) ∷ mergedFiringsEntries few 0 0 4294967296 60 (7 ∷ []) (7 ∷ [])
+    ∷ mergedFiringsMinutes few 0 0 0 4294967356 (7 ∷ []) (7 ∷ []) ∷ mergedFiringsEntries few 0 0 0 4294967356 (7 ∷ []) (7 ∷ [])
+    ∷ splitCommandShell few 0 0 4294967296 (7 ∷ []) (7 ∷ []) ∷ splitCommandInput few 0 0 4294967296 (7 ∷ []) (7 ∷ [])
+    ∷ [])
+    ≡ replicate 9 (7 ∷ [])
+unfolding answering
+wide-lent = refl
+
+wide-room : queueTickRoom few 0 0 (lineWith (0 ∷ 0 ∷ 7 ∷ 7 ∷ [])) 4294967356 ≡ lineWith (0 ∷ 0 ∷ 7 ∷ 7 ∷ [])
+unfolding answering
+wide-room = refl
+
+-- ---- and told whole: answers above 255
+
+abbrev newlines : List ℕ
+newlines = replicate 300 10
+
+-- lines and columns of faults and entries, and where settings and owners stand
+great-places :
+    (checked (newlines ++ text "60\n") ≡ 4294967302 ∷ 301 ∷ 1 ∷ [])
+    × (checked (replicate 300 32 ++ text "60\n") ≡ 4294967302 ∷ 1 ∷ 301 ∷ [])
+    × (entryLineCall (newlines ++ text "@reboot x\n") 0 0 0 ≡ 301)
+    × (nextSettingCall (newlines ++ text "A=b\n") 0 0 1 ≡ 301)
+unfolding answering
+great-places = (refl, refl, refl, refl)
+
+great-settings :
+    (let s = newlines ++ replicate 300 65 ++ text "=" ++ replicate 301 98 ++ text "\n" in
+    settingNameOffsetCall s 0 0 301 ∷ settingNameLengthCall s 0 0 301 ∷ settingValueOffsetCall s 0 0 301 ∷ settingValueLengthCall s 0 0 301 ∷ [])
+    ≡ 300 ∷ 300 ∷ 601 ∷ 301 ∷ []
+unfolding answering
+great-settings = refl
+
+great-owners :
+    (let s = newlines ++ text "@reboot u:g/c x\n" in userOffsetCall s 1 0 0 ∷ groupOffsetCall s 1 0 0 ∷ classOffsetCall s 1 0 0 ∷ []) ≡ 308 ∷ 310 ∷ 312 ∷ []
+unfolding answering
+great-owners = refl
+
+-- lengths of what is written
+great-lengths :
+    (let s = text "@reboot " ++ replicate 300 97 ++ text "%" ++ replicate 301 98 ++ text "\n" in
+    splitCommandCall s 0 0 0 (replicate 300 0) (replicate 301 0) ∷ stdinLengthCall s 0 0 0
+    ∷ normalFormCall s 0 (replicate 700 0) ∷ compileCall s 0 (replicate 700 0) ∷ [])
+    ≡ 300 ∷ 301 ∷ 611 ∷ 606 ∷ []
+unfolding answering
+great-lengths = refl
+
+-- counts, an entry number, and counts of firings
+boots : ℕ → List ℕ
+boots zero = []
+boots (suc n) = text "@reboot x\n" ++ boots n
+
+great-counts :
+    (let s = boots 300 in
+    checkCall s 0 0 ∷ queueInitCall s 0 0 (replicate 610 0)
+    ∷ queuePopCall s 0 0 (lineWith (1 ∷ 0 ∷ 43 ∷ 1 ∷ replicate 598 0)) ∷ queueEntryCall s 0 0 (lineWith (1 ∷ 0 ∷ 43 ∷ 1 ∷ replicate 598 0)) 0 ∷ [])
+    ≡ 300 ∷ 300 ∷ 299 ∷ 299 ∷ []
+unfolding boots answering
+great-counts = refl
+
+great-lists : Hold filledNumber
+    ((All 65536, 65536)
+    ∷ (All 4294967295, 4294967295)
+    ∷ (More 65536, 8590000128)
+    ∷ (More 4294967295, 12884901887)
+    ∷ [])
+unfolding filledNumber
+great-lists = refl
 
 -- ---- entries: one at boot, and one at the hour
 
@@ -516,6 +697,19 @@ reloads : Hold kept
     ∷ ((0, text "@reboot a\n", text "CRON_TZ=+01:00\n@reboot a\n", 12), 0)
     ∷ ((0, text "0 0 * * * a\n", text "0 0 1-31 * * a\n", 12), 0)
     ∷ ((0, text "@daily a\n", text "A=b\n 0\t0 * * * a\n", 12), 1)
+    -- each of the five sets and of the five stars, and `@reboot`
+    ∷ ((0, text "0 0 1 1 4 a\n", text "0 0 1 1 4 a\n", 12), 1)
+    ∷ ((0, text "0 0 1 1 4 a\n", text "1 0 1 1 4 a\n", 12), 0)
+    ∷ ((0, text "0 0 1 1 4 a\n", text "0 1 1 1 4 a\n", 12), 0)
+    ∷ ((0, text "0 0 1 1 4 a\n", text "0 0 2 1 4 a\n", 12), 0)
+    ∷ ((0, text "0 0 1 1 4 a\n", text "0 0 1 2 4 a\n", 12), 0)
+    ∷ ((0, text "0 0 1 1 4 a\n", text "0 0 1 1 5 a\n", 12), 0)
+    ∷ ((0, text "0 0 * * * a\n", text "*/60 0 * * * a\n", 12), 0)
+    ∷ ((0, text "0 0 * * * a\n", text "0 */24 * * * a\n", 12), 0)
+    ∷ ((0, text "0 0 * * * a\n", text "0 0 * 1-12 * a\n", 12), 0)
+    ∷ ((0, text "0 0 * * * a\n", text "0 0 * * 0-6 a\n", 12), 0)
+    ∷ ((0, text "@daily a\n", text "@reboot a\n", 12), 0)
+    ∷ ((0, text "@reboot a\n", text "@daily a\n", 12), 0)
     -- one of two that mean the same is left, and room for all of the new table
     ∷ ((0, text "@reboot a\n@reboot a\n", text "@reboot a\n", 14), 1)
     ∷ ((0, text "@reboot a\n", text "@reboot a\n@reboot b\n", 12), 4294967324)
@@ -565,6 +759,13 @@ jumps = refl
 jumps-once : run (text "0,30 4 * * * a\n") (replicate 12 0) (init ∷ tick 200 ∷ tick 300 ∷ pop ∷ pop ∷ []) ≡ 0 ∷ 0 ∷ 1 ∷ 0 ∷ 4294967296 ∷ []
 unfolding run answering
 jumps-once = refl
+
+-- the first begins with a star and isn't fixed; the second is, though it has every minute: 03:20 and 05:00
+jumps-star :
+    run (text "*/30 4 * * * a\n0-59 4 * * * b\n") (replicate 14 0) (init ∷ tick 200 ∷ tick 300 ∷ pop ∷ pop ∷ [])
+    ≡ 0 ∷ 0 ∷ 1 ∷ 1 ∷ 4294967296 ∷ []
+unfolding run answering
+jumps-star = refl
 
 -- file order, the one that is caught up too: 03:20 and 05:00
 jumps-order :

@@ -44,6 +44,9 @@ examples : Hold read
     -- four digits are a number, five are none
     ∷ ((hourLimits, text "0000"), of (0 ∷ []))
     ∷ ((hourLimits, text "00000"), Refused 5 1)
+    -- nor is a step of five, behind a star or a range
+    ∷ ((hourLimits, text "*/00002"), Refused 5 1)
+    ∷ ((hourLimits, text "0-23/00002"), Refused 5 1)
     -- the second element is refused at its own first byte, and only where the whole field is of the form
     ∷ ((minuteLimits, text "1,70"), Refused 6 3)
     ∷ ((minuteLimits, text "1,70,"), Refused 5 1)
@@ -59,6 +62,10 @@ examples : Hold read
     ∷ ((dayLimits, text "32"), Refused 6 1)
     ∷ ((monthLimits, text "13"), Refused 6 1)
     ∷ ((weekdayLimits, text "8"), Refused 6 1)
+    -- one whose low 8 bits are within
+    ∷ ((minuteLimits, text "256"), Refused 6 1)
+    ∷ ((minuteLimits, text "0-257"), Refused 6 1)
+    ∷ ((minuteLimits, text "256-1"), Refused 6 1)
     ∷ ((minuteLimits, text "10-20/5"), of (10 ∷ 15 ∷ 20 ∷ []))
     -- in an element 6 comes before 7, and 7 before 8; the first bad element decides
     ∷ ((minuteLimits, text "61-60/0"), Refused 6 1)
@@ -80,6 +87,7 @@ names : Hold read
     ∷ ((monthLimits, text "fEb,DeC"), of (2 ∷ 12 ∷ []))
     ∷ ((weekdayLimits, text "TUE,WED,THU"), of (2 ∷ 3 ∷ 4 ∷ []))
     ∷ ((monthLimits, text "MAY,NOV"), of (5 ∷ 11 ∷ []))
+    ∷ ((monthLimits, text "FEB,APR,JUL,AUG"), of (2 ∷ 4 ∷ 7 ∷ 8 ∷ []))
     -- from high to low, also in the second element
     ∷ ((weekdayLimits, text "fri-mon"), Refused 7 1)
     ∷ ((weekdayLimits, text "mon,sat-tue"), Refused 7 5)
@@ -201,6 +209,9 @@ wrapped : Hold both
     ∷ ((hourLimits, text "24-3/0"), (Refused 6 1, Refused 6 1))
     ∷ ((hourLimits, text "22-3/0"), (Refused 7 1, Refused 8 1))
     ∷ ((hourLimits, text "1,22-3,9/2"), (Refused 5 1, Refused 5 1))
+    -- a star stands in front alone
+    ∷ ((hourLimits, text "5,*"), (Refused 5 1, Refused 5 1))
+    ∷ ((hourLimits, text "5,*/2"), (Refused 5 1, Refused 5 1))
     ∷ [])
 unfolding reading
 wrapped = refl

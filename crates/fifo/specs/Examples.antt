@@ -20,7 +20,7 @@ use Rattle.fifo.specs.WaitingLine.{standsIn, entriesOf, pick}
 use Rattle.fifo.specs.Queue.{numbers, bytes, counted, queueOf, queueImage, queueLaid, queueRoomy, isQueue}
 use Rattle.fifo.specs.Layout.{head, formatOf, markOf, lineOf, image, laid, roomy, isLine}
 use Rattle.fifo.specs.Steps.{Jobs, fresh, initStep, calls, joins, joiners, ticked, tickStep, front, behind, popped, popStep, standing, entryStep}
-use Rattle.fifo.specs.Fairness.{Call, tick, pop, roomAfter, Paced, upTo}
+use Rattle.fifo.specs.Fairness.{Call, tick, pop, roomAfter, Paced, upTo, bound}
 use Rattle.fifo.specs.Buffer.{tickIn, popIn, lent, callOn, bufferAfter, callsOn, started}
 
 three : Jobs
@@ -105,3 +105,8 @@ bound-is-met :
     ≡ inl (Joined 1) ∷ inr (Entry 0) ∷ inl (Joined 2) ∷ inr (Entry 0) ∷ inl (Joined 1) ∷ inr (Entry 1) ∷ []
 unfolding pair answer running
 bound-is-met = refl
+
+-- "t + 21,036,960 + N - 1": one minute more for each entry but one
+bounds : (bound pair 21036960 ≡ 21036961) × (bound three 21036960 ≡ 21036962)
+unfolding pair three
+bounds = (refl, refl)

@@ -3,6 +3,7 @@
 use mathlib.Core.Path.{refl}
 use mathlib.Core.List.{List, [], _∷_, _++_}
 use Prim.Native.Nat.{ℕ, zero, suc}
+use native.Mathlib.Omega.{arith}
 use lib.ListN.{take, drop, replicate}
 use Rattle.bytes.specs.Texts.{text}
 use Rattle.bytes.specs.Rows.{Hold}
@@ -12,6 +13,7 @@ use Rattle.normal.specs.declared.NormalAnswer.the-variants.{Written, Refused}
 use Rattle.normal.specs.Meanings.{meaningOf}
 use Rattle.records.specs.Formats.{recordsOf}
 use Rattle.records.specs.Calls.{compiled, decompiled, recordFault}
+use Rattle.records.specs.Writers.{Keeps, new}
 use Rattle.records.specs.Computing.{coding}
 
 -- ---- the writer
@@ -186,3 +188,8 @@ sets : Hold timed
     ∷ [])
 unfolding coding
 sets = refl
+
+-- a later writer may send any other kind: 0, 5 and the last below 32,768 too, which today's reader refuses
+later-kinds :
+    Keeps (new (record { kind = 0; body = [] })) × Keeps (new (record { kind = 5; body = [] })) × Keeps (new (record { kind = 32767; body = [] }))
+later-kinds = ((λ h k. omega (arith, h)), (λ h k. omega (arith, k)), (λ h k. omega (arith, k)))

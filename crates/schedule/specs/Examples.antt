@@ -74,6 +74,19 @@ unfoldable pub schedules : Unit {0}
 unfolding firing leapDay fridays february30 mondays30 lastDay mondays oddMondays leapSundays evenings everyMinute
 schedules = tt
 
+-- `0 0 */2 * */3`
+abbrev oddThirds : Schedule
+oddThirds =
+    fields (0 ∷ []) (0 ∷ []) (1 ∷ 3 ∷ 5 ∷ 7 ∷ 9 ∷ 11 ∷ 13 ∷ 15 ∷ 17 ∷ 19 ∷ 21 ∷ 23 ∷ 25 ∷ 27 ∷ 29 ∷ 31 ∷ []) (upTo 1 12) (0 ∷ 3 ∷ 6 ∷ [])
+    (starsAt true true true)
+
+-- `0 0 1-31 * 1` and `0 0 1 * 0-6`
+abbrev numberedDays : Schedule
+numberedDays = fields (0 ∷ []) (0 ∷ []) (upTo 1 31) (upTo 1 12) (1 ∷ []) (starsAt false true false)
+
+abbrev numberedWeekdays : Schedule
+numberedWeekdays = fields (0 ∷ []) (0 ∷ []) (1 ∷ []) (upTo 1 12) (upTo 0 6) (starsAt false true false)
+
 -- which minutes match
 abbrev matched : Schedule × ℕ → Bool
 matched (s, m) = matches s m
@@ -100,6 +113,13 @@ matching : Hold matched
     -- 2088-02-29 is a Sunday, 2092-02-29 a Friday
     ∷ ((leapSundays, 62147520), true)
     ∷ ((leapSundays, 64251360), false)
+    -- both day fields begin with a star: 1970-01-01 is odd and a Thursday, 1970-01-03 odd and a Saturday, 1970-01-04 even and a Sunday
+    ∷ ((oddThirds, 0), false)
+    ∷ ((oddThirds, 2880), true)
+    ∷ ((oddThirds, 4320), false)
+    -- a day field that has every value and doesn't begin with a star: either may match, so that every day does
+    ∷ ((numberedDays, 0), true)
+    ∷ ((numberedWeekdays, 1440), true)
     ∷ [])
 unfolding schedules
 matching = refl
