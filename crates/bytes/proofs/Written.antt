@@ -1,8 +1,8 @@
--- Laws of texts written at a place of a buffer, one behind the other.
+-- Laws of texts written at a place of a buffer, one behind the other, and of a list that is written one by one.
 -- Assumes nothing.
 use mathlib.Core.Path.{_≡_, refl, sym, ap, _∙_}
 use mathlib.Core.List.{List, [], _∷_, _++_, append-assoc}
-use Prim.Native.Nat.{ℕ, _+_, _≤_, _<_}
+use Prim.Native.Nat.{ℕ, zero, suc, _+_, _≤_, _<_}
 use native.Mathlib.Nat.{add-zero}
 use native.Mathlib.Numerals.{add-one}
 use native.Mathlib.Omega.{arith}
@@ -89,3 +89,27 @@ module _ (at : ℕ) (t before : List ℕ) (room : at + length t ≤ length befor
 
   pub front-ends : (i : ℕ) (now : List ℕ) → i ≡ length t → Wrote at (take i t) before (at + i) now → Wrote at t before (at + i) now
   front-ends i now h w = rw (take-all i t (omega arith)) at w
+
+-- ---- a list written one by one to the front of a run
+
+drop-suc : (t s : List ℕ) (k v : ℕ) → drop k t ≡ v ∷ s → drop (suc k) t ≡ s
+drop-suc [] s zero v e = absurd (omega (arith, ap length e))
+drop-suc [] s (suc k) v e = absurd (omega (arith, ap length e))
+drop-suc (x ∷ t) s zero v e = cc
+drop-suc (x ∷ t) s (suc k) v e = drop-suc t s k v e
+
+pub drop-next : (t s : List ℕ) (k v : ℕ) → drop k t ≡ v ∷ s → drop (k + 1) t ≡ s
+drop-next t s k v e = rw (add-one k) (drop-suc t s k v e)
+
+store-suc : (t s room : List ℕ) (k v : ℕ) → drop k t ≡ v ∷ s → k < length room
+    → set (take k t ++ drop k room) k v ≡ take (suc k) t ++ drop (suc k) room
+store-suc t s [] k v e h = absurd (omega arith)
+store-suc [] s (y ∷ room) zero v e h = absurd (omega (arith, ap length e))
+store-suc [] s (y ∷ room) (suc k) v e h = absurd (omega (arith, ap length e))
+store-suc (x ∷ t) s (y ∷ room) zero v e h = let q : v ≡ x = cc in rw q
+store-suc (x ∷ t) s (y ∷ room) (suc k) v e h = ap (λ (r : List ℕ). x ∷ r) (store-suc t s room k v e (omega arith))
+
+-- the next of the list, stored behind those that are written
+pub store-next : (t s room : List ℕ) (k v : ℕ) → drop k t ≡ v ∷ s → k < length room
+    → set (take k t ++ drop k room) k v ≡ take (k + 1) t ++ drop (k + 1) room
+store-next t s room k v e h = rw (add-one k) (store-suc t s room k v e h)

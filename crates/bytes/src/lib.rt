@@ -5,4 +5,5 @@ pub mod little_endian;
 pub mod mark;
 pub mod run;
 pub mod set;
+pub mod size;
 pub mod write;

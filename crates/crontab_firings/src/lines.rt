@@ -6,19 +6,11 @@ ghost use lib.ListN.{length, take, getD};
 ghost use Rattle.bytes.specs.Laid.{Wrote};
 ghost use Rattle.io.specs.Counts.{Counts};
 ghost use Rattle.crontab_firings.specs.Lines.{Decimal, Line, Lines, Before};
+use bytes::size::lesser;
 use bytes::write;
 
 // The room of the longest line, whatever the numbers.
 pub const LINE: usize = 42;
-
-fn lesser(a: usize, b: usize) -> usize
-    ensures { λ r. ⌜ r ≡ min a b ⌝ }
-{
-    if a <= b {
-        return a;
-    }
-    b
-}
 
 // A number at a place; the place behind it is answered.
 fn decimal(text: &mut [u8], at: usize, n: u64) -> usize

@@ -2,31 +2,15 @@
 -- Assumes nothing.
 use mathlib.Core.Path.{_≡_, refl, ap, _∙_}
 use mathlib.Core.List.{List, [], _∷_, _++_}
-use Prim.Native.Nat.{ℕ, zero, suc, _+_, _-_, _≤_, _<_}
+use Prim.Native.Nat.{ℕ, _+_, _-_, _≤_, _<_}
 use native.Mathlib.Omega.{arith}
-use native.Mathlib.Numerals.{add-one}
 use lib.ListN.{length, take, drop, set, length-set, length-drop}
 use lib.Seq.{length-take-le, take-all}
 use borrow.Author.Tests.{le-leb, lt-leb}
 use Rattle.bytes.specs.Laid.{laid}
+use Rattle.bytes.proofs.Written.{drop-next, store-next}
 use Rattle.firings.specs.declared.Filled.the-variants.{All, More}
 use Rattle.firings.specs.Calls.{filled, fitted}
-
--- ---- lists
-
-drop-suc : (t s : List ℕ) (k v : ℕ) → drop k t ≡ v ∷ s → drop (suc k) t ≡ s
-drop-suc [] s zero v e = absurd (omega (arith, ap length e))
-drop-suc [] s (suc k) v e = absurd (omega (arith, ap length e))
-drop-suc (x ∷ t) s zero v e = cc
-drop-suc (x ∷ t) s (suc k) v e = drop-suc t s k v e
-
-store-suc : (t s room : List ℕ) (k v : ℕ) → drop k t ≡ v ∷ s → k < length room
-    → set (take k t ++ drop k room) k v ≡ take (suc k) t ++ drop (suc k) room
-store-suc t s [] k v e h = absurd (omega arith)
-store-suc [] s (y ∷ room) zero v e h = absurd (omega (arith, ap length e))
-store-suc [] s (y ∷ room) (suc k) v e h = absurd (omega (arith, ap length e))
-store-suc (x ∷ t) s (y ∷ room) zero v e h = let q : v ≡ x = cc in rw q
-store-suc (x ∷ t) s (y ∷ room) (suc k) v e h = ap (λ (r : List ℕ). x ∷ r) (store-suc t s room k v e (omega arith))
 
 -- ---- on the way
 
@@ -58,8 +42,8 @@ module _ {room : ℕ} {all before : List ℕ} {n : ℕ} {run : List ℕ} where
         within = w;
         fits = omega arith;
         few = let g = goes-on f in omega arith;
-        ahead = rw (add-one n) (drop-suc all rest n v (f .ahead));
-        is = rw (f .is, add-one n) (store-suc all rest before n v (f .ahead) (omega arith));
+        ahead = drop-next all rest n v (f .ahead);
+        is = rw (f .is) (store-next all rest before n v (f .ahead) (omega arith));
         size = simp length-set (f .size);
       }
 

@@ -1,6 +1,6 @@
 // The firings of a whole table, by minute and then entry.
 ghost use mathlib.Core.Path.{_≡_};
-ghost use Prim.Native.Nat.{_≤_, _+_, min};
+ghost use Prim.Native.Nat.{_≤_, _+_};
 ghost use Rattle.calendar.specs.Dates.{lastMinute};
 ghost use Rattle.firings.specs.Lists.{firesIn, mergedUpTo};
 ghost use Rattle.firings.specs.Calls.{listedMerged};
@@ -11,19 +11,11 @@ use crate::tree::WIDTH;
 use crate::tree::key;
 use crate::tree::plant;
 use crate::tree::put;
+use bytes::size::lesser;
 use crontab::table::Table;
 
 // The greatest count of a list.
 const MAX_PLACES: usize = 4_294_967_295;
-
-fn lesser(a: usize, b: usize) -> usize
-    ensures { λ r. ⌜ r ≡ min a b ⌝ }
-{
-    if a <= b {
-        return a;
-    }
-    b
-}
 
 // From firing to firing, each entry's next one being searched for when it has fired.
 pub(crate) fn fill(table: Table, a: u64, b: u64, minutes: &mut [u32], numbers: &mut [u16]) -> Filled

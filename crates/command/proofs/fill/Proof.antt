@@ -10,7 +10,8 @@ use lib.ListN.{length, take, drop, length-set}
 use Rattle.command.specs.Pieces.{pieces, bytesOf}
 use Rattle.command.specs.Steps.{ahead}
 use Rattle.command.proofs.Sizes.{bytes-length}
-use Rattle.command.proofs.Filling.{drop-next, store-next, goes-on, laid-take}
+use Rattle.bytes.proofs.Written.{drop-next, store-next}
+use Rattle.command.proofs.Filling.{goes-on, laid-take}
 use Rattle.command.proofs.fill.Statement.{statement}
 use Rattle.command.proofs.fill.Tie as tie
 
