@@ -89,7 +89,8 @@ install: $(LIBRARY) $(COMMAND) $(LISTER) $(PAGES_3)
 	$(INSTALL) -m 644 $(PAGES_3) "$(MAN)/man3/"
 	$(INSTALL) -m 644 $(PAGES_5) "$(MAN)/man5/"
 	$(INSTALL) -m 644 $(EXAMPLES:%=examples/%) "$(DOC)/examples/"
-	$(INSTALL) -m 644 README.md docs/DAEMON.md docs/DUTY-BOOK.md "$(DOC)/"
+	sed 's|@LIBC@|'"$$(packaging/libc.sh $(COMMAND) $(LISTER))"'|' packaging/README > target/README
+	$(INSTALL) -m 644 target/README docs/DAEMON.md docs/DUTY-BOOK.md "$(DOC)/"
 
 uninstall:
 	rm -f "$(LIB)/liberemothyn.a" "$(LIB)/pkgconfig/eremothyn.pc" "$(INCLUDE)/eremothyn.h"

@@ -10,7 +10,7 @@ lines() {
 }
 
 seconds() {
-    sed -n "$1" "$log" | awk '{ sum += $1 } END { print sum + 0 }'
+    sed -n "$1" "$log" | awk '{ sum += $1 } END { print (NR > 0 ? sum : "-") }'
 }
 
 echo "| Crate | Code | Specs | Laws | Proofs | Edits | Seconds | Edits' seconds |"

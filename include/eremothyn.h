@@ -414,8 +414,8 @@ uint64_t eremothyn_record_fault(const uint8_t *records, uint64_t records_length)
  *
  * The mark is the minute up to which fixed entries have been judged; a fresh queue has none. An entry is fixed if neither its
  * minute nor its hour field begins with a star: it has its set times of the day. @daily is fixed, @hourly and @reboot aren't.
- * By the mark a fixed entry is neither missed nor doubled where the clock jumps by less than three hours. All other entries
- * go by the minute that is announced, and by nothing else.
+ * By the mark a fixed entry isn't missed where the clock jumps forward by up to three hours, nor doubled where it falls back by
+ * less. All other entries go by the minute that is announced, and by nothing else.
  */
 #define EREMOTHYN_ROOM(entries) (8 * (entries) + 64)
 

@@ -71,6 +71,25 @@ fn the_tarball_can_be_unpacked_anywhere_and_used() {
         script_in(&folder, "engine/bin/eremothyn --version"),
         is(&version, "", 0)
     );
+    // What is there and how it is used, by its own words.
+    let readme = fs::read_to_string(folder.join("engine/share/doc/eremothyn/README"));
+    let readme = readme.expect("its words");
+    let shown = readme.lines().filter_map(|line| line.strip_prefix("  "));
+    let (paths, commands): (Vec<&str>, Vec<&str>) =
+        shown.partition(|line| line.split_once("   ").is_some());
+    let named = paths.iter().filter(|line| !line.starts_with(' '));
+    for path in named.map(|line| line.split(' ').next().expect("a path")) {
+        assert!(folder.join("engine").join(path).exists(), "{path}");
+    }
+    assert_eq!(commands.len(), 3, "{readme}");
+    let used = "eremothyn --version
+        ./a.out share/doc/eremothyn/examples/observatory.crontab 1 1970-01-01T00:00 1970-01-01T00:00 | tail -n 1";
+    let script = format!("cd engine\n{}\n{used}", commands.join("\n"));
+    assert_eq!(
+        script_in(&folder, &script),
+        is(&format!("{version}{BUILT}"), "", 0)
+    );
+    assert_eq!(script_in(&folder, "rm engine/a.out"), is("", "", 0));
     // Nobody but the owner may write, and all may read.
     let odd = "find engine ! -perm 644 ! -perm 755";
     assert_eq!(script_in(&folder, odd), is("", "", 0));
@@ -107,6 +126,13 @@ fn the_debian_package_is_installed_used_and_removed() {
         examples=root/usr/share/doc/eremothyn/examples {BUILD}"
     );
     assert_eq!(script_in(&folder, &build), is(BUILT, "", 0));
+    let needed = "objdump -T root/usr/bin/* | grep -o 'GLIBC_2[.0-9]*' | sort -V | tail -n 1 | sed 's/GLIBC_\\(.*\\)/libc6 (>= \\1)/'";
+    let depends = format!("dpkg-deb -f '{}' Depends", word(&package));
+    assert_eq!(
+        script_in(&folder, &depends),
+        script_in(&folder, needed),
+        "another glibc is needed"
+    );
     let page = "zcat root/usr/share/man/man1/eremothyn.1.gz | head -n 1 | cut -c 1-13";
     assert_eq!(script_in(&folder, page), is(".TH EREMOTHYN\n", "", 0));
     let removed = dpkg(&folder, "-P eremothyn");

@@ -2,9 +2,9 @@
 
 use c::{build, run, scratch, told};
 
-/// No call may take more, but for the merged list, which keeps a table's entries while it goes from firing to firing.
-const MOST: usize = 64 << 10;
-const MOST_MERGED: usize = 96 << 10;
+/// What the header says: some 12 KB, and 84 for the merged list, which keeps a table's entries while it goes from firing to firing.
+const MOST: usize = 12_800;
+const MOST_MERGED: usize = 84 << 10;
 
 #[test]
 fn no_call_takes_more_stack_than_may_be() {
