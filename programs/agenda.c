@@ -171,8 +171,7 @@ const struct command agenda_command = {
     "more than four times a day, once each, then the others day by day, those that fire at boot, and those\n"
     "that don't fire in that time. Dates are as 2026-11-15, which is the whole day, or 2026-11-15T21:30,\n"
     "and all times are UTC.\n"
-    "The exit status is 0 if the file is taken, 1 if it is refused, which standard error tells as\n"
-    "'eremothyn check' does, 2 if it can't be read or standard output can't be written.\n",
+    READER_STATUSES,
     ALL_TABLES,
     OPTIONS,
     run,

@@ -36,14 +36,29 @@ uint64_t first_character(struct part text)
     return length;
 }
 
+/* Marks that have no shape, by their numbers: spaces without a width, directions of a text, joiners, the byte order mark. */
+static const struct {
+    uint32_t first;
+    uint32_t last;
+} UNSEEN[] = { { 0x200b, 0x200f }, { 0x2028, 0x202e }, { 0x2060, 0x206f }, { 0xfeff, 0xfeff } };
+
+/* Whether a character of three bytes is such a mark. */
+static bool is_unseen(const uint8_t *bytes)
+{
+    uint32_t number = (uint32_t)(bytes[0] & 0x0f) << 12 | (uint32_t)(bytes[1] & 0x3f) << 6 | (uint32_t)(bytes[2] & 0x3f);
+    for (size_t i = 0; i < sizeof UNSEEN / sizeof *UNSEEN; i++)
+        if (number >= UNSEEN[i].first && number <= UNSEEN[i].last)
+            return true;
+    return false;
+}
+
 /* Whether a character is shown as it is. */
 static bool is_plain(const uint8_t *bytes, uint64_t length)
 {
     if (length == 1)
         return bytes[0] >= ' ' && bytes[0] < 127;
     bool is_control = bytes[0] == 0xc2 && bytes[1] < 0xa0;
-    bool is_mark = length == 3 && memcmp(bytes, BYTE_ORDER_MARK, 3) == 0;
-    return !is_control && !is_mark;
+    return !is_control && !(length == 3 && is_unseen(bytes));
 }
 
 char *show_character(char *to, struct part text, uint64_t length)

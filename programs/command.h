@@ -42,6 +42,11 @@ struct command {
     int (*run)(const struct arguments *arguments);
 };
 
+/* Of details: the exit statuses of a subcommand that reads one crontab, for people. */
+#define READER_STATUSES \
+    "The exit status is 0 if the file is taken, 1 if it is refused, which standard error tells as\n" \
+    "'eremothyn check' does, 2 if it can't be read or standard output can't be written.\n"
+
 /* The help for a subcommand's options. */
 void print_options(const struct command *command);
 

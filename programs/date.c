@@ -53,11 +53,20 @@ bool take_date(const char *text, struct minutes *minutes)
     return false;
 }
 
-uint64_t minute_now(void)
+/* The minute that the clock shows; the calendar's last, where the clock is beyond. */
+static uint64_t minute_now(void)
 {
     time_t now = time(NULL);
     uint64_t minute = now > 0 ? (uint64_t)now / 60 : 0;
     return minute < EREMOTHYN_LAST_MINUTE ? minute : EREMOTHYN_LAST_MINUTE;
+}
+
+bool take_start(const char *date, uint64_t *start)
+{
+    struct minutes minutes = { minute_now() + 1, 0 };
+    bool is_taken = date == NULL || take_date(date, &minutes);
+    *start = minutes.first;
+    return is_taken;
 }
 
 void write_minute(char text[MOST_MINUTE], uint64_t minute)

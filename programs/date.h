@@ -28,8 +28,8 @@ bool read_date(const char *text, struct minutes *minutes);
 /* The same for an argument: any other text is a misuse. */
 bool take_date(const char *text, struct minutes *minutes);
 
-/* The minute that the clock shows; the calendar's last, where the clock is beyond. */
-uint64_t minute_now(void);
+/* Where firings start: at the date of --from, itself included, or where that isn't given after the minute that the clock shows. */
+bool take_start(const char *date, uint64_t *start);
 
 /* A minute of the calendar as 2026-11-15 Sun 21:30. */
 enum { MOST_MINUTE = 40 };

@@ -22,14 +22,22 @@ static const struct {
 } SETS[FIELDS] = { [MINUTE] = { 4, 8 }, [HOUR] = { 12, 4 }, [DAY] = { 16, 4 }, [MONTH] = { 20, 2 }, [WEEKDAY] = { 22, 1 } };
 enum { FLAGS_AT = 23, KIND_AT = 2, KIND_AT_BOOT = 2 };
 
-/* What stands before an entry's user column and its command, with a command of one letter behind: its times, as a record. */
-static void read_times(struct part before, uint64_t dialect, struct entry *entry)
+struct part write_time(struct part line, const struct entry *entry, uint8_t text[EREMOTHYN_MAX_LINE + 2])
 {
-    uint8_t line[EREMOTHYN_MAX_LINE + 2];
+    const uint8_t *end = entry->owner.length > 0 ? entry->owner.start : entry->command.start;
+    uint64_t length = (uint64_t)(end - line.start);
+    memcpy(text, line.start, length);
+    memcpy(text + length, "x\n", 2);
+    return (struct part){ text, length + 2 };
+}
+
+/* The times of an entry on a line, by its record. */
+static void read_times(struct part line, uint64_t dialect, struct entry *entry)
+{
+    uint8_t text[EREMOTHYN_MAX_LINE + 2];
     uint8_t record[EREMOTHYN_MAX_LINE];
-    memcpy(line, before.start, before.length);
-    memcpy(line + before.length, "x\n", 2);
-    eremothyn_compile(line, before.length + 2, dialect, record, sizeof record);
+    struct part time = write_time(line, entry, text);
+    eremothyn_compile(time.start, time.length, dialect, record, sizeof record);
     entry->at_boot = record[KIND_AT] == KIND_AT_BOOT;
     for (int field = 0; field < FIELDS && !entry->at_boot; field++) {
         for (int byte = 0; byte < SETS[field].bytes; byte++)
@@ -53,8 +61,7 @@ static void read_entry(struct part line, struct rules rules, struct entry *entry
     uint64_t command = eremothyn_command_offset(LINE(line, rules), 0);
     entry->command = (struct part){ line.start + command, eremothyn_command_length(LINE(line, rules), 0) };
     entry->owner = owner_of(line, rules);
-    uint64_t times = entry->owner.length > 0 ? (uint64_t)(entry->owner.start - line.start) : command;
-    read_times((struct part){ line.start, times }, rules.dialect, entry);
+    read_times(line, rules.dialect, entry);
 }
 
 /* Two digits as a number. */
@@ -106,10 +113,28 @@ struct part text_of(const struct file *table, const struct entry *entry)
     return line_at(table, (uint64_t)(start - table->bytes));
 }
 
+struct day_rule day_rule_of(const struct entry *entry)
+{
+    const struct times *times = &entry->times;
+    struct day_rule rule = { times->sets[DAY], times->sets[WEEKDAY], !times->stars[DAY] && !times->stars[WEEKDAY] };
+    if (rule.is_either && (rule.days == EVERY_DAY || rule.weekdays == EVERY_WEEKDAY))
+        rule = (struct day_rule){ EVERY_DAY, EVERY_WEEKDAY, false };
+    return rule;
+}
+
+/* Whether two entries that don't fire at boot fire at the same times. */
+static bool is_same_time(const struct entry *one, const struct entry *other)
+{
+    const uint64_t *ones = one->times.sets, *others = other->times.sets;
+    struct day_rule rule = day_rule_of(one), rules = day_rule_of(other);
+    bool is_same_rule = rule.days == rules.days && rule.weekdays == rules.weekdays && rule.is_either == rules.is_either;
+    bool is_same_clock = one->offset == other->offset && ones[MINUTE] == others[MINUTE] && ones[HOUR] == others[HOUR];
+    return is_same_clock && is_same_rule && ones[MONTH] == others[MONTH];
+}
+
 bool is_same_entry(const struct entry *one, const struct entry *other)
 {
-    bool is_same_time = one->at_boot == other->at_boot && one->offset == other->offset;
-    for (int field = 0; field < FIELDS; field++)
-        is_same_time &= one->times.sets[field] == other->times.sets[field] && one->times.stars[field] == other->times.stars[field];
-    return is_same_time && is_same_part(one->owner, other->owner) && is_same_part(one->command, other->command);
+    if (!is_same_part(one->owner, other->owner) || !is_same_part(one->command, other->command))
+        return false;
+    return one->at_boot || other->at_boot ? one->at_boot == other->at_boot : is_same_time(one, other);
 }

@@ -11,6 +11,9 @@
 /* The five fields, in the order of a line; a set has bit n for the value n, and Sunday is 0. */
 enum { MINUTE, HOUR, DAY, MONTH, WEEKDAY, FIELDS };
 
+#define EVERY_DAY UINT64_C(0xfffffffe)
+#define EVERY_WEEKDAY UINT64_C(0x7f)
+
 /* How many values a set has. */
 int set_size(uint64_t set);
 
@@ -40,7 +43,21 @@ void read_entries(const struct file *table, struct entries *entries);
 /* The line that an entry of a table stands on, with its newline. Alone it is a table, of one entry that goes by UTC. */
 struct part text_of(const struct file *table, const struct entry *entry);
 
-/* Whether two entries mean the same. */
+/* Writes an entry's time as a line, with a command of one letter behind it; so none is too long. */
+struct part write_time(struct part line, const struct entry *entry, uint8_t text[EREMOTHYN_MAX_LINE + 2]);
+
+/*
+ * The days on which an entry fires: those that are in both sets, or in either. Where either is enough and one of them has every day,
+ * that is every day, and is said so: both have all.
+ */
+struct day_rule {
+    uint64_t days;
+    uint64_t weekdays;
+    bool is_either;
+};
+struct day_rule day_rule_of(const struct entry *entry);
+
+/* Whether two entries run the same, for the same user, at the same times of the same clock. */
 bool is_same_entry(const struct entry *one, const struct entry *other);
 
 #endif

@@ -89,13 +89,12 @@ static int explain(const char *name, uint64_t from, struct rules rules)
 
 static int run(const struct arguments *arguments)
 {
-    struct minutes from = { minute_now() + 1, 0 };
-    const char *date = arguments->values[FROM];
+    uint64_t from;
     if (arguments->count != 1)
         return misuse(arguments->count == 0 ? "no file is named" : "more than one file is named");
-    if (date != NULL && !take_date(date, &from))
+    if (!take_start(arguments->values[FROM], &from))
         return FAILED;
-    return explain(arguments->operands[0], from.first, arguments->rules);
+    return explain(arguments->operands[0], from, arguments->rules);
 }
 
 const struct command explain_command = {
@@ -104,8 +103,7 @@ const struct command explain_command = {
     "say in plain words when each entry of a crontab fires",
     "Prints for each entry the number of its line and when it fires, its next firing in UTC, its command,\n"
     "and behind < what the command reads. Two spellings of one entry have the same words.\n"
-    "The exit status is 0 if the file is taken, 1 if it is refused, which standard error tells as\n"
-    "'eremothyn check' does, 2 if it can't be read or standard output can't be written.\n",
+    READER_STATUSES,
     ALL_TABLES,
     OPTIONS,
     run,

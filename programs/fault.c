@@ -44,7 +44,7 @@ static bool is_bad(struct part line, struct fault *fault)
 int tell_fault_at(struct manner manner, const char *name, const struct file *table, struct place place, uint64_t refusal)
 {
     struct hints hints = { { NULL }, 0 };
-    struct fault fault = { refusal, place, { NULL, 0 }, table->rules };
+    struct fault fault = { refusal, place, { NULL, 0 }, table->rules, false };
     struct lines lines = { table, 0, 0 };
     struct part line;
     while (lines.number < place.line && next_line(&lines, &line))
@@ -57,14 +57,15 @@ int tell_faults(struct manner manner, const char *name, const struct file *table
 {
     struct hints hints = { { NULL }, 0 };
     struct lines lines = { table, 0, 0 };
-    struct part line;
+    struct part line, before = { NULL, 0 };
     uint64_t refusal = EREMOTHYN_REFUSAL(eremothyn_check(TABLE(table)));
     struct place verdict = { eremothyn_fault_line(TABLE(table)), eremothyn_fault_column(TABLE(table)) };
     uint64_t faults = 0;
     if (verdict.line == 0)
         return tell_fault_at(manner, name, table, verdict, refusal);
-    while (next_line(&lines, &line)) {
-        struct fault fault = { refusal, { lines.number, verdict.column }, without_newline(line), table->rules };
+    for (; next_line(&lines, &line); before = without_newline(line)) {
+        struct place place = { lines.number, verdict.column };
+        struct fault fault = { refusal, place, without_newline(line), table->rules, ends_in_backslash(before) };
         if (lines.number < verdict.line || (lines.number > verdict.line && !is_bad(line, &fault)))
             continue;
         tell_fault(manner, name, &fault, &hints);

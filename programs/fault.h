@@ -10,6 +10,7 @@ struct fault {
     struct place place;
     struct part line; /* without its newline; no bytes where the whole table is refused */
     struct rules rules;
+    bool is_behind_backslash; /* whether the line before ends in one */
 };
 
 /*

@@ -52,6 +52,27 @@ uint64_t number_of(struct part digits)
     return number;
 }
 
+bool is_like_field(struct part word)
+{
+    bool has_value = false;
+    for (uint64_t at = 0; at < word.length; at++) {
+        struct part letters = { word.start + at, 0 };
+        while (at + letters.length < word.length && isalpha(letters.start[letters.length]))
+            letters.length++;
+        if (letters.length > 0) {
+            if (!is_name_of(WEEKDAY, letters))
+                return false;
+            has_value |= word.length > letters.length || isupper(letters.start[0]);
+            at += letters.length - 1;
+        } else if (memchr("*?,-/#0123456789", word.start[at], 16) == NULL) {
+            return false;
+        } else {
+            has_value |= memchr(",-/#", word.start[at], 4) == NULL;
+        }
+    }
+    return has_value;
+}
+
 struct part cut_at(char byte, struct part text, struct part *rest)
 {
     const uint8_t *found = text.length > 0 ? memchr(text.start, byte, text.length) : NULL;

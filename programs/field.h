@@ -32,6 +32,12 @@ bool is_letters(struct part text);
 /* The number that up to four digits are. */
 uint64_t number_of(struct part digits);
 
+/*
+ * Whether a word looks like a time field of some cron: stars, numbers and names of weekdays, with signs between them. A single name
+ * does in capitals alone, for a command may be called so.
+ */
+bool is_like_field(struct part word);
+
 /* What stands before the first such byte of a text. What stands behind it is the rest, which starts nowhere if there is none. */
 struct part cut_at(char byte, struct part text, struct part *rest);
 

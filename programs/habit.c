@@ -29,10 +29,54 @@ static bool is_utf_16(const struct sight *sight)
     return at + 2 < line.length && line.start[at + 1] != 0 && line.start[at + 2] == 0;
 }
 
+/* Whether a line has several CRs: they should end lines. */
+static bool has_crs(const struct sight *sight)
+{
+    const struct part line = sight->fault->line;
+    uint64_t at = sight->fault->place.column;
+    return line.start[at - 1] == '\r' && memchr(line.start + at, '\r', line.length - at) != NULL;
+}
+
 static bool is_cr_lf(const struct sight *sight)
 {
     const struct part line = sight->fault->line;
     return sight->fault->place.column == line.length && line.start[line.length - 1] == '\r';
+}
+
+/* Whether a text has some bytes in a row. */
+static bool has_bytes(struct part text, const char *bytes, size_t length)
+{
+    for (uint64_t at = 0; at + length <= text.length; at++)
+        if (memcmp(text.start + at, bytes, length) == 0)
+            return true;
+    return false;
+}
+
+static bool has_no_break_space(const struct sight *sight)
+{
+    return has_bytes(sight->spot.word, "\xc2\xa0", 2);
+}
+
+/* Dashes and quotes that editors put in the place of the plain ones: U+2010 to U+201F. */
+static bool has_typeset_sign(const struct sight *sight)
+{
+    const struct part word = sight->spot.word;
+    for (uint64_t at = 0; at + 2 < word.length; at++)
+        if (word.start[at] == 0xe2 && word.start[at + 1] == 0x80 && word.start[at + 2] >= 0x90 && word.start[at + 2] <= 0x9f)
+            return true;
+    return false;
+}
+
+static bool is_continued(const struct sight *sight)
+{
+    return sight->fault->is_behind_backslash;
+}
+
+/* Whether something stands behind a sixth word that looks like a field. */
+static bool is_six_fields(const struct sight *sight)
+{
+    const struct part line = sight->fault->line;
+    return is_like_field(word_of(line, FIELDS)) && word_of(line, FIELDS + 1).length > 0;
 }
 
 /* monday, and sept. */
@@ -43,11 +87,18 @@ static bool is_long_name(const struct sight *sight)
     return sight->flawed.flaw == UNKNOWN_NAME && text.length > 3 && is_name_of(sight->spot.before, start);
 }
 
-/* Something that starts as a command does, where the last field should be. */
+/* A month among the weekdays, or a weekday among the months. */
+static bool is_other_name(const struct sight *sight)
+{
+    const struct part text = sight->flawed.text;
+    return sight->flawed.flaw == UNKNOWN_NAME && (is_name_of(MONTH, text) || is_name_of(WEEKDAY, text));
+}
+
+/* Something that starts as a command does, where a field should be. */
 static bool is_path(const struct sight *sight)
 {
     const struct part word = sight->spot.word;
-    return sight->spot.before == WEEKDAY && (memchr("/.$", word.start[0], 3) != NULL || starts_with(word, "~/"));
+    return memchr("/.$", word.start[0], 3) != NULL || starts_with(word, "~/");
 }
 
 /* A word of letters there; in a list or a range it is a mistyped name. */
@@ -154,9 +205,17 @@ static bool is_entry(const struct sight *sight)
     return fields >= 2 && word_of(sight->fault->line, FIELDS).length > 0;
 }
 
-static bool is_star(const struct sight *sight)
+static bool is_field(const struct sight *sight)
 {
-    return sight->spot.word.start[0] == '*';
+    return is_like_field(sight->spot.word);
+}
+
+/* An offset, with something behind it. */
+static bool is_followed(const struct sight *sight)
+{
+    const struct part word = sight->spot.word;
+    bool has_form = word.length == 6 && (word.start[0] == '+' || word.start[0] == '-') && word.start[3] == ':';
+    return has_form && sight->spot.rest.length > word.length;
 }
 
 /* A letter first, or behind a quote. */
@@ -186,6 +245,11 @@ static bool is_sign(const struct sight *sight, char sign)
     return (is_field || is_first) && has_sign(sight->spot.word, sign);
 }
 
+static const char NO_BREAK_SPACE[] = "a no-break space stands here: only spaces and tabs are blanks";
+static const char TYPESET[] = "a dash or a quote of an editor stands here: the plain ones are - and \" and '";
+static const char ONE_LINE[] = "a command is one line: a \\ at its end doesn't join it with the next";
+static const char SIX_FIELDS[] = "a time has five fields, without seconds and years; are there six?";
+static const char WHICH_NAMES[] = "the fields are minute, hour, day, month, weekday; the last two have names";
 static const char FIELD_MISSING[] = "five time fields stand before the command; is one missing?";
 static const char USER_FIRST[] = "in a system table a user stands before the command";
 
@@ -201,7 +265,13 @@ static const struct habit {
 #define FLAW(flaw, hint) { 0, NULL, flaw, 0, hint }
 #define SIGN(sign, hint) { 0, NULL, NO_FLAW, sign, hint }
     HABIT(NUL_BYTE, is_utf_16, "a crontab is ASCII or UTF-8; this looks like UTF-16"),
+    HABIT(FIELD_MALFORMED, has_no_break_space, NO_BREAK_SPACE),
+    HABIT(FIELD_MALFORMED, has_typeset_sign, TYPESET),
+    HABIT(FIELD_MALFORMED, is_continued, ONE_LINE),
+    FLAW(EMPTY_ELEMENT, "a list has commas between its elements only, and no blanks"),
+    HABIT(FIELD_MALFORMED, is_six_fields, SIX_FIELDS),
     HABIT(FIELD_MALFORMED, is_long_name, "names have three letters, as mon and jan"),
+    HABIT(FIELD_MALFORMED, is_other_name, WHICH_NAMES),
     HABIT(FIELD_MALFORMED, is_path, FIELD_MISSING),
     SIGN('?', "other crons write ? for any value: write *"),
     SIGN('L', "other crons write L for the last day: here days are numbers"),
@@ -212,9 +282,10 @@ static const struct habit {
     HABIT(FIELD_MALFORMED, is_command, FIELD_MISSING),
     FLAW(STAR_IN_LIST, "* is every value already: it stands alone, or with a step as */5"),
     FLAW(LONE_STEP, "other crons go on to the last value: write the range, as 5-59/2 for minutes"),
-    FLAW(EMPTY_ELEMENT, "a list has commas between its elements only, and no blanks"),
-    FLAW(NAME_NOT_HERE, "the fields are minute, hour, day, month, weekday; the last two have names"),
+    FLAW(NAME_NOT_HERE, WHICH_NAMES),
     HABIT(FIELD_MALFORMED, has_colon, "the minute and the hour are two fields, the minute first"),
+    HABIT(TOO_FEW_FIELDS, is_continued, ONE_LINE),
+    HABIT(OUT_OF_LIMITS, is_six_fields, SIX_FIELDS),
     HABIT(OUT_OF_LIMITS, is_hour_24, "midnight is hour 0"),
     HABIT(OUT_OF_LIMITS, is_minute_60, "a full hour is minute 0"),
     HABIT(OUT_OF_LIMITS, is_day_0, "days and months count from 1"),
@@ -225,15 +296,20 @@ static const struct habit {
     HABIT(UNKNOWN_WORD, is_every, "there is no @every; steps do it, as */5 * * * *"),
     HABIT(UNKNOWN_WORD, has_capitals, "these words have small letters"),
     HABIT(BAD_SETTING, is_byte_order_mark, "the line starts with a byte order mark (BOM): take its three bytes away"),
+    HABIT(BAD_SETTING, is_continued, ONE_LINE),
+    HABIT(BAD_SETTING, has_no_break_space, NO_BREAK_SPACE),
+    HABIT(BAD_SETTING, has_typeset_sign, TYPESET),
     HABIT(BAD_SETTING, is_export, "a setting is name=value, without export"),
     HABIT(BAD_SETTING, is_open_quote, "the quote isn't closed"),
     HABIT(BAD_SETTING, is_behind_quote, "only blanks may stand behind a value in quotes"),
     HABIT(BAD_SETTING, is_comment, "a comment starts with #"),
     HABIT(BAD_SETTING, is_entry, "an entry starts with a digit, * or @"),
-    HABIT(USER_MALFORMED, is_star, "a time has five fields, without seconds and years; are there six?"),
+    HABIT(USER_MALFORMED, is_field, SIX_FIELDS),
     HABIT(USER_MALFORMED, always, USER_FIRST),
+    HABIT(OFFSET_MALFORMED, is_followed, "a value goes up to the line's end: nothing may stand behind an offset, no comment either"),
     HABIT(OFFSET_MALFORMED, is_zone, "zones have no names here: write what the clock is ahead of UTC, as +09:00"),
     HABIT(CONTROL_BYTE, is_cr_lf, "lines end in LF, without a CR before it: tr -d '\\r' takes them away"),
+    HABIT(CONTROL_BYTE, has_crs, "lines end in LF: tr '\\r' '\\n' makes one of each CR"),
 };
 
 static bool is_habit(const struct sight *sight, const struct habit *habit)

@@ -97,18 +97,16 @@ static bool take_count(const char *text, uint64_t *count)
 
 static int run(const struct arguments *arguments)
 {
-    struct minutes from = { minute_now() + 1, 0 };
-    const char *date = arguments->values[FROM];
-    uint64_t count = USUAL;
+    uint64_t from, count = USUAL;
     if (arguments->count == 0)
         return misuse("no file is named");
     if (arguments->count > 2)
         return misuse("more than a file and a number are given");
     if (arguments->count == 2 && !take_count(arguments->operands[1], &count))
         return FAILED;
-    if (date != NULL && !take_date(date, &from))
+    if (!take_start(arguments->values[FROM], &from))
         return FAILED;
-    return print_next(arguments->operands[0], arguments, from.first, count);
+    return print_next(arguments->operands[0], arguments, from, count);
 }
 
 const struct command next_command = {
@@ -118,8 +116,7 @@ const struct command next_command = {
     "Prints the next N firings of FILE, 10 where N isn't given and 100000 at most, a line each: the date\n"
     "and the time in UTC, the number of the entry's line, and its command. What fires in the minute that\n"
     "the clock shows has begun, and is left out; what fires in the minute of --from isn't.\n"
-    "The exit status is 0 if the file is taken, 1 if it is refused, which standard error tells as\n"
-    "'eremothyn check' does, 2 if it can't be read or standard output can't be written.\n",
+    READER_STATUSES,
     ALL_TABLES,
     OPTIONS,
     run,

@@ -7,6 +7,7 @@
 #include <string.h>
 
 #include "date.h"
+#include "firing.h"
 #include "often.h"
 
 /* A line of a table, as a table of its own. */
@@ -32,7 +33,6 @@ bool is_often(const struct entry *entry)
 /* How many firings the library lists, both ends included. No minute is before the first one, which is asked about by itself. */
 static uint64_t count_listed(struct alone alone, uint64_t first, uint64_t last)
 {
-    enum { AT_ONCE = 2048 };
     uint32_t run[AT_ONCE];
     uint64_t count = first == 0 ? eremothyn_due(LINE(alone.line, alone.rules), 0, 0) : 0;
     uint64_t after = first == 0 ? 0 : first - 1;
@@ -59,11 +59,8 @@ static struct alone days_of(struct part line, const struct entry *entry, uint64_
 {
     static const uint8_t MIDNIGHT[] = "0 0";
     uint8_t normal[EREMOTHYN_MAX_LINE + 1];
-    const uint8_t *times_end = entry->owner.length > 0 ? entry->owner.start : entry->command.start;
-    uint64_t times = (uint64_t)(times_end - line.start);
-    memcpy(text, line.start, times);
-    memcpy(text + times, "x\n", 2);
-    uint64_t length = eremothyn_normal_form(text, times + 2, dialect, normal, sizeof normal);
+    struct part time = write_time(line, entry, text);
+    uint64_t length = eremothyn_normal_form(time.start, time.length, dialect, normal, sizeof normal);
     const uint8_t *rest = normal;
     for (int field = 0; field <= HOUR; field++)
         rest = (const uint8_t *)memchr(rest, ' ', length) + 1;

@@ -83,12 +83,12 @@ static void say_element(const struct fault *fault, const struct spot *spot, char
     PRINT(words, "%s: %s %s %s", FIELD[spot->before].name, element.text, verb, eremothyn_words(fault->refusal));
 }
 
-/* The library's words of a word, with the word before them where there is one. */
-static void say_word(const struct fault *fault, const struct spot *spot, char words[MOST_REASON])
+/* The library's words of a text, with the text before them where there is one. */
+static void say_text(const struct fault *fault, struct part text, char words[MOST_REASON])
 {
-    struct quoted word = quote(spot->word);
-    if (spot->word.length > 0)
-        PRINT(words, "'%s' is %s", word.text, eremothyn_words(fault->refusal));
+    struct quoted shown = quote(text);
+    if (text.length > 0)
+        PRINT(words, "'%s' is %s", shown.text, eremothyn_words(fault->refusal));
     else
         PRINT(words, "%s", eremothyn_words(fault->refusal));
 }
@@ -107,8 +107,8 @@ void reason_of(const struct fault *fault, char words[MOST_REASON])
     case EREMOTHYN_STEP_ZERO: say_element(fault, &spot, words); break;
     case EREMOTHYN_NO_COMMAND: say_no_command(fault, &spot, words); break;
     case EREMOTHYN_UNKNOWN_WORD:
-    case EREMOTHYN_USER_MALFORMED:
-    case EREMOTHYN_OFFSET_MALFORMED: say_word(fault, &spot, words); break;
+    case EREMOTHYN_USER_MALFORMED: say_text(fault, spot.word, words); break;
+    case EREMOTHYN_OFFSET_MALFORMED: say_text(fault, spot.rest, words); break;
     case EREMOTHYN_CONTROL_BYTE: say_byte(fault, words); break;
     default: PRINT(words, "%s", eremothyn_words(fault->refusal));
     }

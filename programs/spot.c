@@ -16,6 +16,18 @@ bool starts_with(struct part text, const char *start)
     return text.length >= length && memcmp(text.start, start, length) == 0;
 }
 
+bool ends_in_backslash(struct part text)
+{
+    return text.length > 0 && text.start[text.length - 1] == '\\';
+}
+
+struct part trimmed(struct part text)
+{
+    while (text.length > 0 && is_blank(text.start[text.length - 1]))
+        text.length--;
+    return text;
+}
+
 /* The word at or behind a place of a line. */
 static struct part word_from(struct part line, uint64_t from)
 {
@@ -48,7 +60,7 @@ int words_of_time(struct part line)
 
 struct spot spot_of(const struct fault *fault)
 {
-    struct spot spot = { 0, { NULL, 0 }, { NULL, 0 } };
+    struct spot spot = { 0, { NULL, 0 }, { NULL, 0 }, { NULL, 0 } };
     struct part rest;
     if (fault->line.length == 0)
         return spot;
@@ -60,6 +72,7 @@ struct spot spot_of(const struct fault *fault)
     }
     spot.word = word_from(fault->line, place);
     spot.element = cut_at(',', spot.word, &rest);
+    spot.rest = trimmed((struct part){ spot.word.start, fault->line.length - (uint64_t)(spot.word.start - fault->line.start) });
     return spot;
 }
 
@@ -70,8 +83,8 @@ uint64_t extent_of(const struct fault *fault)
     case EREMOTHYN_FIELD_MALFORMED:
     case EREMOTHYN_UNKNOWN_WORD:
     case EREMOTHYN_BAD_SETTING:
-    case EREMOTHYN_USER_MALFORMED:
-    case EREMOTHYN_OFFSET_MALFORMED: return spot.word.length;
+    case EREMOTHYN_USER_MALFORMED: return spot.word.length;
+    case EREMOTHYN_OFFSET_MALFORMED: return spot.rest.length;
     case EREMOTHYN_OUT_OF_LIMITS:
     case EREMOTHYN_RANGE_REVERSED:
     case EREMOTHYN_STEP_ZERO: return spot.element.length;

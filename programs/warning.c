@@ -4,22 +4,25 @@
 #include <string.h>
 
 #include "entry.h"
+#include "field.h"
 #include "hint.h"
+#include "percent.h"
+#include "shown.h"
 #include "spot.h"
 #include "warning.h"
 
 /* No words are longer, with the zero byte behind them. */
-enum { MOST_WORDS_OF_WARNING = 128 };
+enum { MOST_WORDS_OF_WARNING = 256 };
 
-/* What is looked at: an entry, and the line that it stands on. */
+/* What is looked at: a line, and the entry on it. */
 struct view {
     const struct file *table;
     const struct entries *entries;
-    const struct entry *entry;
+    const struct entry *entry; /* NULL where a setting stands there */
     struct part line;
 };
 
-/* Where a warning points, and how far; no bytes where there is none. Where there is one, its words are set. */
+/* Where a warning points, and how far; no bytes where there is none. Where there is one, its words are set. Each look is for lines of one kind. */
 typedef struct part look(const struct view *view, char words[MOST_WORDS_OF_WARNING]);
 
 static struct part none(void)
@@ -39,7 +42,7 @@ static struct part look_for_same(const struct view *view, char words[MOST_WORDS_
     for (const struct entry *other = view->entries->all; other < view->entry; other++) {
         if (!is_same_entry(other, view->entry))
             continue;
-        snprintf(words, MOST_WORDS_OF_WARNING, "the same entry as on line %" PRIu64 ": its job runs twice", other->line);
+        snprintf(words, MOST_WORDS_OF_WARNING, "the same entry as on line %" PRIu64 ": its job runs more than once", other->line);
         return from_to(word_of(view->line, 0), view->entry->command);
     }
     return none();
@@ -65,55 +68,84 @@ static struct part look_for_user(const struct view *view, char words[MOST_WORDS_
     return word;
 }
 
+/* A word that looks like a field, where the user or the command should be. */
 static struct part look_for_six_fields(const struct view *view, char words[MOST_WORDS_OF_WARNING])
 {
-    struct part word = word_of(view->entry->command, 0);
-    bool is_star = word.start[0] == '*' && (word.length == 1 || word.start[1] == '/');
-    bool is_any = word.start[0] == '?' && word.length == 1;
-    if (!is_star && !is_any)
+    bool is_owner = is_like_field(view->entry->owner);
+    struct part word = is_owner ? view->entry->owner : word_of(view->entry->command, 0);
+    bool has_more = is_owner || word_of(view->entry->command, 1).length > 0;
+    bool is_any = word.start[0] == '*' || word.start[0] == '?';
+    if (!is_like_field(word) || (!has_more && !is_any))
         return none();
-    snprintf(words, MOST_WORDS_OF_WARNING, "the command starts with %c: are there six time fields?", word.start[0]);
+    struct quoted shown = quote(word);
+    snprintf(words, MOST_WORDS_OF_WARNING, "'%s' looks like a sixth time field: there are five", shown.text);
     return word;
 }
 
-/* The % that ends a command for the shell, or no bytes. */
-static struct part first_percent(struct part command)
+/* A step that is longer than its field, as 90 is among minutes: it leaves one value, and doesn't go on in the next hour. */
+static struct part look_for_step(const struct view *view, char words[MOST_WORDS_OF_WARNING])
 {
-    for (uint64_t at = 0; at < command.length; at++) {
-        if (command.start[at] == '\\')
-            at++;
-        else if (command.start[at] == '%')
-            return (struct part){ command.start + at, 1 };
+    for (int field = 0; field < words_of_time(view->line); field++) {
+        uint64_t values = last_of(field, view->table->rules.dialect) - FIELD[field].first + 1;
+        struct part step, rest = word_of(view->line, field);
+        do {
+            struct part element = cut_at(',', rest, &rest);
+            cut_at('/', element, &step);
+            if (step.start == NULL || number_of(step) <= values)
+                continue;
+            snprintf(words, MOST_WORDS_OF_WARNING, "%s: a step of more than %" PRIu64 " leaves one value", FIELD[field].name, values);
+            return element;
+        } while (rest.start != NULL);
     }
     return none();
 }
 
-/* date +%F, which people bring from the shell; a quote may stand before the sign or behind it. */
 static struct part look_for_percent(const struct view *view, char words[MOST_WORDS_OF_WARNING])
 {
-    struct part percent = first_percent(view->entry->command);
-    if (percent.length == 0)
-        return none();
-    uint64_t before = (uint64_t)(percent.start - view->entry->command.start);
-    if (before > 0 && (percent.start[-1] == '"' || percent.start[-1] == '\''))
-        before--;
-    if (before == 0 || view->entry->command.start[before - 1] != '+')
-        return none();
     snprintf(words, MOST_WORDS_OF_WARNING, "the command ends before this %%: what follows is its standard input");
-    return percent;
+    return doubtful_percent(view->entry->command);
 }
 
-/* By their columns in a line. */
-static const struct {
+static struct part look_for_backslash(const struct view *view, char words[MOST_WORDS_OF_WARNING])
+{
+    const struct part command = view->entry->command;
+    snprintf(words, MOST_WORDS_OF_WARNING, "the command ends in \\, which doesn't join it with the next line");
+    return ends_in_backslash(command) ? (struct part){ command.start + command.length - 1, 1 } : none();
+}
+
+/* A comment behind a value without quotes. */
+static struct part look_for_comment(const struct view *view, char words[MOST_WORDS_OF_WARNING])
+{
+    const struct part line = view->line;
+    uint64_t at = eremothyn_setting_value_offset(LINE(line, view->table->rules), 1);
+    uint64_t end = at + eremothyn_setting_value_length(LINE(line, view->table->rules), 1);
+    bool is_quoted = line.start[end] == '"' || line.start[end] == '\'';
+    snprintf(words, MOST_WORDS_OF_WARNING, "the # and what follows are part of the value");
+    for (; at < end && !is_quoted; at++)
+        if (line.start[at] == '#' && is_blank(line.start[at - 1]))
+            return (struct part){ line.start + at, end - at };
+    return none();
+}
+
+/* What is looked for on the line of an entry, and on that of a setting. */
+struct looked {
     look *look;
     const char *name;
     const char *hint;
-} WARNINGS[] = {
+};
+static const struct looked OF_ENTRIES[] = {
     { look_for_same, "same", NULL },
+    { look_for_step, "step", NULL },
     { look_for_never, "never", NULL },
     { look_for_user, "user", NULL },
     { look_for_six_fields, "six-fields", "seconds and years aren't here: minute, hour, day, month, weekday" },
     { look_for_percent, "percent", "\\% is a percent sign, as in date +\\%F" },
+    { look_for_backslash, "backslash", NULL },
+    { NULL, NULL, NULL },
+};
+static const struct looked OF_SETTINGS[] = {
+    { look_for_comment, "comment", "a comment stands on a line of its own" },
+    { NULL, NULL, NULL },
 };
 
 /* What stands before a name is part of it. */
@@ -129,36 +161,43 @@ static uint64_t tell_byte_order_mark(struct manner manner, const char *name, con
     return 1;
 }
 
-static uint64_t tell_entry(struct manner manner, const char *name, const struct view *view, struct hints *hints)
+/* Tells what is found on a line, whose number is told. */
+static uint64_t tell_found(struct manner manner, const char *name, const struct view *view, uint64_t number, struct hints *hints)
 {
     uint64_t warnings = 0;
-    for (size_t i = 0; i < sizeof WARNINGS / sizeof *WARNINGS; i++) {
+    for (const struct looked *looked = view->entry != NULL ? OF_ENTRIES : OF_SETTINGS; looked->look != NULL; looked++) {
         char words[MOST_WORDS_OF_WARNING];
-        struct part at = WARNINGS[i].look(view, words);
+        struct part at = looked->look(view, words);
         if (at.length == 0)
             continue;
-        struct place place = { view->entry->line, (uint64_t)(at.start - view->line.start) + 1 };
+        struct place place = { number, (uint64_t)(at.start - view->line.start) + 1 };
         struct part line = without_newline(view->line);
-        const char *hint = once(WARNINGS[i].hint, hints);
-        struct diagnostic diagnostic = { WARNING, place, words, WARNINGS[i].name, line, at.length, hint };
+        struct diagnostic diagnostic = { WARNING, place, words, looked->name, line, at.length, once(looked->hint, hints) };
         tell(manner, name, &diagnostic);
         warnings++;
     }
     return warnings;
 }
 
+static bool is_setting(struct part line, struct rules rules)
+{
+    return !EREMOTHYN_IS_REFUSED(eremothyn_setting_value_offset(LINE(line, rules), 1));
+}
+
 uint64_t tell_warnings(struct manner manner, const char *name, const struct file *table)
 {
     static struct entries entries;
     struct lines lines = { table, 0, 0 };
-    struct view view = { table, &entries, entries.all, { NULL, 0 } };
+    struct view view = { table, &entries, NULL, { NULL, 0 } };
     struct hints hints = { { NULL }, 0 };
     uint64_t warnings = tell_byte_order_mark(manner, name, table);
     read_entries(table, &entries);
-    for (; view.entry < entries.all + entries.count; view.entry++) {
-        while (lines.number < view.entry->line)
-            next_line(&lines, &view.line);
-        warnings += tell_entry(manner, name, &view, &hints);
+    const struct entry *next = entries.all;
+    while (next_line(&lines, &view.line)) {
+        bool is_entry = next < entries.all + entries.count && next->line == lines.number;
+        view.entry = is_entry ? next++ : NULL;
+        if (is_entry || is_setting(view.line, table->rules))
+            warnings += tell_found(manner, name, &view, lines.number, &hints);
     }
     return warnings;
 }

@@ -10,11 +10,9 @@
 /* Of so many times of the day each is said. */
 enum { MOST_TIMES = 6 };
 
-enum { MINUTES = 60, HOURS = 24, LAST_DAY = 31, MONTHS = 12, DAYS_A_WEEK = 7 };
+enum { MINUTES = 60, HOURS = 24, MONTHS = 12, DAYS_A_WEEK = 7 };
 static const uint64_t EVERY_HOUR = (UINT64_C(1) << HOURS) - 1;
-static const uint64_t EVERY_DAY = (UINT64_C(1) << (LAST_DAY + 1)) - 2;
 static const uint64_t EVERY_MONTH = (UINT64_C(1) << (MONTHS + 1)) - 2;
-static const uint64_t EVERY_WEEKDAY = (UINT64_C(1) << DAYS_A_WEEK) - 1;
 static const uint64_t ODD_DAYS = UINT64_C(0xaaaaaaaa);
 static const uint64_t EVEN_DAYS = UINT64_C(0x55555554);
 
@@ -48,6 +46,20 @@ static int least(uint64_t set)
     while (!has(set, value))
         value++;
     return value;
+}
+
+static int greatest(uint64_t set)
+{
+    int value = 63;
+    while (!has(set, value))
+        value--;
+    return value;
+}
+
+/* Whether a set has every value from its least to its greatest. */
+static bool has_no_gap(uint64_t set)
+{
+    return greatest(set) - least(set) + 1 == set_size(set);
 }
 
 /* The step of a set that goes on at even distances round a clock of so many values, as 10, 30, 50 do; 0 for another. */
@@ -159,11 +171,19 @@ static void add_time(struct text *text, uint64_t minutes, uint64_t hours)
         add_minutes(text, minutes, "hourly ");
     } else if (set_size(minutes) == 1 && step > 0) {
         add(text, "every %d hours from %02d:%02d", step, least(hours), least(minutes));
+    } else if (set_size(minutes) == 1 && has_no_gap(hours)) {
+        add(text, "hourly from %02d:%02d to %02d:%02d", least(hours), least(minutes), greatest(hours), least(minutes));
     } else {
         add_minutes(text, minutes, "");
         add(text, set_size(hours) == 1 ? " in the hour " : " in the hours ");
         add_list(text, hours, add_number);
     }
+}
+
+/* A set of weekdays that starts on Monday. */
+static uint64_t from_monday(uint64_t weekdays)
+{
+    return weekdays >> 1 | (weekdays & 1) << (DAYS_A_WEEK - 1);
 }
 
 /* Days of the month, by their numbers. */
@@ -204,7 +224,6 @@ static bool names_times(const struct text *text)
 /* Days that are in both sets. */
 static void add_both(struct text *text, uint64_t days, uint64_t weekdays, uint64_t months)
 {
-    uint64_t from_monday = weekdays >> 1 | (weekdays & 1) << (DAYS_A_WEEK - 1);
     if (days == EVERY_DAY && weekdays == EVERY_WEEKDAY) {
         if (names_times(text))
             add(text, " every day");
@@ -213,7 +232,7 @@ static void add_both(struct text *text, uint64_t days, uint64_t weekdays, uint64
     }
     add(text, " on ");
     if (weekdays != EVERY_WEEKDAY)
-        add_list(text, from_monday, add_weekdays);
+        add_list(text, from_monday(weekdays), add_weekdays);
     if (days == EVERY_DAY) {
         add_months(text, " in ", months);
         return;
@@ -227,11 +246,10 @@ static void add_both(struct text *text, uint64_t days, uint64_t weekdays, uint64
 /* Days that are in one of the sets, neither of which has all. */
 static void add_either(struct text *text, uint64_t days, uint64_t weekdays, uint64_t months)
 {
-    uint64_t from_monday = weekdays >> 1 | (weekdays & 1) << (DAYS_A_WEEK - 1);
     add(text, " on ");
     add_days(text, days);
     add(text, days == ODD_DAYS || days == EVEN_DAYS ? " of the month, and on every " : ", and on every ");
-    add_list(text, from_monday, add_weekday);
+    add_list(text, from_monday(weekdays), add_weekday);
     add_months(text, ", in ", months);
 }
 
@@ -243,15 +261,12 @@ void words_of(const struct entry *entry, char words[MOST_WORDS])
         return;
     }
     const uint64_t *sets = entry->times.sets;
-    uint64_t days = sets[DAY];
-    uint64_t weekdays = sets[WEEKDAY];
+    struct day_rule rule = day_rule_of(entry);
     add_time(&text, sets[MINUTE], sets[HOUR]);
-    if (entry->times.stars[DAY] || entry->times.stars[WEEKDAY])
-        add_both(&text, days, weekdays, sets[MONTH]);
-    else if (days == EVERY_DAY || weekdays == EVERY_WEEKDAY)
-        add_both(&text, EVERY_DAY, EVERY_WEEKDAY, sets[MONTH]);
+    if (rule.is_either)
+        add_either(&text, rule.days, rule.weekdays, sets[MONTH]);
     else
-        add_either(&text, days, weekdays, sets[MONTH]);
+        add_both(&text, rule.days, rule.weekdays, sets[MONTH]);
 }
 
 void clock_of(const struct entry *entry, char words[CLOCK_WORDS])

@@ -2,6 +2,7 @@
 
 use second::calendar::date_of;
 use second::command::split;
+use second::schedule::Schedule;
 use second::table::{Dialect, Entry, Kind, Part, Rules, Table};
 
 /// The minutes from one on and up to another, both of the span.
@@ -34,13 +35,26 @@ pub fn firings(entry: &Entry, [from, to]: Span) -> impl Iterator<Item = u64> {
     first.into_iter().chain(others)
 }
 
+/// When a schedule fires: its minutes, hours, days, months and weekdays, and whether a day may be in either of the day sets, and
+/// needn't be in both. Where it may, and one of them has every day, every day is meant.
+pub fn times(schedule: &Schedule) -> ([u64; 5], bool) {
+    const DAYS: u64 = (1 << 32) - 2;
+    const WEEKDAYS: u64 = (1 << 7) - 1;
+    let [minutes, hours, days, months, weekdays, stars] = schedule.numbers();
+    match stars == 0 && (days == DAYS || weekdays == WEEKDAYS) {
+        true => ([minutes, hours, DAYS, months, WEEKDAYS], false),
+        false => ([minutes, hours, days, months, weekdays], stars == 0),
+    }
+}
+
 /// Bytes as they are shown: a tab as a blank, and a question mark for what is no character, or none that is seen.
 pub fn text(bytes: &[u8]) -> String {
     let mut text = String::new();
     for chunk in bytes.utf8_chunks() {
         let seen = |letter: char| match letter {
             '\t' => ' ',
-            '\u{feff}' => '?',
+            '\u{200b}'..='\u{200f}' | '\u{2028}'..='\u{202e}' => '?',
+            '\u{2060}'..='\u{206f}' | '\u{feff}' => '?',
             letter if letter.is_control() => '?',
             letter => letter,
         };

@@ -3,7 +3,7 @@
 use super::{check_in, says};
 
 /// A line of a user table, and its hint; none is "".
-const HINTS: [(&[u8], &str); 54] = [
+const HINTS: [(&[u8], &str); 67] = [
     (
         b"\xef\xbb\xbf# a comment",
         "the line starts with a byte order mark (BOM): take its three bytes away",
@@ -90,7 +90,10 @@ const HINTS: [(&[u8], &str); 54] = [
         b"0 0 * * backup",
         "five time fields stand before the command; is one missing?",
     ),
-    (b"0 0 * /bin/x y", ""),
+    (
+        b"0 0 * /bin/x y",
+        "five time fields stand before the command; is one missing?",
+    ),
     (
         b"0 12 ? * * x",
         "other crons write ? for any value: write *",
@@ -107,6 +110,57 @@ const HINTS: [(&[u8], &str); 54] = [
         b"0 0 * * L x",
         "other crons write L for the last day: here days are numbers",
     ),
+    (
+        b"0 4 * ./backup",
+        "five time fields stand before the command; is one missing?",
+    ),
+    (
+        b"30 4 $HOME/bin/backup --all",
+        "five time fields stand before the command; is one missing?",
+    ),
+    (
+        b"0 0 * * jan x",
+        "the fields are minute, hour, day, month, weekday; the last two have names",
+    ),
+    (
+        b"0 0 * 1-mon * x",
+        "the fields are minute, hour, day, month, weekday; the last two have names",
+    ),
+    // A sixth field that says more than the fault itself.
+    (
+        b"0 0 12 ? * MON-FRI x",
+        "a time has five fields, without seconds and years; are there six?",
+    ),
+    (
+        b"0 30 4 * * 1-5 x",
+        "a time has five fields, without seconds and years; are there six?",
+    ),
+    // What looks like a blank, a dash or a quote.
+    (
+        b"0 0 * * *\xc2\xa0x",
+        "a no-break space stands here: only spaces and tabs are blanks",
+    ),
+    (
+        b"\xc2\xa00 0 * * * x",
+        "a no-break space stands here: only spaces and tabs are blanks",
+    ),
+    (
+        b"0 0 1\xe2\x80\x935 * * x",
+        "a dash or a quote of an editor stands here: the plain ones are - and \" and '",
+    ),
+    (
+        b"\xe2\x80\x9cA B\xe2\x80\x9d=c",
+        "a dash or a quote of an editor stands here: the plain ones are - and \" and '",
+    ),
+    (
+        b"0 0 * * * x\r0 0 * * * y\r",
+        "lines end in LF: tr '\\r' '\\n' makes one of each CR",
+    ),
+    (
+        b"CRON_TZ=+01:00 # Paris",
+        "a value goes up to the line's end: nothing may stand behind an offset, no comment either",
+    ),
+    (b"CRON_TZ=+15:00", ""),
     // In a range or a list it is a mistyped name.
     (b"0 0 * * mon-fry x", ""),
     (b"0 0 * * mon,wen x", ""),
@@ -171,6 +225,25 @@ fn a_habit_has_its_hint() {
     }
 }
 
+/// A line behind one that ends in a backslash is what should go on with it.
+#[test]
+fn a_command_does_not_go_on() {
+    let check = check_in("check-hints-continued");
+    let hint = "    hint: a command is one line: a \\ at its end doesn't join it with the next\n";
+    for (line, has_hint) in [
+        ("   --bar", true),
+        ("7z x", true),
+        ("0 x", true),
+        ("0 24 * * * x", false),
+    ] {
+        let (text, _) = says(&check, &[], format!("0 4 * * * foo \\\n{line}\n"));
+        assert!(text.starts_with("t:2:"), "{text}");
+        assert_eq!(text.contains(hint), has_hint, "{text}");
+        let (text, _) = says(&check, &[], format!("\n{line}\n"));
+        assert!(!text.contains(hint), "{text}");
+    }
+}
+
 /// By the rules of the table.
 #[test]
 fn some_habits_go_by_the_rules() {
@@ -181,13 +254,14 @@ fn some_habits_go_by_the_rules() {
         "    hint: zones have no names here: write what the clock is ahead of UTC, as +09:00\n";
     let ranges = "    hint: two ranges say it in either dialect, as 22-23,0-3 for 22-3\n";
     let sunday = "    hint: in the wrapping dialect Sunday is 0\n";
-    let rows: [(&[&str], &str, &str); 12] = [
+    let rows: [(&[&str], &str, &str); 13] = [
         (&["-s"], "0 0 * * * demo", user),
         (&["-s"], "@daily demo", user),
         (&["-s"], "0 0 * * *", ""),
         (&[], "0 0 * * *", ""),
         (&["-s"], "0 0 * * * /bin/demo x", user),
         (&["-s"], "0 0 * * * * root x", six),
+        (&["-s"], "0 0 4 * * ? root x", six),
         (&[], "CRON_TZ=Japan", zone),
         (&[], "CRON_TZ='Europe/Oslo'", zone),
         (&[], "CRON_TZ=+5:30", ""),

@@ -1,9 +1,10 @@
 //! Random tables of every kind and dialect, against the second program.
 
 use super::{check_in, says, short};
+use c::shown::times;
 use c::{told, word, Subcommand};
 use second::random::Random;
-use second::table::{read, samples, Dialect, Entry, Fault, Kind, Rules};
+use second::table::{read, samples, Dialect, Entry, Fault, Kind, Rules, When};
 use std::path::PathBuf;
 
 fn options(rules: Rules) -> Vec<&'static str> {
@@ -176,13 +177,17 @@ fn the_caret_is_in_the_column_that_is_told() {
     assert!(seen > 100, "only {seen} carets were seen");
 }
 
-/// What an entry means, wherever it stands.
+/// What an entry runs and when, wherever it stands and however it is written.
 fn meaning<'a>(entry: &'a Entry, table: &'a [u8]) -> impl PartialEq + 'a {
     let names = entry
         .column
         .parts()
         .map(|part| part.map(|part| part.of(table)));
-    (entry.when, entry.offset, names, entry.command)
+    let when = match entry.when {
+        When::Reboot => None,
+        When::Times(schedule) => Some((times(&schedule), entry.offset)),
+    };
+    (when, names, entry.command)
 }
 
 /// The lines and names of the warnings that the second program finds: of the same entries, and of those that never fire.
@@ -223,9 +228,9 @@ fn narrow_table(random: &mut Random, rules: Rules) -> String {
             random.pick(&["a", "b"])
         ),
         _ => {
-            let day = random.pick(&["30", "31", "29", "30-31", "*/30", "1"]);
+            let day = random.pick(&["30", "31", "29", "30-31", "*/30", "1", "1-31", "*"]);
             let month = random.pick(&["2", "feb", "4,6", "4-6/2", "*", "2,3"]);
-            let weekday = random.pick(&["*", "*/2", "1"]);
+            let weekday = random.pick(&["*", "*/2", "1", "0-6"]);
             format!(
                 "0 0 {day} {month} {weekday} {}{}\n",
                 random.pick(&user),

@@ -39,7 +39,7 @@ fn the_caret_is_under_the_place() {
     );
     assert_eq!(
         shown("CRON_TZ = utc z\n".as_bytes()),
-        is("CRON_TZ = utc z", "          ^~~")
+        is("CRON_TZ = utc z", "          ^~~~~")
     );
 }
 

@@ -4,7 +4,7 @@ use super::{explained, words};
 use c::Subcommand;
 
 /// Times and their words. Several spellings of one entry stand in a row.
-const ROWS: [(&[&str], &str); 43] = [
+const ROWS: [(&[&str], &str); 45] = [
     (&["@reboot"], "at boot"),
     (
         &["* * * * *", "0-59 0-23 1-31 1-12 0-7", "*/1 * * * *"],
@@ -43,6 +43,11 @@ const ROWS: [(&[&str], &str); 43] = [
         "at 04:00, 04:30, 16:00 and 16:30 every day",
     ),
     (&["*/5 8-17 * * *"], "every 5 minutes in the hours 8 to 17"),
+    (
+        &["0 9-17 * * 1-5"],
+        "hourly from 09:00 to 17:00 on Mondays to Fridays",
+    ),
+    (&["15 0-22 * * *"], "hourly from 00:15 to 22:15"),
     (&["* 4 * * *"], "every minute in the hour 4"),
     (
         &["* 22,23,0 * * *"],

@@ -1,33 +1,24 @@
 //! Random entries: their words, read back, mean what the second program reads.
 
-use super::reader::{read as read_words, sunday_first, Meaning, EVERY};
+use super::reader::{read as read_words, sunday_first, Meaning};
 use super::words;
-use c::shown::reading;
+use c::shown::{reading, times};
 use c::Subcommand;
 use second::random::Random;
 use second::schedule::Schedule;
 use second::table::{read, samples, Kind, Rules, When};
 use std::collections::HashMap;
 
-/// What the words should mean. Where either set of days is enough and one of them has every day, every day is meant.
+/// What the words should mean.
 fn meant(schedule: &Schedule) -> Meaning {
-    let [minutes, hours, days, months, weekdays, stars] = schedule.numbers();
-    let meaning = Meaning {
+    let ([minutes, hours, days, months, weekdays], either) = times(schedule);
+    Meaning {
         minutes,
         hours,
         days,
         months,
         weekdays,
-        either: stars == 0,
-    };
-    match stars == 0 && (days == EVERY.days || weekdays == EVERY.weekdays) {
-        true => Meaning {
-            days: EVERY.days,
-            weekdays: EVERY.weekdays,
-            either: false,
-            ..meaning
-        },
-        false => meaning,
+        either,
     }
 }
 

@@ -70,6 +70,11 @@ fn read_time(words: &str, meaning: &mut Meaning) {
             }
             other => panic!("{other:?}"),
         }
+    } else if let Some(times) = words.strip_prefix("hourly from ") {
+        let (first, last) = times.split_once(" to ").expect("two times");
+        meaning.hours = steps(number(&first[..2]), 1, number(&last[..2]) + 1);
+        meaning.minutes = 1 << number(&first[3..]);
+        assert_eq!(first[3..], last[3..], "{words}");
     } else if let Some(minutes) = words.strip_prefix("hourly at ") {
         meaning.minutes = list(minutes, |minute| number(&minute[1..]));
     } else {
