@@ -12,8 +12,8 @@ uint64_t first_character(struct part text);
 
 /*
  * Writes the first character of a text, which has so many bytes, as it is shown; answers where the next goes. A tab is a blank.
- * What can't be shown is a question mark: control characters, bytes that belong to none, and marks that have no shape, as those that
- * turn the direction of a text.
+ * What can't be shown is a question mark: control characters, bytes that belong to none, and marks without a shape, as those
+ * that turn the direction of a text.
  */
 char *show_character(char *to, struct part text, uint64_t length);
 

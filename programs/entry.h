@@ -47,8 +47,8 @@ struct part text_of(const struct file *table, const struct entry *entry);
 struct part write_time(struct part line, const struct entry *entry, uint8_t text[EREMOTHYN_MAX_LINE + 2]);
 
 /*
- * The days on which an entry fires: those that are in both sets, or in either. Where either is enough and one of them has every day,
- * that is every day, and is said so: both have all.
+ * The days on which an entry fires: those that are in both sets, or in either. Where either is enough and one of them has every
+ * day, that is every day, and is said so: both have all.
  */
 struct day_rule {
     uint64_t days;

@@ -101,7 +101,7 @@ static bool is_path(const struct sight *sight)
     return memchr("/.$", word.start[0], 3) != NULL || starts_with(word, "~/");
 }
 
-/* A word of letters there; in a list or a range it is a mistyped name. */
+/* A word of letters in the last field's place; in a list or a range it is a mistyped name. */
 static bool is_command(const struct sight *sight)
 {
     bool is_whole = sight->flawed.text.length == sight->spot.word.length;
@@ -306,7 +306,7 @@ static const struct habit {
     HABIT(BAD_SETTING, is_entry, "an entry starts with a digit, * or @"),
     HABIT(USER_MALFORMED, is_field, SIX_FIELDS),
     HABIT(USER_MALFORMED, always, USER_FIRST),
-    HABIT(OFFSET_MALFORMED, is_followed, "a value goes up to the line's end: nothing may stand behind an offset, no comment either"),
+    HABIT(OFFSET_MALFORMED, is_followed, "a value goes up to the line's end: no comment may stand behind an offset"),
     HABIT(OFFSET_MALFORMED, is_zone, "zones have no names here: write what the clock is ahead of UTC, as +09:00"),
     HABIT(CONTROL_BYTE, is_cr_lf, "lines end in LF, without a CR before it: tr -d '\\r' takes them away"),
     HABIT(CONTROL_BYTE, has_crs, "lines end in LF: tr '\\r' '\\n' makes one of each CR"),

@@ -22,7 +22,7 @@ struct view {
     struct part line;
 };
 
-/* Where a warning points, and how far; no bytes where there is none. Where there is one, its words are set. Each look is for lines of one kind. */
+/* Where a warning points, and how far; no bytes where there is none. Where there is one, its words are set. */
 typedef struct part look(const struct view *view, char words[MOST_WORDS_OF_WARNING]);
 
 static struct part none(void)
@@ -82,20 +82,28 @@ static struct part look_for_six_fields(const struct view *view, char words[MOST_
     return word;
 }
 
+/* The first element of a field whose step is longer than so many values. */
+static struct part long_step(struct part field, uint64_t values)
+{
+    while (field.start != NULL) {
+        struct part step, element = cut_at(',', field, &field);
+        cut_at('/', element, &step);
+        if (step.start != NULL && number_of(step) > values)
+            return element;
+    }
+    return none();
+}
+
 /* A step that is longer than its field, as 90 is among minutes: it leaves one value, and doesn't go on in the next hour. */
 static struct part look_for_step(const struct view *view, char words[MOST_WORDS_OF_WARNING])
 {
-    for (int field = 0; field < words_of_time(view->line); field++) {
-        uint64_t values = last_of(field, view->table->rules.dialect) - FIELD[field].first + 1;
-        struct part step, rest = word_of(view->line, field);
-        do {
-            struct part element = cut_at(',', rest, &rest);
-            cut_at('/', element, &step);
-            if (step.start == NULL || number_of(step) <= values)
-                continue;
-            snprintf(words, MOST_WORDS_OF_WARNING, "%s: a step of more than %" PRIu64 " leaves one value", FIELD[field].name, values);
+    for (int number = 0; number < words_of_time(view->line); number++) {
+        const struct field *field = &FIELD[number];
+        uint64_t values = last_of(number, view->table->rules.dialect) - field->first + 1;
+        struct part element = long_step(word_of(view->line, number), values);
+        snprintf(words, MOST_WORDS_OF_WARNING, "%s: a step of more than %" PRIu64 " leaves one value", field->name, values);
+        if (element.length > 0)
             return element;
-        } while (rest.start != NULL);
     }
     return none();
 }

@@ -158,7 +158,7 @@ const HINTS: [(&[u8], &str); 67] = [
     ),
     (
         b"CRON_TZ=+01:00 # Paris",
-        "a value goes up to the line's end: nothing may stand behind an offset, no comment either",
+        "a value goes up to the line's end: no comment may stand behind an offset",
     ),
     (b"CRON_TZ=+15:00", ""),
     // In a range or a list it is a mistyped name.
