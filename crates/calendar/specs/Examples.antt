@@ -3,7 +3,10 @@
 use mathlib.Core.Path.{_≡_, refl}
 use mathlib.Core.List.{List, [], _∷_}
 use Prim.Native.Nat.{ℕ, zero, suc}
+use mathlib.Core.Logic.{inl, inr}
+use native.Mathlib.Omega.{arith}
 use Rattle.calendar.specs.Dates.{dateOf, minuteOf}
+use Rattle.calendar.specs.Order.{Earlier}
 use Rattle.calendar.specs.Computing.{dating}
 
 -- minute 0 is 1970-01-01 00:00, a Thursday
@@ -68,3 +71,10 @@ months-of-1970 :
     ≡ 0 ∷ 44640 ∷ 84960 ∷ 129600 ∷ 172800 ∷ 217440 ∷ 260640 ∷ 305280 ∷ 349920 ∷ 393120 ∷ 437760 ∷ 480960 ∷ []
 unfolding firsts dating
 months-of-1970 = refl
+
+-- a date isn't earlier than itself
+not-itself : Earlier (2000 ∷ 2 ∷ []) (2000 ∷ 2 ∷ []) → ⊥
+unfolding Earlier
+not-itself (inl h) = omega arith
+not-itself (inr (e, inl h)) = omega arith
+not-itself (inr (e, inr (d, h))) = h

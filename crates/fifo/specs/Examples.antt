@@ -1,10 +1,11 @@
 -- Paper 01's whole run, computed from the definitions in a buffer of 90 bytes: table `* * * * * a`, `@reboot b`, `0 * * * * c`.
 -- Assumes nothing.
-use mathlib.Core.Path.{_≡_, refl}
+use mathlib.Core.Path.{_≡_, refl, sym}
 use Prim.Native.Nat.{ℕ, zero, suc, _%_}
-use mathlib.Core.Bool.{Bool, true, false}
+use mathlib.Core.Bool.{Bool, true, false, true≢false}
 use mathlib.Core.List.{List, [], _∷_, _++_, map}
 use mathlib.Core.Logic.{_⊎_, inl, inr}
+use native.Mathlib.Omega.{arith}
 use lib.Dec.{eqb}
 use lib.ListN.{replicate}
 use Rattle.bytes.specs.Laid as front
@@ -20,8 +21,11 @@ use Rattle.fifo.specs.WaitingLine.{standsIn, entriesOf, pick}
 use Rattle.fifo.specs.Queue.{numbers, bytes, counted, queueOf, queueImage, queueLaid, queueRoomy, isQueue}
 use Rattle.fifo.specs.Layout.{head, formatOf, markOf, lineOf, image, laid, roomy, isLine}
 use Rattle.fifo.specs.Steps.{Jobs, fresh, initStep, calls, joins, joiners, ticked, tickStep, front, behind, popped, popStep, standing, entryStep}
-use Rattle.fifo.specs.Fairness.{Call, tick, pop, roomAfter, Paced, upTo, bound}
+use Rattle.fifo.specs.Refusals.{tickRefusal, popRefusal}
+use Rattle.fifo.specs.Fairness.{Call, tick, pop, roomOf, roomAfter, refusal, isRefused, unrefused, lineAfter, Follows, Paced, upTo, Names, bound}
+use Rattle.fifo.specs.RefusedCalls.{expected, Expected}
 use Rattle.fifo.specs.Buffer.{tickIn, popIn, lent, callOn, bufferAfter, callsOn, started}
+use Rattle.fifo.specs.Steady.{steady}
 
 three : Jobs
 three = record { count = 3; boot = λ e. eqb e 1; fixed = λ e. false; matches = matching }
@@ -110,3 +114,60 @@ bound-is-met = refl
 bounds : (bound pair 21036960 ≡ 21036961) × (bound three 21036960 ≡ 21036962)
 unfolding pair three
 bounds = (refl, refl)
+
+-- ---- the words of the demand's claim
+
+-- The line of entry 1 and no mark, and that of the entries 1, 0 and 2 with the mark 60, with other bytes behind each.
+abbrev booted : List ℕ
+booted = begun ++ 1 ∷ 0 ∷ 1 ∷ 0 ∷ replicate 20 7
+
+abbrev after60 : List ℕ
+after60 = 69 ∷ 82 ∷ 81 ∷ 49 ∷ 61 ∷ 0 ∷ 0 ∷ 0 ∷ 3 ∷ 0 ∷ 1 ∷ 0 ∷ 0 ∷ 0 ∷ 2 ∷ 0 ∷ replicate 5 9
+
+-- A list that goes on from the fresh line: a room that is too small may hold anything, what stands behind a line doesn't matter, rooms may differ
+-- in size, and a call that is refused, with 28 or with 14, leaves the line.
+follows : Follows three (fresh three) (pop [] ∷ tick 60 (replicate 15 1) ∷ tick 4223371680 booted ∷ tick 60 booted ∷ pop after60 ∷ [])
+unfolding three running roomOf lineAfter isRefused refusal tickRefusal popRefusal
+follows = ((λ h. absurd (true≢false (sym h))), ((λ h. absurd (true≢false (sym h))), ((λ h. refl), ((λ h. refl), ((λ h. refl), tt)))))
+
+-- Refused calls are dropped, those with 28 and those with 14; "nothing waits" is no refusal.
+unrefused-run :
+    unrefused three (pop [] ∷ tick 60 (replicate 15 1) ∷ tick 4223371680 booted ∷ tick 60 booted ∷ pop after60 ∷ pop (begun ++ replicate 8 0) ∷ [])
+    ≡ tick 60 booted ∷ pop after60 ∷ pop (begun ++ replicate 8 0) ∷ []
+unfolding three running unrefused isRefused refusal tickRefusal popRefusal
+unrefused-run = refl
+
+-- Only a request names an entry, and only the front: entry 0 has joined, waits behind entry 1, and isn't named.
+named : Names three 1 (tick 60 booted ∷ pop after60 ∷ [])
+unfolding three running
+named = inl refl
+
+not-named : Names three 0 (tick 60 booted ∷ pop after60 ∷ []) → ⊥
+unfolding three running
+not-named (inl e) = let z : _≡_ {A = ℕ} 1 0 = cc in omega arith
+not-named (inr e) = e
+
+-- a call is lent as many bytes of the buffer as it says: 15 are too few for three entries, and 16 enough
+lent-run :
+    map (answer three) (callsOn three (started three 88 (replicate 90 7)) (popIn 15 ∷ tickIn 60 15 ∷ popIn 16 ∷ []))
+    ≡ inr (NotPopped 28) ∷ inl (NotTicked 28) ∷ inr (Entry 1) ∷ []
+unfolding three answer running
+lent-run = refl
+
+-- each minute is announced, and one request follows
+steady-list : steady 14 5 2 ≡ tickIn 5 14 ∷ popIn 14 ∷ tickIn 6 14 ∷ popIn 14 ∷ []
+unfolding steady
+steady-list = refl
+
+-- Which refusal the room's length and the minute call for: 28 before 14. A call is as expected only if it is refused for these: a room that is
+-- big enough and holds no line isn't.
+expected-are :
+    map (expected three)
+    (tick 4223371680 (replicate 15 0) ∷ tick 4223371680 booted ∷ tick 4223371679 booted ∷ tick 59 (replicate 15 0) ∷ pop (replicate 15 0) ∷ pop (replicate 16 0) ∷ [])
+    ≡ 28 ∷ 14 ∷ 0 ∷ 28 ∷ 28 ∷ 0 ∷ []
+unfolding three running expected
+expected-are = refl
+
+not-expected : Expected three (pop (replicate 90 0) ∷ []) → ⊥
+unfolding three running expected refusal popRefusal
+not-expected (e, rest) = omega (arith, e)

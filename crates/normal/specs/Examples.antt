@@ -5,12 +5,15 @@ use mathlib.Core.Path.{refl}
 use mathlib.Core.Bool.{true, false}
 use mathlib.Core.List.{List, [], _∷_, _++_}
 use lib.ListN.{replicate}
+use lib.IntN.{ℤ, pos, negsuc}
 use Rattle.bytes.specs.Texts.{text}
 use Rattle.bytes.specs.Rows.{Hold}
 use Rattle.field.specs.declared.Dialect.the-variants.{Rising, Wrapping}
 use Rattle.normal.specs.declared.NormalAnswer.{NormalAnswer}
 use Rattle.normal.specs.declared.NormalAnswer.the-variants.{Written, Refused}
-use Rattle.normal.specs.Meanings.{meaningOf}
+use Rattle.crontab.specs.Offsets.{utc}
+use Rattle.crontab.specs.Items.{itemsOf}
+use Rattle.normal.specs.Meanings.{ofUser, meaningOf, offsetsFrom, entryOffsets}
 use Rattle.normal.specs.Texts.{normalText}
 use Rattle.normal.specs.Proper.{isName, isValue, isCommand}
 use Rattle.normal.specs.NormalForms.{normalForm}
@@ -183,3 +186,20 @@ wrapped : Hold rewritten
     ∷ [])
 unfolding writing thrice
 wrapped = refl
+
+-- ---- ticket 2026-09: the offsets that a table's entries are under, by its meaning and as they have them
+
+abbrev offsets : List ℕ → List ℤ × List ℤ
+offsets s = (offsetsFrom utc (meaningOf Rising s), entryOffsets (itemsOf (ofUser Rising) s))
+
+under : Hold offsets
+    (
+    -- each until the next one; another setting changes none
+    (
+      text "@reboot a\nCRON_TZ=-03:30\n@reboot b\nA=+01:00\n0 0 * * * c\n'CRON_TZ'='+05:45'\n#\n@reboot d\n@reboot e\n",
+      (pos 0 ∷ negsuc 209 ∷ negsuc 209 ∷ pos 345 ∷ pos 345 ∷ [], pos 0 ∷ negsuc 209 ∷ negsuc 209 ∷ pos 345 ∷ pos 345 ∷ []),
+    )
+    ∷ (text "CRON_TZ=+01:00\n", ([], []))
+    ∷ [])
+unfolding offsetsFrom entryOffsets writing
+under = refl

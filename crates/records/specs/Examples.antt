@@ -1,19 +1,21 @@
 -- Worked examples of ticket 2026-08 by table bytes and by record bytes, checked by computing.
 -- Assumes nothing.
-use mathlib.Core.Path.{refl}
+use mathlib.Core.Path.{_≡_, refl}
 use mathlib.Core.List.{List, [], _∷_, _++_}
-use Prim.Native.Nat.{ℕ, zero, suc}
+use Prim.Native.Nat.{ℕ, zero, suc, _≤_}
 use native.Mathlib.Omega.{arith}
-use lib.ListN.{take, drop, replicate}
+use lib.ListN.{length, take, drop, replicate}
 use Rattle.bytes.specs.Texts.{text}
 use Rattle.bytes.specs.Rows.{Hold}
 use Rattle.field.specs.declared.Dialect.the-variants.{Rising}
 use Rattle.normal.specs.declared.NormalAnswer.{NormalAnswer}
 use Rattle.normal.specs.declared.NormalAnswer.the-variants.{Written, Refused}
-use Rattle.normal.specs.Meanings.{meaningOf}
+use Rattle.schedule.specs.declared.Schedule.{Schedule}
+use Rattle.normal.specs.Meanings.{meaningOf, setting, boot}
+use Rattle.normal.specs.Meanings as item
 use Rattle.records.specs.Formats.{recordsOf}
 use Rattle.records.specs.Calls.{compiled, decompiled, recordFault}
-use Rattle.records.specs.Writers.{Keeps, new}
+use Rattle.records.specs.Writers.{Record, Framed, kept, Keeps, same, new, ChangesNone}
 use Rattle.records.specs.Computing.{coding}
 
 -- ---- the writer
@@ -193,3 +195,32 @@ sets = refl
 later-kinds :
     Keeps (new (record { kind = 0; body = [] })) × Keeps (new (record { kind = 5; body = [] })) × Keeps (new (record { kind = 32767; body = [] }))
 later-kinds = ((λ h k. omega (arith, h)), (λ h k. omega (arith, k)), (λ h k. omega (arith, k)))
+
+-- and every setting and every entry that the bytes of a body can say, however long
+later-settings : (name value : List ℕ) → length name ≤ 65535 → Keeps (same (setting name value))
+later-settings name value h = omega (arith, h)
+
+later-boots : (command : List ℕ) → Keeps (same (boot command))
+later-boots command = tt
+
+later-entries : (s : Schedule) (command : List ℕ)
+    → s .minutes ≤ 18446744073709551615 → s .hours ≤ 4294967295 → s .days ≤ 4294967295 → s .months ≤ 65535 → s .weekdays ≤ 255
+    → Keeps (same (item.timed s command))
+later-entries s command a b c d e =
+    record { minutes = omega (arith, a); hours = omega (arith, b); days = omega (arith, c); months = omega (arith, d); weekdays = omega (arith, e) }
+
+-- in records of any kind, and as long as two bytes of length can say
+later-frames : (body : List ℕ) → length body ≤ 65533 → Framed (record { kind = 65535; body = body })
+later-frames body h = record { kind = omega arith; body = omega (arith, h) }
+
+-- kinds from 32,768 on are taken out, and no other
+abbrev ofKind : ℕ → Record
+ofKind kind = record { kind = kind; body = [] }
+
+taken-out : kept (ofKind 32767 ∷ ofKind 32768 ∷ ofKind 0 ∷ ofKind 65535 ∷ ofKind 4 ∷ []) ≡ ofKind 32767 ∷ ofKind 0 ∷ ofKind 4 ∷ []
+unfolding kept
+taken-out = refl
+
+-- and only they change no entry
+changes-some : ChangesNone (same (boot (text "x")) ∷ new (ofKind 32768) ∷ new (ofKind 32767) ∷ []) → ⊥
+changes-some (h, (k, r)) = omega (arith, k)

@@ -29,7 +29,7 @@ use Rattle.fifo.specs.Steps.{Step, calls, joins, joiners, ticked, refilled}
 use Rattle.fifo.proofs.Theorems.{fresh-line, announced-line}
 use Rattle.runqueue.specs.Jobs.{jobAt, jobsOf}
 use Rattle.runqueue.specs.Demand.{aheadOf}
-use Rattle.runqueue.specs.Chain.{emptied, announced, joinsOver, BothEnds, FreshUnmarked, userRules, midnightTable, midnights, MarkNeeded, westEvenings, ShiftMet, ShiftFails}
+use Rattle.runqueue.specs.Chain.{emptied, announced, joinsOver, OnBoth, Shifting, BothEnds, FreshUnmarked, userRules, midnightTable, midnights, MarkNeeded, westEvenings, ShiftMet, ShiftFails}
 use Rattle.runqueue.proofs.Exits.{init-good, tick-good}
 use Rattle.runqueue.proofs.TableJobs.{few}
 
@@ -82,6 +82,31 @@ shift-fails = (
 
 pub both-ends : BothEnds
 both-ends = (record { utc = omega arith; from = omega arith; to = omega arith }, record { utc = omega arith; from = omega arith; to = omega arith })
+
+-- and the first ones, at +14:00, in UTC and at -12:00
+pub both-starts : OnBoth 1560 0 × OnBoth 720 0 × OnBoth 0 720
+both-starts = (
+  record { utc = omega arith; from = omega arith; to = omega arith },
+  record { utc = omega arith; from = omega arith; to = omega arith },
+  record { utc = omega arith; from = omega arith; to = omega arith },
+)
+
+-- A start may be the calendar's first minute, and the later answer its last, in UTC and, locally, at +14:00.
+pub shift-reaches : Shifting 720 0 4012991999 × Shifting 1560 0 4012991159
+shift-reaches = (
+  record {
+    start = record { utc = omega arith; from = omega arith; to = omega arith };
+    shifted = record { utc = omega arith; from = omega arith; to = omega arith };
+    answer = record { utc = omega arith; from = omega arith; to = omega arith };
+    other = record { utc = omega arith; from = omega arith; to = omega arith };
+  },
+  record {
+    start = record { utc = omega arith; from = omega arith; to = omega arith };
+    shifted = record { utc = omega arith; from = omega arith; to = omega arith };
+    answer = record { utc = omega arith; from = omega arith; to = omega arith };
+    other = record { utc = omega arith; from = omega arith; to = omega arith };
+  },
+)
 
 -- ---- a fresh line
 

@@ -158,3 +158,28 @@ pub demand-ends :
     × OnCalendar (record { kind = User; dialect = Rising }) (text "CRON_TZ=+14:00\n* * * * * a\n") 0 (4223370839 - 21037140)
 unfolding jobsOf jobAt reading
 demand-ends = (record { utc = leb-true _ _ refl; local = leb-true _ _ refl }, record { utc = leb-true _ _ refl; local = leb-true _ _ refl })
+
+-- The demand's bound: 720 minutes are added where t falls before 1970 locally, and nowhere else; and a minute for each entry but one. And t may be
+-- the calendar's first minute, before 1970 locally too.
+pub demand-begins :
+    let rules : Rules = record { kind = User; dialect = Rising } in
+    let west = text "CRON_TZ=-12:00\n* * * * * a\n" in
+    let east = text "CRON_TZ=+14:00\n* * * * * a\n" in
+    let three = text "* * * * * a\n@reboot b\n* * * * * c\n" in
+    (boundFrom rules west 0 719 ≡ 21037860)
+    × (boundFrom rules west 0 720 ≡ 21037140)
+    × (boundFrom rules east 0 0 ≡ 21037140)
+    × (boundFrom rules three 2 0 ≡ 21037142)
+    × OnCalendar rules west 0 0
+    × OnCalendar rules east 0 0
+    × OnCalendar rules three 2 0
+unfolding jobsOf jobAt reading
+demand-begins = (
+  refl,
+  refl,
+  refl,
+  refl,
+  record { utc = leb-true _ _ refl; local = leb-true _ _ refl },
+  record { utc = leb-true _ _ refl; local = leb-true _ _ refl },
+  record { utc = leb-true _ _ refl; local = leb-true _ _ refl },
+)

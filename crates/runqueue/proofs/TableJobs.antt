@@ -1,7 +1,7 @@
 -- What the theorems of `fifo` ask of jobs holds of a table's: a minute calls an entry that can fire soon, by the schedule's gap, and the entries
 -- are few.
 -- Assumes nothing.
-use mathlib.Core.Path.{_≡_, refl}
+use mathlib.Core.Path.{_≡_, refl, sym}
 use mathlib.Core.Bool.{Bool, true, false, cond, true≢false}
 use mathlib.Core.List.{List}
 use Prim.Native.Nat.{ℕ, _+_, _≤_, _<_}
@@ -9,15 +9,15 @@ use native.Mathlib.Nat.{lt-of-not-le}
 use native.Mathlib.Decide.{decLe}
 use native.Mathlib.Omega.{arith}
 use lib.Dec.{ltb}
-use borrow.Author.Tests.{lt-ltb, le-ltb}
+use borrow.Author.Tests.{lt-ltb, le-ltb, ltb-true}
 use Rattle.calendar.specs.Dates.{cycleMinutes}
 use Rattle.schedule.specs.declared.Schedule.{Schedule}
 use Rattle.schedule.specs.Match.{matches}
 use Rattle.schedule.specs.Next.{canFire}
 use Rattle.schedule.specs.Gap.{gap}
 use Rattle.schedule.specs.Local.{gapIn, matchesIn}
-use Rattle.schedule.proofs.Search.{from-some}
-use Rattle.schedule.proofs.Theorems.{fires-within-in}
+use Rattle.schedule.proofs.Search.{from-some, some-from}
+use Rattle.schedule.proofs.Theorems.{fires-within-in, matching-fires-in}
 use Rattle.crontab.specs.declared.Rules.{Rules}
 use Rattle.crontab.specs.declared.time.When.{When}
 use Rattle.crontab.specs.declared.time.When.the-variants.{Reboot, Timed}
@@ -71,3 +71,18 @@ soon rules table e t f on =
 pub few : (rules : Rules) (table : List ℕ) → jobsIn rules table .count < limit
 unfolding jobsOf
 few rules table = omega (arith, table-sound rules table .few)
+
+-- an entry that any minute matches can fire: the claims leave none of them out
+pub matching-can-fire : (rules : Rules) (table : List ℕ) (e m : ℕ) → e < jobsIn rules table .count → jobsIn rules table .matches e m ≡ true
+    → CanFire rules table e
+unfolding jobsOf isBoot firesAt canFire
+matching-can-fire rules table e m h t =
+    let (boot, n, below, matched) = go (jobAt (tableOf rules table) e .when) t in
+    record { entry = h; timed = boot; minute = n; cycle = below; matched = matched }
+  where
+    go : (w : When) → byWhen w false (λ s. matchesIn s (aheadOf rules table e) m) ≡ true
+        → (byWhen w true (λ s. false) ≡ false) × (n : ℕ) × (n < cycleMinutes) × (byWhen w false (λ s. matches s n) ≡ true)
+    go Reboot x = absurd (true≢false (sym x))
+    go (Timed s) x =
+        let (n, u, v, y) = some-from (matches s) cycleMinutes 0 (omega arith) (ltb-true _ _ (matching-fires-in s (aheadOf rules table e) m x)) in
+        (refl, n, v, y)

@@ -3,13 +3,15 @@
 --   table-refused-only: a call is refused only for too little room or for a minute off the calendar
 --   hold-reached: a case in which the demand's bound is met exactly
 --   demand-ends: its last minute may be the last of the calendar, in UTC and locally
+--   demand-begins: t may be its first, and where 720 minutes are added
+--   matching-can-fire: an entry that any minute matches is one of those that can fire
 --   chain-is-due: "starting from any minute and asking for next firing again and again yields exactly the later calendar minutes that match
 --     the entry", none skipped or added (ticket 2026-14)
 --   chain-is-ticks: "as announcements one by one would find on a line with no mark at first and emptied before each"
 --   next-shifts: "shifting a start by 210,379,680 minutes shifts the answer by the same number, provided the start, the shifted start, both
 --     answers and, under an offset, their local minutes are on the calendar"
 --   chain-goes-on: the same on a line whose mark is the start
---   fresh-unmarked, shift-met, both-ends: their hypotheses can be met; mark-needed, shift-fails: and are needed
+--   fresh-unmarked, shift-met, shift-reaches, both-ends, both-starts: their hypotheses can be met; mark-needed, shift-fails: and are needed
 --   table-steps, table-steps-good, table-due: the claims speak of what the functions promise
 --   front-stands, request-moves: a look at place 0 tells who a request names, and a request moves everybody a place on
 --   init-told, tick-told, pop-told, entry-told: what the calls can answer
@@ -43,11 +45,12 @@ use Rattle.runqueue.specs.Demand.{jobsIn, TableDue, TableSteps, TableSte
 use Rattle.runqueue.proofs.Exits.{init-good, tick-good, pop-good}
 use Rattle.runqueue.proofs.Exits as exits
 pub use Rattle.runqueue.proofs.TableFair.{table-fair, table-fair-from, table-refused-only, table-fair-in-buffer, table-fair-steady}
-pub use Rattle.runqueue.proofs.Reached.{hold-reached, demand-ends}
+pub use Rattle.runqueue.proofs.Reached.{hold-reached, demand-ends, demand-begins}
+pub use Rattle.runqueue.proofs.TableJobs.{matching-can-fire}
 pub use Rattle.runqueue.proofs.Chains.{chain-is-due}
 pub use Rattle.runqueue.proofs.ChainTicks.{chain-is-ticks, chain-goes-on}
 pub use Rattle.runqueue.proofs.Shifts.{next-shifts}
-pub use Rattle.runqueue.proofs.ChainCases.{fresh-unmarked, mark-needed, shift-met, both-ends, shift-fails}
+pub use Rattle.runqueue.proofs.ChainCases.{fresh-unmarked, mark-needed, shift-met, shift-reaches, both-ends, both-starts, shift-fails}
 
 -- a table that has an entry isn't refused
 pub entry-good : (rules : Rules) (table : List ℕ) (e : ℕ) → e < jobsIn rules table .count → tableOf rules table .refusal ≡ 0

@@ -8,7 +8,10 @@ use Rattle.bytes.specs.Rows.{Hold}
 use Rattle.bytes.specs.Sets.{setOf, upTo}
 use Rattle.schedule.specs.declared.Stars.{Stars}
 use Rattle.schedule.specs.declared.Schedule.{Schedule}
+use Rattle.schedule.specs.declared.Next.{Next}
+use Rattle.schedule.specs.declared.Next.the-variants.{At, Never, PastEnd}
 use Rattle.schedule.specs.Match.{matches}
+use Rattle.schedule.specs.Next.{refusalOf, minuteIn}
 use Rattle.schedule.specs.Computing.{firing}
 
 -- the values of the five fields in their order, and which of them begin with `*`
@@ -123,3 +126,26 @@ matching : Hold matched
     ∷ [])
 unfolding schedules
 matching = refl
+
+-- bits that stand for no value match nothing: minute 60, hour 24, day 0, month 0 and 13, weekday 7; 1970-01-04 is a Sunday
+abbrev strayBits : List ℕ → List ℕ → List ℕ → List ℕ → List ℕ → Schedule
+strayBits minutes hours days months weekdays = fields minutes hours days months weekdays (starsAt true true true)
+
+strays : Hold matched
+    (((strayBits (60 ∷ []) (0 ∷ []) (upTo 1 31) (upTo 1 12) (upTo 0 6), 4320), false)
+    ∷ ((strayBits (60 ∷ []) (0 ∷ []) (upTo 1 31) (upTo 1 12) (upTo 0 6), 4380), false)
+    ∷ ((strayBits (0 ∷ []) (24 ∷ []) (upTo 1 31) (upTo 1 12) (upTo 0 6), 4320), false)
+    ∷ ((strayBits (0 ∷ []) (0 ∷ []) (0 ∷ []) (upTo 1 12) (upTo 0 6), 4320), false)
+    ∷ ((strayBits (0 ∷ []) (0 ∷ []) (upTo 1 31) (0 ∷ 13 ∷ []) (upTo 0 6), 4320), false)
+    ∷ ((strayBits (0 ∷ []) (0 ∷ []) (upTo 1 31) (upTo 1 12) (7 ∷ []), 4320), false)
+    ∷ ((strayBits (0 ∷ []) (0 ∷ []) (upTo 1 31) (upTo 1 12) (upTo 0 6), 4320), true)
+    ∷ [])
+unfolding schedules
+strays = refl
+
+-- paper 01's numbers and minutes of a next firing
+abbrev numbered : Next → ℕ × ℕ
+numbered n = (refusalOf n, minuteIn n)
+
+next-numbers : Hold numbered ((At 5, (0, 5)) ∷ (Never, (16, 0)) ∷ (PastEnd, (17, 0)) ∷ [])
+next-numbers = refl
