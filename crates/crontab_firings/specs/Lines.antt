@@ -1,9 +1,11 @@
 -- Ticket 2026-12: "a line each: minute, space, entry number".
 -- Assumes nothing.
-use mathlib.Core.Path.{_≡_, refl}
-use Prim.Native.Nat.{ℕ, zero, suc, _-_, _≤_, _<_}
+use mathlib.Core.Path.{_≡_, refl, ap}
+use Prim.Native.Nat.{ℕ, zero, suc, _-_, _^_, _≤_, _<_}
+use native.Mathlib.Nat.{zero-lt-suc, pow-le-pow-right}
+use native.Mathlib.Omega.{arith}
 use mathlib.Core.List.{List, [], _∷_, _++_}
-use lib.ListN.{getD}
+use lib.ListN.{length, getD}
 use Rattle.bytes.specs.Texts.{text}
 use Rattle.bytes.specs.Rows.{Hold}
 use Rattle.io.specs.Digits.{digits, Fewest}
@@ -19,6 +21,17 @@ digitsOf (size, n) = digits 10 size n
 
 numbers : Hold digitsOf (((1, 0), text "0") ∷ ((3, 105), text "105") ∷ ((10, 4223371679), text "4223371679") ∷ [])
 numbers = refl
+
+-- no zero stands in front
+no-zero : Decimal 5 (text "05") → ⊥
+no-zero d = go (d .size) (d .fewest) (d .is)
+  where
+    go : (k : ℕ) → Fewest 10 1 5 k → text "05" ≡ digits 10 k 5 → ⊥
+    go zero f e = omega (arith, f .0)
+    go (suc zero) f e = omega (arith, ap length e)
+    go (suc (suc k)) f e =
+        let ten : 10 ^ 1 ≤ 10 ^ (suc (suc k) - 1) = pow-le-pow-right (zero-lt-suc 9) (let q : 1 ≤ suc (suc k) - 1 = omega arith in q) in
+        omega (arith, f .2 (omega arith))
 
 abbrev pub space : ℕ
 space = 32
