@@ -28,7 +28,7 @@ use Rattle.crontab.specs.Items.{done, moved, placed, afterLine, lastFaul
 use Rattle.crontab.specs.Steps.{itemsAt, behind, Reached, LineAt, given, counted, Under, StepIs}
 use Rattle.crontab.proofs.Lines.{lineEnd, end-found, stop-found, lines-first, next-start, last-line, ended-line}
 use Rattle.crontab.proofs.Offsets.{force-in}
-use Rattle.crontab.proofs.Proper.{setting-proper, entry-proper}
+use Rattle.crontab.proofs.LineViews.{setting-proper, entry-proper}
 
 abbrev pub start : Cursor
 start = record { at = 0; line = 1; count = 0; offset = utc }

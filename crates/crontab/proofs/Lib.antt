@@ -1,10 +1,10 @@
 pub mod Words
 pub mod Users
 pub mod Owners
-pub mod Times
-pub mod Texts
+pub mod TimeViews
+pub mod TextViews
 pub mod Offsets
-pub mod Proper
+pub mod LineViews
 pub mod Zones
 pub mod Lines
 pub mod Items

@@ -49,6 +49,11 @@ lines-some b s = go (eqb b 10) (linesOf s)
     go false [] = refl
     go false (l ∷ later) = refl
 
+pub more-lines : (s : List ℕ) (at : ℕ) → at < length s → isLast (linesOf (drop at s)) ≡ false
+more-lines [] at h = absurd (omega arith)
+more-lines (b ∷ s) zero h = lines-some b s
+more-lines (b ∷ s) (suc at) h = more-lines s at (omega arith)
+
 cut-from : (s : List ℕ) (at : ℕ) → at < length s → isCut (drop at s) ≡ isCut s
 unfolding isCut
 cut-from [] at h = absurd (omega arith)

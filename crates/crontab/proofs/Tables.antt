@@ -76,19 +76,19 @@ added-in k i es e h = go (eqb k i) refl
         below : (k ≤ i → ⊥) → i < k + 1
         below j = let l = lt-of-not-le j in omega arith
 
-pub entry-found : (n k i : ℕ) (es : List Entry) (items : Items) → length es ≡ maxEntries → SoundItems n k items
+pub entry-found : (rules : Rules) (s : List ℕ) (m k i : ℕ) (es : List Entry) (items : Items) → length es ≡ maxEntries → SoundItems rules s m k items
     → entryIn (withItems (good k es) items) i ≡ entryFrom (entryIn (good k es) i) k i items
 unfolding withItems withEntry entryFrom
-entry-found n k i es done full sound = refl
-entry-found n k i es (fault number line column) full sound = refused-in number line column i (sound .0)
-entry-found n k i es (setting line name value later) full sound = entry-found n k i es later full (sound .2)
-entry-found n k i es (entry e later) full sound =
-    entry-found n (k + 1) i (set es k e) later (simp length-set full) (sound .2)
+entry-found rules s m k i es done full sound = refl
+entry-found rules s m k i es (fault number line column) full sound = refused-in number line column i (sound .0 .from)
+entry-found rules s m k i es (setting line name value later) full sound = entry-found rules s (line + 1) k i es later full (sound .2)
+entry-found rules s m k i es (entry e later) full sound =
+    entry-found rules s (e .line + 1) (k + 1) i (set es k e) later (simp length-set full) (sound .2)
     ∙ rw (added-in k i es e (omega (arith, full, sound .1)))
 
 pub table-entry : (rules : Rules) (s : List ℕ) (i : ℕ) → entryIn (tableOf rules s) i ≡ entryFrom (Refused 13) 0 i (itemsOf rules s)
 unfolding tableOf emptyTable refusedTable noEntries entryIn
-table-entry rules s i = entry-found (length s) 0 i noEntries (itemsOf rules s) refl (items-sound rules s) ∙ rw (none i)
+table-entry rules s i = entry-found rules s 1 0 i noEntries (itemsOf rules s) refl (items-sound rules s) ∙ rw (none i)
   where
     none : (i : ℕ) → entryIn (good 0 noEntries) i ≡ Refused 13
     none i = rw (le-ltb i 0 (omega arith))

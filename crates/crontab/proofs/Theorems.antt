@@ -8,6 +8,7 @@
 --   setting-inside, setting-short: where name and value stand
 --   next-setting: the first line from a line on that has a setting is the least one, and where there is none no line has one
 --   line-told: what is answered there, refused or not
+--   time-view, content-view, line-view: for each answer of reading a time or a line, all that is known of it
 --   zoned-is, setting-says: what a setting says of the offset, by its shown name and value; one that is read may stand
 --   due-told, next-told: what is said of an entry, refused or not
 --   next-in-gap: a next firing that is told is at most 21,036,960 minutes ahead, and 720 more from before 1970 locally
@@ -66,7 +67,7 @@ use Rattle.crontab.specs.Items.{Items, done, fault, setting, entry, move
 use Rattle.crontab.specs.Tables.{blankEntry, noEntries, refusedTable, emptyTable, withEntry, withItems, tableOf, entryIn}
 use Rattle.crontab.specs.Settings.{refusedSetting, shown, settingFrom, settingIn, nextLineIn}
 use Rattle.crontab.specs.Firings.{byWhen, firesAt, dueOf, told, nextOf, dueAnswer, dueIn, nextAnswer, nextIn}
-use Rattle.crontab.proofs.Proper.{Inside}
+pub use Rattle.crontab.proofs.LineViews.{Inside}
 use Rattle.crontab.proofs.Sound.{Sound, SoundItems, items-sound}
 use Rattle.crontab.proofs.Tables.{entryFrom, table-entry}
 pub use Rattle.crontab.proofs.Cuts.{cut-refused}
@@ -74,7 +75,10 @@ pub use Rattle.crontab.proofs.Owners.{behind-time}
 pub use Rattle.crontab.proofs.Reversed.{never-reversed, verdict-never-reversed}
 pub use Rattle.crontab.proofs.FirstDialect.{first-dialect-same}
 pub use Rattle.crontab.proofs.LineNumbers.{entry-on-line, HasSetting, HasNone, NextSetting, next-setting}
-pub use Rattle.crontab.proofs.Zones.{zoned-is, setting-says}
+pub use Rattle.crontab.proofs.Zones.{zoned-is}
+pub use Rattle.crontab.proofs.TimeViews.{FromField, FromFields, WhenView, TimeRead, TimeView, time-view}
+pub use Rattle.crontab.proofs.TextViews.{Quoted, NamePart, BareValue, ValuePart}
+pub use Rattle.crontab.proofs.LineViews.{contentStart, EntryView, SettingView, ContentView, content-view, LineView, line-view, setting-says}
 
 -- ---- a table
 
@@ -89,7 +93,10 @@ pub record SoundTable (n : ℕ) (t : Table) : Type 0 where
   pub line-few : t .line ≤ maxTable + 1
   pub column-few : t .column ≤ maxLine + 1
 
-module _ (n : ℕ) where
+module _ (rules : Rules) (s : List ℕ) where
+  abbrev n : ℕ
+  n = length s
+
   refused-sound : (number line column : ℕ) → 1 ≤ number → number ≤ 27 → line ≤ maxTable + 1 → column ≤ maxLine + 1 → SoundTable n (refusedTable number line column)
   unfolding refusedTable noEntries
   refused-sound number line column h k i j =
@@ -130,12 +137,12 @@ module _ (n : ℕ) where
           other : i < t .count → Sound n (getD (set (t .entries) (t .count) e) i blankEntry)
           other c = rw (getD-set-other (t .entries) (t .count) i e blankEntry (λ z. omega (arith, z))) (p .each i c)
 
-  with-sound : (t : Table) (items : Items) → t .refusal ≡ 0 → SoundTable n t → SoundItems n (t .count) items → SoundTable n (withItems t items)
+  with-sound : (m : ℕ) (t : Table) (items : Items) → t .refusal ≡ 0 → SoundTable n t → SoundItems rules s m (t .count) items → SoundTable n (withItems t items)
   unfolding withItems withEntry
-  with-sound t done good p q = p
-  with-sound t (fault number line column) good p q = refused-sound number line column (q .0) (q .1) (q .2) (q .3)
-  with-sound t (setting line name value later) good p q = with-sound t later good p (q .2)
-  with-sound t (entry e later) good p q = with-sound (withEntry t e) later good (entry-added t e good (q .1) p (q .0)) (q .2)
+  with-sound m t done good p q = p
+  with-sound m t (fault number line column) good p q = refused-sound number line column (q .0 .from) (q .0 .to) (q .1) (q .0 .inside)
+  with-sound m t (setting line name value later) good p q = with-sound (line + 1) t later good p (q .2)
+  with-sound m t (entry e later) good p q = with-sound (e .line + 1) (withEntry t e) later good (entry-added t e good (q .1) p (q .0)) (q .2)
 
   empty-sound : SoundTable n emptyTable
   unfolding emptyTable refusedTable noEntries
@@ -153,7 +160,7 @@ module _ (n : ℕ) where
 
 pub table-sound : (rules : Rules) (s : List ℕ) → SoundTable (length s) (tableOf rules s)
 unfolding tableOf emptyTable refusedTable
-table-sound rules s = with-sound (length s) emptyTable (itemsOf rules s) refl (empty-sound (length s)) (items-sound rules s)
+table-sound rules s = with-sound rules s 1 emptyTable (itemsOf rules s) refl (empty-sound rules s) (items-sound rules s)
 
 -- a table that isn't refused has at most so many bytes
 pub table-short : (rules : Rules) (s : List ℕ) → tableOf rules s .refusal ≡ 0 → length s ≤ maxTable
@@ -171,19 +178,19 @@ abbrev Answered : ℕ → EntryAnswer → Type 0
 Answered n (answer.Found e) = Sound n e
 Answered n (answer.Refused number) = Unit {0}
 
-from-answered : (n k i : ℕ) (f : EntryAnswer) (items : Items) → Answered n f → SoundItems n k items → Answered n (entryFrom f k i items)
+from-answered : (rules : Rules) (s : List ℕ) (m k i : ℕ) (f : EntryAnswer) (items : Items) → Answered (length s) f → SoundItems rules s m k items → Answered (length s) (entryFrom f k i items)
 unfolding entryFrom
-from-answered n k i f done p q = p
-from-answered n k i f (fault number line column) p q = tt
-from-answered n k i f (setting line name value later) p q = from-answered n k i f later p (q .2)
-from-answered n k i f (entry e later) p q = from-answered n (k + 1) i (cond (eqb k i) (answer.Found e) f) later (go (eqb k i)) (q .2)
+from-answered rules s m k i f done p q = p
+from-answered rules s m k i f (fault number line column) p q = tt
+from-answered rules s m k i f (setting line name value later) p q = from-answered rules s (line + 1) k i f later p (q .2)
+from-answered rules s m k i f (entry e later) p q = from-answered rules s (e .line + 1) (k + 1) i (cond (eqb k i) (answer.Found e) f) later (go (eqb k i)) (q .2)
   where
-    go : (t : Bool) → Answered n (cond t (answer.Found e) f)
+    go : (t : Bool) → Answered (length s) (cond t (answer.Found e) f)
     go true = q .0
     go false = p
 
 pub entry-sound : (rules : Rules) (s : List ℕ) (i : ℕ) {e : Entry} → entryIn (tableOf rules s) i ≡ answer.Found e → Sound (length s) e
-entry-sound rules s i e = rw (sym (table-entry rules s i) ∙ e) at (from-answered (length s) 0 i (answer.Refused 13) (itemsOf rules s) tt (items-sound rules s))
+entry-sound rules s i e = rw (sym (table-entry rules s i) ∙ e) at (from-answered rules s 1 0 i (answer.Refused 13) (itemsOf rules s) tt (items-sound rules s))
 
 -- an answer of a table of n bytes: an entry, and then the table isn't refused; or a refusal
 abbrev pub EntryTold : ℕ → EntryAnswer → Type 0
@@ -269,8 +276,8 @@ pub record SettingInside (n : ℕ) (a : SettingAnswer) : Type 0 where
   pub name : Inside n (a .name)
   pub value : Inside n (a .value)
 
-module _ (n : ℕ) where
-  none-inside : (number : ℕ) → SettingInside n (refusedSetting number)
+module _ (rules : Rules) (s : List ℕ) where
+  none-inside : (number : ℕ) → SettingInside (length s) (refusedSetting number)
   unfolding refusedSetting
   none-inside number =
       record {
@@ -278,20 +285,20 @@ module _ (n : ℕ) where
         value = record { order = omega arith; within = omega arith };
       }
 
-  from-inside : (k m : ℕ) (f : SettingAnswer) (items : Items) → SettingInside n f → SoundItems n k items → SettingInside n (settingFrom f m items)
+  from-inside : (l k m : ℕ) (f : SettingAnswer) (items : Items) → SettingInside (length s) f → SoundItems rules s l k items → SettingInside (length s) (settingFrom f m items)
   unfolding settingFrom
-  from-inside k m f done p q = p
-  from-inside k m f (fault number line column) p q = none-inside number
-  from-inside k m f (entry e later) p q = from-inside (k + 1) m f later p (q .2)
-  from-inside k m f (setting line name value later) p q = from-inside k m (cond (eqb line m) (shown name value) f) later (go (eqb line m)) (q .2)
+  from-inside l k m f done p q = p
+  from-inside l k m f (fault number line column) p q = none-inside number
+  from-inside l k m f (entry e later) p q = from-inside (e .line + 1) (k + 1) m f later p (q .2)
+  from-inside l k m f (setting line name value later) p q = from-inside (line + 1) k m (cond (eqb line m) (shown name value) f) later (go (eqb line m)) (q .2)
     where
-      go : (t : Bool) → SettingInside n (cond t (shown name value) f)
+      go : (t : Bool) → SettingInside (length s) (cond t (shown name value) f)
       go true = record { name = q .0; value = q .1 }
       go false = p
 
 pub setting-inside : (rules : Rules) (s : List ℕ) (k : ℕ) → SettingInside (length s) (settingIn (itemsOf rules s) k)
 unfolding settingIn
-setting-inside rules s k = from-inside (length s) 0 k (refusedSetting 19) (itemsOf rules s) (none-inside (length s) 19) (items-sound rules s)
+setting-inside rules s k = from-inside rules s 1 0 k (refusedSetting 19) (itemsOf rules s) (none-inside rules s 19) (items-sound rules s)
 
 -- a setting that is found stands in a table that isn't too long
 pub setting-short : (rules : Rules) (s : List ℕ) (k : ℕ) → settingIn (itemsOf rules s) k .refusal ≡ 0 → length s ≤ maxTable

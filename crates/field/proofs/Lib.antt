@@ -9,7 +9,7 @@ pub mod Runs
 pub mod Lists
 pub mod Alone
 pub mod Fields
-pub mod Refusals
+pub mod Views
 pub mod Accepted
 pub mod Members
 pub mod Ranges

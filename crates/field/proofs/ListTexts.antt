@@ -28,7 +28,7 @@ use Rattle.field.specs.Fields.{areElements, judgedAll, listField, starEl
 use Rattle.field.specs.Members.{isIn, elementsOf, elementBits, bitsOf}
 use Rattle.field.specs.Written.{having, members, afterCommas, listText}
 use Rattle.field.proofs.Accepted as accepted
-use Rattle.field.proofs.Accepted.{read-values}
+use Rattle.field.proofs.Views.{read-values}
 use Rattle.field.proofs.Members.{including-has, set-members}
 use Rattle.field.proofs.SetBounds.{including-fits, set-fits, set-within}
 use Rattle.field.proofs.Steps.{own-bit}
@@ -143,7 +143,7 @@ module _ (l : Limits) (u : Usual l) where
 
   elements-some : (column : ℕ) (s : List ℕ) {set : ℕ} {star : Bool} → readField l column s ≡ Values set star → 1 ≤ length (elementsOf l s)
   unfolding elementsOf readField split
-  elements-some column [] e = absurd (accepted.clash e)
+  elements-some column [] e = absurd (let z : _≡_ {A = ℕ} 0 1 = cc in omega arith)
   elements-some column (b ∷ s) e = go (eqb b 42)
     where
       go : (t : Bool) → 1 ≤ length (cond t (starElement l s ∷ []) (map (elementOf l) (split 44 (b ∷ s))))

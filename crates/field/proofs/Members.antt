@@ -20,7 +20,8 @@ use Rattle.field.specs.Values.{valuesOf, rangeOf, bitOf, including}
 use Rattle.field.specs.Fields.{readField}
 use Rattle.field.specs.Members.{isIn, isStep, elementsOf, elementBits, bitsOf}
 use Rattle.field.proofs.Steps.{remaining, remaining-first, remaining-next, remaining-end}
-use Rattle.field.proofs.Accepted.{withElement, withElements, read-values}
+use Rattle.field.proofs.Accepted.{withElement, withElements}
+use Rattle.field.proofs.Views.{read-values}
 
 or-swap : (a b c : Bool) → (a || (b || c)) ≡ (b || (a || c))
 or-swap true true c = refl

@@ -18,7 +18,8 @@ use Rattle.field.specs.declared.element.Element.the-variants.{Range, Mal
 use Rattle.field.specs.Values.{lastOf, rangeOf, bitOf, including}
 use Rattle.field.specs.Fields.{readField}
 use Rattle.field.specs.Members.{isIn, isStep, elementsOf, elementBits, bitsOf}
-use Rattle.field.proofs.Accepted.{Accepted, Each, withElements, read-values}
+use Rattle.field.proofs.Accepted.{Accepted, Each, withElements}
+use Rattle.field.proofs.Views.{read-values}
 use Rattle.field.proofs.UsualLimits.{Usual, bit-value}
 use Rattle.field.proofs.Steps.{own-bit}
 use Rattle.field.proofs.Members.{steps-members, set-members, in-append}

@@ -26,7 +26,8 @@ use Rattle.field.specs.Judgement.{outside, judged}
 use Rattle.field.specs.Fields.{starElement, starField, readField}
 use Rattle.field.specs.Members.{isStar, elementsOf}
 use Rattle.field.specs.Written.{starSet, gives, stepOf, starText}
-use Rattle.field.proofs.Accepted.{Each, withElements, Gathered, read-values}
+use Rattle.field.proofs.Accepted.{Each, withElements, AcceptedElements}
+use Rattle.field.proofs.Views.{read-values}
 use Rattle.field.proofs.NumberTexts.{number-back}
 use Rattle.field.proofs.Steps.{last-rising}
 
@@ -94,11 +95,11 @@ module _ (l : Limits) (order : l .first ≤ l .last) where
   unfolding isStar elementsOf
   star-read column s {set} q = go s (read-values l column s q)
     where
-      flagged : (t : Bool) (s : List ℕ) (others : List Element) → Gathered l 0 t (cond t (starElement l s ∷ []) others) set true
+      flagged : (t : Bool) (s : List ℕ) (others : List Element) → AcceptedElements l 0 t (cond t (starElement l s ∷ []) others) set true
           → (n : ℕ) × (1 ≤ n) × (starSet l n ≡ set)
       flagged true s others g = star-step s set (g .accepted) (g .sets)
       flagged false s others g = absurd (true≢false (g .flag))
 
-      go : (s : List ℕ) → Gathered l 0 (isStar s) (elementsOf l s) set true → (n : ℕ) × (1 ≤ n) × (starSet l n ≡ set)
+      go : (s : List ℕ) → AcceptedElements l 0 (isStar s) (elementsOf l s) set true → (n : ℕ) × (1 ≤ n) × (starSet l n ≡ set)
       go [] g = absurd (true≢false (g .flag))
       go (b ∷ s) g = flagged (eqb b 42) s _ g

@@ -34,14 +34,14 @@ use Rattle.field.specs.declared.Answer.the-variants.{Values}
 use Rattle.field.specs.Values.{valuesOf, rangeOf, bitOf}
 use Rattle.field.specs.Fields.{starElement, readField}
 use Rattle.field.specs.Members.{isIn, isStep, isStar, elementsOf, elementBits, bitsOf}
-use Rattle.field.proofs.Accepted.{read-values}
+use Rattle.field.proofs.Views.{read-values}
 use Rattle.field.proofs.Members.{steps-members, map-in}
 use Rattle.field.proofs.Steps.{last-rising}
 pub use Rattle.field.proofs.Members.{set-members}
 pub use Rattle.field.proofs.Accepted.{Accepted}
 pub use Rattle.field.proofs.Ranges.{values-members}
 pub use Rattle.field.proofs.SetBounds.{set-fits, Within, set-within}
-pub use Rattle.field.proofs.Refusals.{FieldNumber, field-number, NotReversed, field-wraps}
+pub use Rattle.field.proofs.Views.{RefusedIn, refused, FieldView, field-view, field-number, field-wraps}
 pub use Rattle.field.proofs.UsualLimits.{Usual, minute-usual, hour-usual, day-usual, month-usual, weekday-usual, dialect-usual, dialect-bits}
 pub use Rattle.field.proofs.RoundTrip.{field-fits, Shortest, shortest-step, plain-star}
 pub use Rattle.field.proofs.Dialects.{field-proper, field-back}

@@ -18,7 +18,6 @@ use Rattle.bytes.proofs.Each.{each-so}
 use Rattle.bytes.proofs.Places.{all-are, solid-run, Stands, drop-past, between-here, skipped-here, within-here}
 use Rattle.field.specs.declared.Dialect.{Dialect}
 use Rattle.field.specs.declared.Limits.{Limits}
-use Rattle.field.specs.declared.Answer.the-variants as answer
 use Rattle.field.specs.Limits.{minuteLimits, hourLimits, dayLimits, monthLimits, weekdayLimits, inDialect}
 use Rattle.field.specs.Numbers.{isDigit}
 use Rattle.field.specs.Written.{fieldText, isField}
@@ -28,10 +27,8 @@ use Rattle.crontab.specs.declared.time.When.{When}
 use Rattle.crontab.specs.declared.time.When.the-variants.{Reboot, Timed}
 use Rattle.crontab.specs.declared.time.Field.the-variants as field
 use Rattle.crontab.specs.declared.time.Time.the-variants as time
-use Rattle.crontab.specs.declared.line.Line.the-variants as line
 use Rattle.crontab.specs.Times.{answered, fieldAt, after, fieldsAt}
 use Rattle.crontab.specs.Words.{reboot}
-use Rattle.crontab.specs.Words as words
 use Rattle.crontab.specs.Entries.{timeAt, withCommand, afterTime, entryAt}
 use Rattle.crontab.specs.Lines.{startsEntry}
 use Rattle.crontab.specs.Computing.{reading}

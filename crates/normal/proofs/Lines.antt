@@ -5,20 +5,22 @@ use mathlib.Core.Bool.{Bool, true, false, cond, _||_, true≢false, and-eq-true-
 use mathlib.Core.List.{List, [], _∷_, _++_}
 use Prim.Native.Nat.{ℕ}
 use native.Mathlib.Omega.{arith}
-use lib.ListN.{length, getD}
-use lib.Dec.{eqb, leb}
+use lib.ListN.{length}
+use lib.Dec.{eqb}
 use borrow.Author.Tests.{lt-leb}
 use Rattle.bytes.specs.Texts.{text}
 use Rattle.bytes.specs.declared.class.Class.the-variants.{Blank, Not, InLine}
 use Rattle.bytes.specs.Classes.{isBlank, isControl, ofClass}
-use Rattle.bytes.specs.Runs.{areOf, skipped}
-use Rattle.bytes.proofs.Places.{are-append, solid-run, not-skipped}
+use Rattle.bytes.specs.Runs.{areOf, skipped, between}
+use Rattle.bytes.proofs.Places.{are-append, blank-end, solid-run, not-skipped}
 use Rattle.field.specs.Limits.{minuteLimits, hourLimits, dayLimits, monthLimits, weekdayLimits}
 use Rattle.field.specs.Numbers.{isDigit}
 use Rattle.field.proofs.Theorems.{minute-usual, hour-usual, day-usual, month-usual, weekday-usual}
 use Rattle.schedule.specs.declared.Schedule.{Schedule}
 use Rattle.field.specs.declared.Dialect.{Dialect}
+use Rattle.crontab.specs.declared.line.Line.{Line}
 use Rattle.crontab.specs.declared.line.Line.the-variants as line
+use Rattle.crontab.proofs.Theorems.{time-view, contentStart, ContentView, content-view}
 use Rattle.crontab.specs.Assignments.{settingAt}
 use Rattle.crontab.specs.Entries.{entryAt}
 use Rattle.crontab.specs.Lines.{startsEntry, contentFrom, contentOf}
@@ -26,35 +28,27 @@ use Rattle.normal.specs.Meanings.{Item, setting, boot, timed, ofUser, it
 use Rattle.normal.specs.Texts.{inQuotes, quoted, startsOther, isBareName, isBareValue, nameText, valueText, scheduleText, itemText}
 use Rattle.crontab.specs.Offsets.{mayStand}
 use Rattle.normal.specs.Proper.{isQuotable, isName, isValue, isCommand, isSchedule, isItem, areItems}
-use Rattle.normal.proofs.Settings.{setting-proper}
+use Rattle.normal.proofs.Settings.{name-proper, value-proper}
 use Rattle.normal.proofs.SettingTexts.{name-parts, name-starts, setting-back}
-use Rattle.normal.proofs.Entries.{entry-proper}
+use Rattle.normal.proofs.Entries.{command-proper, entry-items}
 use Rattle.normal.proofs.EntryTexts.{field-clean, command-parts, boot-back, timed-starts, timed-back}
 
 -- ---- what is read is proper
 
-first-proper : (d : Dialect) (s : List ℕ) → areOf InLine s ≡ true → (at : ℕ) → areItems (itemIn s (contentFrom (ofUser d) s at (getD s at 0))) ≡ true
-unfolding contentFrom itemIn areItems startsOther
-first-proper d s clean at = go (eqb (getD s at 0) 35) (startsEntry (getD s at 0)) refl refl
-  where
-    own : eqb (getD s at 0) 35 ≡ false → startsEntry (getD s at 0) ≡ false → startsOther (getD s at 0) ≡ false
-    own p q = rw (p, q)
-
-    go : (a b : Bool) → eqb (getD s at 0) 35 ≡ a → startsEntry (getD s at 0) ≡ b → areItems (itemIn s (cond a line.Ignored (cond b (entryAt (ofUser d) s at) (settingAt s at)))) ≡ true
-    go true b p q = refl
-    go false true p q = entry-proper s clean d at
-    go false false p q = setting-proper s clean at (own p q)
-
 pub line-proper : (d : Dialect) (s : List ℕ) → areOf InLine s ≡ true → areItems (lineItems d s) ≡ true
-unfolding lineItems contentOf itemIn areItems
-line-proper d s clean = go (leb (length s) (skipped Blank s 0))
+unfolding lineItems itemIn areItems isItem startsOther
+line-proper d s clean = go (contentOf (ofUser d) s) (content-view (ofUser d) s)
   where
-    at : ℕ
-    at = skipped Blank s 0
-
-    go : (t : Bool) → areItems (itemIn s (cond t line.Ignored (contentFrom (ofUser d) s at (getD s at 0)))) ≡ true
-    go true = refl
-    go false = first-proper d s clean at
+    go : (x : Line) → ContentView (ofUser d) s x → areItems (itemIn s x) ≡ true
+    go line.Ignored w = refl
+    go (line.Refused f) w = refl
+    go (line.Setting name value zone) w =
+        let n = name-proper s clean (contentStart s) (rw (w .own .0, w .own .1)) (w .named) in
+        let v = value-proper s clean (skipped Blank s (w .before)) (blank-end s (w .before)) (w .valued) in
+        rw (n, v, w .allowed)
+    go (line.Entry when start) w =
+        let t = rw (w .time) at (time-view d s (contentStart s)) in
+        entry-items when (between s start (length s)) (t .sets) (command-proper s clean start (w .some) (rw (w .command) (t .solid)))
 
 -- ---- what is proper is read back
 

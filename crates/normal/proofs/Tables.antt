@@ -10,6 +10,7 @@ use lib.ListN.{length, drop}
 use lib.Seq.{drop-drop, take-all}
 use lib.IntN.{ℤ}
 use Rattle.field.specs.declared.Dialect.{Dialect}
+use Rattle.crontab.specs.declared.Rules.{Rules}
 use Rattle.crontab.specs.declared.offset.Zone.{Zone}
 use Rattle.crontab.specs.Offsets.{utc, zoneOf, inForce}
 use lib.Dec.{eqb, leb, ltb}
@@ -31,9 +32,8 @@ use Rattle.crontab.specs.Items.{Items, placed, moved, afterLine, itemsFrom, ite
 use Rattle.crontab.specs.Items as items
 use Rattle.crontab.specs.Settings.{partBytes}
 use Rattle.crontab.specs.Tables.{refusedTable, emptyTable, withEntry, withItems, tableOf}
-use Rattle.crontab.proofs.Proper.{Inside, Proper, line-proper}
+use Rattle.crontab.proofs.Theorems.{Inside, LineView, line-view, table-short}
 use Rattle.crontab.proofs.Sound.{SoundItems, items-sound}
-use Rattle.crontab.proofs.Theorems.{table-short, setting-says}
 use Rattle.normal.specs.Meanings.{Item, setting, boot, timed, entryItem, entriesIn, ofUser, meanings, meaningOf, itemIn, lineItems, itemsIn, offsetsFrom, entryOffsets}
 use Rattle.normal.specs.Texts.{itemText, normalText, areShort}
 use Rattle.normal.specs.Proper.{isItem, areItems}
@@ -47,12 +47,12 @@ Clean (items.fault number line column) = ⊥
 Clean (items.setting line name value later) = Clean later
 Clean (items.entry e later) = Clean later
 
-pub good-clean : (n k : ℕ) (t : Table) (x : Items) → SoundItems n k x → withItems t x .refusal ≡ 0 → Clean x
+pub good-clean : (rules : Rules) (s : List ℕ) (m k : ℕ) (t : Table) (x : Items) → SoundItems rules s m k x → withItems t x .refusal ≡ 0 → Clean x
 unfolding withItems refusedTable
-good-clean n k t items.done h e = tt
-good-clean n k t (items.fault number line column) h e = omega (arith, h .0, e)
-good-clean n k t (items.setting line name value later) h e = good-clean n k t later (h .2) e
-good-clean n k t (items.entry x later) h e = good-clean n (k + 1) (withEntry t x) later (h .2) e
+good-clean rules s m k t items.done h e = tt
+good-clean rules s m k t (items.fault number line column) h e = omega (arith, h .0 .from, e)
+good-clean rules s m k t (items.setting line name value later) h e = good-clean rules s (line + 1) k t later (h .2) e
+good-clean rules s m k t (items.entry x later) h e = good-clean rules s (x .line + 1) (k + 1) (withEntry t x) later (h .2) e
 
 clean-good : (t : Table) (x : Items) → t .refusal ≡ 0 → Clean x → withItems t x .refusal ≡ 0
 unfolding withItems withEntry
@@ -156,12 +156,12 @@ module _ (s l : List ℕ) (at : ℕ) (here : Stands s at l (drop (at + length l)
   part-here : (p : Part) → Inside (length l) p → partBytes s (moved at p) ≡ partBytes l p
   part-here p i = between-part here (p .start) (p .end) (i .order) (i .within)
 
-  line-given : (n k : ℕ) (o : ℤ) (x : Line) (later : ℕ → ℤ → Items) → Proper (length l) x → Clean (afterLine at n (length l) k o x later)
+  line-given : (rules : Rules) (n k : ℕ) (o : ℤ) (x : Line) (later : ℕ → ℤ → Items) → LineView rules l x → Clean (afterLine at n (length l) k o x later)
       → Given s l k x later (afterLine at n (length l) k o x later)
   unfolding afterLine itemIn meanings entriesIn
-  line-given n k o line.Ignored later p h =
+  line-given rules n k o line.Ignored later p h =
       record { count = k; offset = o; read = tt; clean = h; counts = omega arith; few = λ f. f; means = refl }
-  line-given n k o (line.Setting name value zone) later p h =
+  line-given rules n k o (line.Setting name value zone) later p h =
       record {
         count = k;
         offset = inForce zone o;
@@ -169,10 +169,10 @@ module _ (s l : List ℕ) (at : ℕ) (here : Stands s at l (drop (at + length l)
         clean = h;
         counts = omega arith;
         few = λ f. f;
-        means = rw (part-here name (p .1), part-here value (p .2));
+        means = rw (part-here name (p .1 .nameIn), part-here value (p .1 .valueIn));
       }
-  line-given n k o (line.Refused f) later p h = absurd h
-  line-given n k o (line.Entry when start) later p h = go (ltb k maxEntries) refl h
+  line-given rules n k o (line.Refused f) later p h = absurd h
+  line-given rules n k o (line.Entry when start) later p h = go (ltb k maxEntries) refl h
     where
       go : (t : Bool) → ltb k maxEntries ≡ t → Clean (cond t (items.entry (placed at n (length l) o when start) (later (k + 1) o)) (items.fault 12 n 1))
           → Given s l k (line.Entry when start) later (cond t (items.entry (placed at n (length l) o when start) (later (k + 1) o)) (items.fault 12 n 1))
@@ -184,7 +184,7 @@ module _ (s l : List ℕ) (at : ℕ) (here : Stands s at l (drop (at + length l)
             clean = h;
             counts = omega (arith, entry-one when (between l start (length l)) []);
             few = λ f. omega (arith, ltb-true k maxEntries e);
-            means = rw (between-part here start (length l) (omega (arith, p .1)) (omega arith));
+            means = rw (between-part here start (length l) (omega (arith, p .1 .some)) (omega arith));
           }
       go false e h = absurd h
 
@@ -221,7 +221,7 @@ unfolding itemsFrom itemsIn lineItems meanings areItems entriesIn
 lines-meant d s c at n k o [] lie free h = record { means = refl; proper = refl; few = λ f. omega arith }
 lines-meant d s c at n k o (l ∷ ls) lie free h =
     let u = uncut (c && isLast ls) _ _ h (λ z. z) in
-    let g = line-given s l at (lie .0) n k o (readLine (ofUser d) l) (λ j next. itemsFrom (ofUser d) c (at + length l + 1) (n + 1) j next ls) (line-proper (ofUser d) l) (u .1) in
+    let g = line-given s l at (lie .0) (ofUser d) n k o (readLine (ofUser d) l) (λ j next. itemsFrom (ofUser d) c (at + length l + 1) (n + 1) j next ls) (line-view (ofUser d) l) (u .1) in
     let r = line-read d l (g .read) in
     let m = lines-meant d s c (at + length l + 1) (n + 1) (g .count) (g .offset) ls (lie .1) (free .1) (g .clean) in
     let e : itemIn l (readLine (ofUser d) l) ≡ lineItems d l = ap (itemIn l) (r .0) in
@@ -245,7 +245,7 @@ good-items : (d : Dialect) (s : List ℕ) → tableOf (ofUser d) s .refusal ≡ 
 unfolding tableOf
 good-items d s e =
     let i = items-of d s (table-short (ofUser d) s e) in
-    rw i at (good-clean (length s) 0 emptyTable (itemsOf (ofUser d) s) (items-sound (ofUser d) s) e)
+    rw i at (good-clean (ofUser d) s 1 0 emptyTable (itemsOf (ofUser d) s) (items-sound (ofUser d) s) e)
 
 items-good : (d : Dialect) (s : List ℕ) → length s ≤ maxTable → Clean (tableItems d s) → tableOf (ofUser d) s .refusal ≡ 0
 unfolding tableOf emptyTable refusedTable
@@ -361,18 +361,18 @@ unfolding itemsFrom afterLine entryOffsets meanings offsetsFrom
 lines-under d s c at n k o [] lie h = refl
 lines-under d s c at n k o (l ∷ ls) lie h =
     let u = uncut (c && isLast ls) _ _ h (λ z. z) in
-    rw (u .0) (go (readLine (ofUser d) l) refl (line-proper (ofUser d) l) (u .1) (λ j next. lines-under d s c (at + length l + 1) (n + 1) j next ls (lie .1)))
+    rw (u .0) (go (readLine (ofUser d) l) refl (line-view (ofUser d) l) (u .1) (λ j next. lines-under d s c (at + length l + 1) (n + 1) j next ls (lie .1)))
   where
     later : ℕ → ℤ → Items
     later j next = itemsFrom (ofUser d) c (at + length l + 1) (n + 1) j next ls
 
-    go : (x : Line) → readLine (ofUser d) l ≡ x → Proper (length l) x → Clean (afterLine at n (length l) k o x later)
+    go : (x : Line) → readLine (ofUser d) l ≡ x → LineView (ofUser d) l x → Clean (afterLine at n (length l) k o x later)
         → ((j : ℕ) (next : ℤ) → Clean (later j next) → entryOffsets (later j next) ≡ offsetsFrom next (meanings s (later j next)))
         → entryOffsets (afterLine at n (length l) k o x later) ≡ offsetsFrom o (meanings s (afterLine at n (length l) k o x later))
     go line.Ignored e p h more = more k o h
     go (line.Setting name value zone) e p h more =
-        let z = setting-says l (ofUser d) e .0 in
-        rw (part-here s l at (lie .0) name (p .1), part-here s l at (lie .0) value (p .2))
+        let z = p .1 .offset in
+        rw (part-here s l at (lie .0) name (p .1 .nameIn), part-here s l at (lie .0) value (p .1 .valueIn))
         (more k (inForce zone o) h ∙ sym (setting-under o (partBytes l name) (partBytes l value) zone (meanings s (later k (inForce zone o))) z))
     go (line.Refused f) e p h more = absurd h
     go (line.Entry when start) e p h more = entry (ltb k maxEntries) h

@@ -15,6 +15,7 @@ use Rattle.bytes.specs.Runs.{between}
 use Rattle.bytes.specs.Laid.{laid, Wrote}
 use Rattle.bytes.proofs.Written.{written-front, wrote-none, wrote-next}
 use Rattle.field.specs.declared.Dialect.{Dialect}
+use Rattle.crontab.specs.declared.Rules.{Rules}
 use Rattle.crontab.specs.declared.item.Cursor.{Cursor}
 use Rattle.crontab.specs.declared.line.Fault.{Fault}
 use Rattle.crontab.specs.declared.item.Item as line
@@ -58,21 +59,22 @@ not-refused (Setting name value) h = tt
 not-refused (Entry e) h = tt
 not-refused (Refused f) h = h f refl
 
-module _ (s : List ℕ) (n k : ℕ) (later : Items) where
-  given-within : (x : line.Item) → SoundItems (length s) k (given n x later) → Within s x
+module _ (rules : Rules) (s : List ℕ) (n m k : ℕ) (later : Items) where
+  given-within : (x : line.Item) → SoundItems rules s m k (given n x later) → Within s x
   unfolding given
   given-within Nothing h = tt
   given-within (Setting name value) h = ((h .0 .order, h .0 .within), (h .1 .order, h .1 .within))
   given-within (Entry e) h = (omega (arith, h .0 .some), h .0 .within)
   given-within (Refused f) h = tt
 
-  given-sound : (x : line.Item) → Kept x → SoundItems (length s) k (given n x later) → SoundItems (length s) (counted x k) later
+  given-sound : (x : line.Item) → Kept x → SoundItems rules s m k (given n x later) → (j : ℕ) × SoundItems rules s j (counted x k) later
   unfolding given counted
-  given-sound Nothing kept h = h
-  given-sound (Setting name value) kept h = h .2
-  given-sound (Entry e) kept h = h .2
+  given-sound Nothing kept h = (m, h)
+  given-sound (Setting name value) kept h = (n + 1, h .2)
+  given-sound (Entry e) kept h = (e .line + 1, h .2)
   given-sound (Refused f) kept h = absurd kept
 
+module _ (s : List ℕ) (n k : ℕ) (later : Items) where
   given-clean : (x : line.Item) → Clean (given n x later) → Kept x × Clean later
   unfolding given
   given-clean Nothing h = (tt, h)
@@ -92,24 +94,23 @@ module _ (s : List ℕ) (n k : ℕ) (later : Items) where
 -- what holds at a cursor
 pub record Going (d : Dialect) (s : List ℕ) (c : Cursor) : Type 0 where
   pub reached : Reached s c
-  pub sound : SoundItems (length s) (c .count) (itemsAt (ofUser d) s c)
+  pub line : ℕ
+  pub sound : SoundItems (ofUser d) s line (c .count) (itemsAt (ofUser d) s c)
 
 pub going-starts : (d : Dialect) (s : List ℕ) → length s ≤ maxTable → Going d s start
-going-starts d s h = record { reached = start-reached s h; sound = rw (items-start (ofUser d) s h) (items-sound (ofUser d) s) }
+going-starts d s h = record { reached = start-reached s h; line = 1; sound = rw (items-start (ofUser d) s h) (items-sound (ofUser d) s) }
 
 module _ {d : Dialect} {s : List ℕ} {c : Cursor} {r : Step} (step : StepIs (ofUser d) s c r) (going : Going d s c) where
-  here : SoundItems (length s) (c .count) (given (c .line) (r .item) (itemsAt (ofUser d) s (r .next)))
+  here : SoundItems (ofUser d) s (going .line) (c .count) (given (c .line) (r .item) (itemsAt (ofUser d) s (r .next)))
   here = rw (step .gives) at (going .sound)
 
   pub going-within : Within s (r .item)
-  going-within = given-within s (c .line) (c .count) (itemsAt (ofUser d) s (r .next)) (r .item) here
+  going-within = given-within (ofUser d) s (c .line) (going .line) (c .count) (itemsAt (ofUser d) s (r .next)) (r .item) here
 
   pub going-next : Kept (r .item) → Going d s (r .next)
   going-next kept =
-      record {
-        reached = step .reached;
-        sound = rw (← (step .counts)) at (given-sound s (c .line) (c .count) (itemsAt (ofUser d) s (r .next)) (r .item) kept here);
-      }
+      let next = given-sound (ofUser d) s (c .line) (going .line) (c .count) (itemsAt (ofUser d) s (r .next)) (r .item) kept here in
+      record { reached = step .reached; line = next .0; sound = rw (← (step .counts)) at (next .1) }
 
 -- ---- measuring
 
@@ -159,25 +160,25 @@ module _ (s : List ℕ) where
       omega (arith, length-append t (10 ∷ []), length-append t (10 ∷ rest)) in
       rw (line-limit t, e, and-assoc short)
 
-  whole : (n k : ℕ) (x : Items) (short : Bool) (size : ℕ) → SoundItems n k x
+  whole : (rules : Rules) (m k : ℕ) (x : Items) (short : Bool) (size : ℕ) → SoundItems rules s m k x
       → measureFrom s short size x
       ≡ judged (verdictFrom k x .refusal) (short && areShort (meanings s x)) (size + length (normalText (meanings s x)))
   unfolding judged measureFrom verdictFrom meanings areShort normalText lineText
-  whole n k items.done short size h = rw (and-true short, add-zero size)
-  whole n k (items.fault number line column) short size h = rw (ne-eqb number 0 (λ e. omega (arith, e, h .0)))
-  whole n k (items.setting line name value later) short size h =
-      whole n k later (shortToo s short (Setting name value)) (size + lengthOf s (Setting name value)) (h .2)
+  whole rules m k items.done short size h = rw (and-true short, add-zero size)
+  whole rules m k (items.fault number line column) short size h = rw (ne-eqb number 0 (λ e. omega (arith, e, h .0 .from)))
+  whole rules m k (items.setting line name value later) short size h =
+      whole rules (line + 1) k later (shortToo s short (Setting name value)) (size + lengthOf s (Setting name value)) (h .2)
       ∙ front (verdictFrom k later .refusal) short (areShort (meanings s later)) size
       (itemText (setting (partBytes s name) (partBytes s value))) (normalText (meanings s later))
-  whole n k (items.entry e later) short size h =
-      whole n (k + 1) later (shortToo s short (Entry e)) (size + lengthOf s (Entry e)) (h .2)
+  whole rules m k (items.entry e later) short size h =
+      whole rules (e .line + 1) (k + 1) later (shortToo s short (Entry e)) (size + lengthOf s (Entry e)) (h .2)
       ∙ front (verdictFrom (k + 1) later .refusal) short (areShort (meanings s later)) size
       (itemText (entryItem (e .when) (between s (e .start) (e .end)))) (normalText (meanings s later))
 
   pub measure-whole : (d : Dialect) → measureFrom s true 0 (itemsOf (ofUser d) s) ≡ measured d s
   unfolding judged answered measured fits meaningOf verdictOf
   measure-whole d =
-      whole (length s) 0 (itemsOf (ofUser d) s) true 0 (items-sound (ofUser d) s)
+      whole (ofUser d) 1 0 (itemsOf (ofUser d) s) true 0 (items-sound (ofUser d) s)
       ∙ rw (table-verdict (ofUser d) s, let e : 0 + length (normalText (meanings s (itemsOf (ofUser d) s))) ≡ length (normalText (meanings s (itemsOf (ofUser d) s))) = omega arith in e)
 
   module _ {d : Dialect} {c : Cursor} {r : Step} (step : StepIs (ofUser d) s c r) (short : Bool) (size : ℕ) where
@@ -234,7 +235,7 @@ lined-starts d s all before good =
     let short = table-short (ofUser d) s good in
     record {
       going = going-starts d s short;
-      clean = rw (items-start (ofUser d) s short) (good-clean (length s) 0 _ (itemsOf (ofUser d) s) (items-sound (ofUser d) s) good);
+      clean = rw (items-start (ofUser d) s short) (good-clean (ofUser d) s 1 0 _ (itemsOf (ofUser d) s) (items-sound (ofUser d) s) good);
       text = [];
       wrote = wrote-none 0 before (omega arith);
       rest = rw (items-start (ofUser d) s short);

@@ -7,7 +7,7 @@ use borrow.Author.Tests.{eq-eqb, ne-eqb}
 use Rattle.bytes.specs.declared.class.Class.the-variants.{Blank}
 use Rattle.crontab.specs.Assignments.{settingAt, afterName, afterEquals}
 use Rattle.bytes.proofs.Runs.{byte-within, skipped-within}
-use Rattle.crontab.proofs.Texts.{found-inside, name-inside, value-inside}
+use Rattle.crontab.proofs.TextViews.{name-view, value-view, name-inside, value-inside}
 use borrow.Author.Needs.{needs}
 use native.Mathlib.Omega.{arith}
 use Rattle.crontab.proofs.assignment.read.Statement.{statement}
@@ -43,8 +43,8 @@ zoned-requires c κs =
     let s = a .s .now in
     let l : v .before .skip2 .result ≤ length s =
     rw (v .before .skip2 .ensures .0) (skipped-within Blank s _ (omega (arith, byte-within s (e .before .skip .result) (omega arith)))) in
-    let name = found-inside s (name-inside s (a .at) (omega arith)) (sym (n .before .before .name-at .ensures) ∙ n .name .given .1) in
-    let value = found-inside s (value-inside s _ l) (sym (v .value-at .ensures) ∙ c .before .value .given .1) in
+    let name = name-inside s (a .at) (omega arith) (rw (sym (n .before .before .name-at .ensures) ∙ n .name .given .1) at (name-view s (a .at))) in
+    let value = value-inside s _ l (rw (sym (v .value-at .ensures) ∙ c .before .value .given .1) at (value-view s (v .before .skip2 .result))) in
     (l, name .order, name .within, value .order, value .within)
 
 returns-4 : tie.Need-returns-4

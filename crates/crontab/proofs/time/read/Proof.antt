@@ -5,7 +5,7 @@ use native.Mathlib.Omega.{arith}
 use Rattle.field.specs.Limits.{hourLimits, dayLimits, monthLimits, weekdayLimits}
 use Rattle.field.proofs.Theorems.{hour-usual, day-usual, month-usual, weekday-usual}
 use Rattle.crontab.specs.Times.{after, fieldsAt}
-use Rattle.crontab.proofs.Times.{field-fits}
+use Rattle.crontab.proofs.TimeViews.{field-fits}
 use borrow.Author.Needs.{needs}
 use Rattle.crontab.proofs.time.read.Statement.{statement}
 use Rattle.crontab.proofs.time.read.Tie as tie
