@@ -9,7 +9,7 @@ use lib.Seq.{length-take-le}
 use lib.IntN.{ℤ}
 use borrow.Author.Tests.{lt-ltb, le-ltb}
 use Rattle.bytes.specs.declared.class.Class.the-variants.{Not, InLine}
-use Rattle.bytes.specs.Runs.{skipped}
+use Rattle.bytes.specs.Runs.{skipped, between}
 use Rattle.bytes.proofs.Runs.{skipped-from, skipped-within}
 use Rattle.crontab.specs.declared.Rules.{Rules}
 use Rattle.crontab.specs.declared.Part.{Part}
@@ -25,7 +25,7 @@ use Rattle.crontab.specs.Offsets.{utc, inForce}
 use Rattle.crontab.specs.Limits.{maxTable, maxLine, maxEntries}
 use Rattle.crontab.specs.Lines.{linesOf, readLine}
 use Rattle.crontab.specs.Items.{done, moved, placed, afterLine, lastFault, itemsFrom, itemsOf}
-use Rattle.crontab.specs.Steps.{itemsAt, behind, Reached, LineAt, given, counted, Under, StepIs}
+use Rattle.crontab.specs.Steps.{itemsAt, behind, Reached, LineAt, given, counted, Sound, Under, endedStep, stepAt, StepIs}
 use Rattle.crontab.proofs.Lines.{lineEnd, end-found, stop-found, lines-first, next-start, last-line, ended-line}
 use Rattle.crontab.proofs.Offsets.{force-in}
 use Rattle.crontab.proofs.LineViews.{setting-proper, entry-proper}
@@ -80,10 +80,11 @@ module _ (rules : Rules) (s : List ℕ) (c : Cursor) (stop end : ℕ) (there : L
   pub line-stops : stop - c .at ≡ skipped InLine bytes 0
   line-stops = stop-found s (c .at) stop end (there .stops) found
 
-  step-is : (i : Item) (k : ℕ) (o : ℤ) → itemsAt rules s c ≡ given (c .line) i (itemsAt rules s (next k o)) → k ≡ counted i (c .count) → k ≤ maxEntries
-      → InZones o → Under (c .offset) i → StepIs rules s c (record { item = i; next = next k o })
-  step-is i k o g e few zone under =
+  step-is : (i : Item) (k : ℕ) (o : ℤ) → record { item = i; next = next k o } ≡ stepAt rules s c → itemsAt rules s c ≡ given (c .line) i (itemsAt rules s (next k o)) → k ≡ counted i (c .count) → k ≤ maxEntries
+      → InZones o → Under (length s) (c .offset) i → StepIs rules s c (record { item = i; next = next k o })
+  step-is i k o same g e few zone under =
       record {
+        is = same;
         gives = g;
         onward = omega (arith, line-order);
         reached =
@@ -107,12 +108,24 @@ module _ (rules : Rules) (s : List ℕ) (c : Cursor) (stop end : ℕ) (there : L
         let l = reached .lines in
         (omega arith, omega arith, omega (arith, p .0, p .1), omega (arith, p .0, size))
 
+    entry-here : Sound (length s) (placed (c .at) (c .line) (end - c .at) (c .offset) when first)
+    entry-here =
+        let p = entry-proper rules bytes is in
+        record {
+          line = omega arith;
+          short = omega (arith, p .0, size);
+          some = omega (arith, p .1, size);
+          within = omega (arith, within, line-order);
+          zone = reached .zone;
+        }
+
   -- the table ends there: its own fault, or 26
   pub step-last : length s ≤ end → {o : ℤ} → o ≡ c .offset
       → StepIs rules s c (record { item = item.Refused (lastFault (end - c .at) (c .count) (readLine rules bytes)); next = next (c .count) o })
-  unfolding itemsAt itemsFrom given counted
+  unfolding itemsAt itemsFrom given counted stepAt between
   step-last h {o} same =
       step-is (item.Refused (lastFault (end - c .at) (c .count) (readLine rules bytes))) (c .count) o
+      (rw (same, ← found, le-ltb end (length s) h))
       (rw (lines-first s (c .at) end inside found, last-line s (c .at) end inside found h, size)) refl (reached .few)
       (subst InZones (sym same) (reached .zone)) tt
 
@@ -129,36 +142,41 @@ module _ (rules : Rules) (s : List ℕ) (c : Cursor) (stop end : ℕ) (there : L
           size,
         )
 
+    step-ended : stepAt rules s c ≡ endedStep c end (readLine rules bytes)
+    unfolding stepAt between
+    step-ended = rw (← found, lt-ltb end (length s) ended)
+
     -- the offset that is read back from a cursor
     module _ {o : ℤ} (same : o ≡ c .offset) where
       in-zones : InZones o
       in-zones = subst InZones (sym same) (reached .zone)
 
       pub step-nothing : readLine rules bytes ≡ line.Ignored → StepIs rules s c (record { item = item.Nothing; next = next (c .count) o })
-      unfolding afterLine given counted
-      step-nothing is = step-is item.Nothing (c .count) o (here ∙ rw (is, same)) refl (reached .few) in-zones tt
+      unfolding afterLine given counted endedStep
+      step-nothing is = step-is item.Nothing (c .count) o (rw (step-ended, is, same)) (here ∙ rw (is, same)) refl (reached .few) in-zones tt
 
       pub step-refused : {f : Fault} → readLine rules bytes ≡ line.Refused f → StepIs rules s c (record { item = item.Refused f; next = next (c .count) o })
-      unfolding afterLine given counted
-      step-refused {f} is = step-is (item.Refused f) (c .count) o (here ∙ rw is) refl (reached .few) in-zones tt
+      unfolding afterLine given counted endedStep
+      step-refused {f} is = step-is (item.Refused f) (c .count) o (rw (step-ended, is, same)) (here ∙ rw is) refl (reached .few) in-zones tt
 
       pub step-entry : {when : When} {first : ℕ} → readLine rules bytes ≡ line.Entry when first → c .count < maxEntries
           → StepIs rules s c (record { item = item.Entry (placed (c .at) (c .line) (end - c .at) (c .offset) when first); next = next (c .count + 1) o })
-      unfolding afterLine given counted
+      unfolding afterLine given counted endedStep
       step-entry {when} {first} is h =
           step-is (item.Entry (placed (c .at) (c .line) (end - c .at) (c .offset) when first)) (c .count + 1) o
-          (here ∙ rw (is, lt-ltb (c .count) maxEntries h, same)) refl (omega arith) in-zones refl
+          (rw (step-ended, is, lt-ltb (c .count) maxEntries h, same))
+          (here ∙ rw (is, lt-ltb (c .count) maxEntries h, same)) refl (omega arith) in-zones (refl, entry-here is)
 
       pub step-full : {when : When} {first : ℕ} → readLine rules bytes ≡ line.Entry when first → maxEntries ≤ c .count
           → StepIs rules s c (record { item = item.Refused (record { number = 12; column = 1 }); next = next (c .count) o })
-      unfolding afterLine given counted
+      unfolding afterLine given counted endedStep
       step-full is h =
-          step-is (item.Refused (record { number = 12; column = 1 })) (c .count) o (here ∙ rw (is, le-ltb (c .count) maxEntries h)) refl
+          step-is (item.Refused (record { number = 12; column = 1 })) (c .count) o (rw (step-ended, is, le-ltb (c .count) maxEntries h, same)) (here ∙ rw (is, le-ltb (c .count) maxEntries h)) refl
           (reached .few) in-zones tt
 
     pub step-setting : {name value : Part} {zone : Zone} {o : ℤ} → readLine rules bytes ≡ line.Setting name value zone → o ≡ inForce zone (c .offset)
         → StepIs rules s c (record { item = item.Setting (moved (c .at) name) (moved (c .at) value); next = next (c .count) o })
-    unfolding afterLine given counted
+    unfolding afterLine given counted endedStep
     step-setting {name} {value} {zone} {o} is same =
-        step-is (item.Setting (moved (c .at) name) (moved (c .at) value)) (c .count) o (here ∙ rw (is, same)) refl (reached .few)
+        step-is (item.Setting (moved (c .at) name) (moved (c .at) value)) (c .count) o (rw (step-ended, is, same)) (here ∙ rw (is, same)) refl (reached .few)
         (subst InZones (sym same) (force-in zone (c .offset) (setting-proper rules bytes is .3) (reached .zone))) tt

@@ -1,6 +1,5 @@
 pub mod Words
 pub mod Users
-pub mod Owners
 pub mod TimeViews
 pub mod TextViews
 pub mod Offsets
@@ -12,6 +11,8 @@ pub mod Sound
 pub mod Cuts
 pub mod Tables
 pub mod Walks
+pub mod EntryViews
+pub mod Owners
 pub mod LineNumbers
 pub mod Firings
 pub mod Choices

@@ -12,42 +12,15 @@ use lib.Dec.{eqb, leb}
 use borrow.Author.Tests.{ne-eqb, eq-eqb, leb-true, leb-false}
 use Rattle.crontab.specs.declared.Rules.{Rules}
 use Rattle.crontab.specs.declared.Part.{Part}
-use Rattle.crontab.specs.declared.entry.Entry.{Entry}
 use Rattle.crontab.specs.declared.table.Verdict.{Verdict}
-use Rattle.crontab.specs.declared.table.EntryAnswer.{EntryAnswer}
-use Rattle.crontab.specs.declared.table.EntryAnswer.the-variants as answer
 use Rattle.crontab.specs.declared.setting.SettingAnswer.{SettingAnswer}
 use Rattle.crontab.specs.declared.setting.LineAnswer.{LineAnswer}
 use Rattle.crontab.specs.declared.setting.LineAnswer.the-variants.{At, Refused}
 use Rattle.crontab.specs.Items.{Items, done, fault, setting, entry, itemsOf}
-use Rattle.crontab.specs.Tables.{tableOf, verdictOf, entryIn}
+use Rattle.crontab.specs.Tables.{tableOf, verdictOf}
 use Rattle.crontab.specs.Settings.{refusedSetting, shown, settingFrom, settingIn, lineOr, nextLineFrom, nextLineIn}
-use Rattle.crontab.proofs.Sound.{OnLine, SoundItems, items-sound}
-use Rattle.crontab.proofs.Tables.{verdictFrom, table-verdict, entryFrom, table-entry}
-
--- ---- the line of an entry
-
-abbrev FoundOn : ℕ → EntryAnswer → Type 0
-FoundOn n (answer.Found e) = OnLine n 1 (e .line)
-FoundOn n (answer.Refused number) = Unit {0}
-
-found-on : (rules : Rules) (s : List ℕ) (m k i : ℕ) (f : EntryAnswer) (items : Items) → 1 ≤ m → FoundOn (length s) f → SoundItems rules s m k items
-    → FoundOn (length s) (entryFrom f k i items)
-unfolding entryFrom
-found-on rules s m k i f done h p q = p
-found-on rules s m k i f (fault number line column) h p q = tt
-found-on rules s m k i f (setting line name value later) h p q = found-on rules s (line + 1) k i f later (omega arith) p (q .2)
-found-on rules s m k i f (entry e later) h p q =
-    found-on rules s (e .line + 1) (k + 1) i (cond (eqb k i) (answer.Found e) f) later (omega arith) (go (eqb k i)) (q .2)
-  where
-    go : (t : Bool) → FoundOn (length s) (cond t (answer.Found e) f)
-    go true = (omega (arith, q .3 .0), q .3 .1)
-    go false = p
-
--- an entry that is found stands on a line of its table
-pub entry-on-line : (rules : Rules) (s : List ℕ) (i : ℕ) {e : Entry} → entryIn (tableOf rules s) i ≡ answer.Found e → (1 ≤ e .line) × (e .line ≤ length s + 1)
-entry-on-line rules s i e =
-    rw (sym (table-entry rules s i) ∙ e) at (found-on rules s 1 0 i (answer.Refused 13) (itemsOf rules s) (omega arith) tt (items-sound rules s))
+use Rattle.crontab.proofs.Sound.{SoundItems, items-sound}
+use Rattle.crontab.proofs.Tables.{verdictFrom, table-verdict}
 
 -- ---- the first setting from a line on
 

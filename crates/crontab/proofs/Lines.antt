@@ -1,6 +1,6 @@
 -- Laws of the lines of a table: the first line of what is left, and where the next one starts.
 -- Assumes nothing.
-use mathlib.Core.Path.{_≡_, refl, sym, _∙_}
+use mathlib.Core.Path.{_≡_, refl, sym, ap, _∙_}
 use mathlib.Core.Bool.{Bool, true, false, cond, not, _&&_, false≢true}
 use mathlib.Core.List.{List, [], _∷_}
 use Prim.Native.Nat.{ℕ, zero, suc, _+_, _-_, _≤_, _<_}
@@ -15,7 +15,7 @@ use Rattle.bytes.specs.Classes.{ofClass}
 use Rattle.bytes.specs.Runs.{run, skipped}
 use Rattle.crontab.specs.Lines.{onto, linesOf, isCut, isLast, byteFault}
 use Rattle.bytes.proofs.Runs.{skipped-from, skipped-within, skipped-past, run-taken, no-newline, no-nul}
-use Rattle.bytes.proofs.Places.{skipped-stop}
+use Rattle.bytes.proofs.Places.{Stands, skipped-stop}
 
 -- ---- the first line of what is left
 
@@ -38,6 +38,36 @@ line-first b (x ∷ s) = go (eqb b 10) (line-first x s)
     go true e = refl
     go false e = rw e
 
+-- ---- where lines are
+
+-- lines from a place on, each a newline after the one before it
+abbrev pub LinesAt : List ℕ → ℕ → List (List ℕ) → Type 0
+LinesAt s at [] = Unit {0}
+LinesAt s at (l ∷ ls) = Stands s at l (drop (at + length l) s) × (at + length l ≤ length s) × LinesAt s (at + length l + 1) ls
+
+onto-at : (t : List ℕ) (at b : ℕ) (ls : List (List ℕ)) → at < length t → drop at t ≡ b ∷ drop (at + 1) t → LinesAt t (at + 1) ls → LinesAt t at (onto b ls)
+unfolding onto
+onto-at t at b [] i here h = (record { is = here }, omega arith, tt)
+onto-at t at b (l ∷ ls) i here h =
+    let e : at + 1 + length l ≡ at + suc (length l) = omega arith in
+    let w : at + 1 + length l ≤ length t = h .1 in
+    (record { is = here ∙ ap (λ (x : List ℕ). b ∷ x) (h .0 .is) ∙ rw e }, omega arith, rw (← e) (h .2))
+
+pub lines-at : (t : List ℕ) (at : ℕ) (s : List ℕ) → drop at t ≡ s → LinesAt t at (linesOf s)
+unfolding linesOf
+lines-at t at [] here = tt
+lines-at t at (b ∷ s) here = go (eqb b 10) next (lines-at t (at + 1) s next)
+  where
+    next : drop (at + 1) t ≡ s
+    next = sym (drop-drop 1 at t) ∙ ap (drop 1) here
+
+    inside : at < length t
+    inside = omega (arith, length-drop at t, ap length here)
+
+    go : (c : Bool) → drop (at + 1) t ≡ s → LinesAt t (at + 1) (linesOf s) → LinesAt t at (cond c ([] ∷ linesOf s) (onto b (linesOf s)))
+    go true e h = let z : at + 0 ≡ at = omega arith in (record { is = rw z }, omega (arith, inside), rw z h)
+    go false e h = onto-at t at b (linesOf s) inside (here ∙ ap (λ (x : List ℕ). b ∷ x) (sym e)) h
+
 -- ---- whether it is the last one, and cut
 
 pub lines-some : (b : ℕ) (s : List ℕ) → isLast (linesOf (b ∷ s)) ≡ false
@@ -48,11 +78,6 @@ lines-some b s = go (eqb b 10) (linesOf s)
     go true later = refl
     go false [] = refl
     go false (l ∷ later) = refl
-
-pub more-lines : (s : List ℕ) (at : ℕ) → at < length s → isLast (linesOf (drop at s)) ≡ false
-more-lines [] at h = absurd (omega arith)
-more-lines (b ∷ s) zero h = lines-some b s
-more-lines (b ∷ s) (suc at) h = more-lines s at (omega arith)
 
 cut-from : (s : List ℕ) (at : ℕ) → at < length s → isCut (drop at s) ≡ isCut s
 unfolding isCut

@@ -3,8 +3,8 @@
 --   cut-refused: one that isn't refused is empty, or its last byte is a newline
 --   entry-sound, entry-told: an entry that is found, and the answer to a number
 --   owner-inside, owner-short: where an owner's parts stand
---   behind-time: an owner is read from the column that was judged, the one behind the time
---   entry-on-line: it stands on a line of its table
+--   owner-judged: in a system table the owner that is shown is the one that was judged, with a user that isn't empty
+--   entry-on-line, found-view: it is on a line of its table, which is the line that was read to it
 --   setting-inside, setting-short: where name and value stand
 --   next-setting: the first line from a line on that has a setting is the least one, and where there is none no line has one
 --   line-told: what is answered there, refused or not
@@ -19,7 +19,7 @@
 --   first-dialect-same: a table is in it what it was before there was a second, entry by entry and fault by fault
 -- "Matching, next firing and the line are proved once over both": all the others here hold of any rules, whatever their dialect.
 -- Assumes nothing.
-use mathlib.Core.Path.{_≡_, refl, sym, _∙_}
+use mathlib.Core.Path.{_≡_, refl}
 use mathlib.Core.Bool.{Bool, true, false, cond}
 use mathlib.Core.List.{List}
 use Prim.Native.Nat.{ℕ, _+_, _-_, _≤_, _<_}
@@ -69,13 +69,14 @@ use Rattle.crontab.specs.Settings.{refusedSetting, shown, settingFrom, s
 use Rattle.crontab.specs.Firings.{byWhen, firesAt, dueOf, told, nextOf, dueAnswer, dueIn, nextAnswer, nextIn}
 pub use Rattle.crontab.proofs.LineViews.{Inside}
 use Rattle.crontab.proofs.Sound.{Sound, SoundItems, items-sound}
-use Rattle.crontab.proofs.Tables.{entryFrom, table-entry}
 pub use Rattle.crontab.proofs.Cuts.{cut-refused}
-pub use Rattle.crontab.proofs.Owners.{behind-time}
+pub use Rattle.crontab.proofs.Owners.{OwnerJudged, owner-judged}
 pub use Rattle.crontab.proofs.Reversed.{never-reversed, verdict-never-reversed}
 pub use Rattle.crontab.proofs.FirstDialect.{first-dialect-same}
-pub use Rattle.crontab.proofs.LineNumbers.{entry-on-line, HasSetting, HasNone, NextSetting, next-setting}
+pub use Rattle.crontab.proofs.EntryViews.{FoundEntry, FoundView, found-view, entry-sound, entry-on-line}
+pub use Rattle.crontab.proofs.LineNumbers.{HasSetting, HasNone, NextSetting, next-setting}
 pub use Rattle.crontab.proofs.Zones.{zoned-is}
+pub use Rattle.crontab.proofs.Lines.{LinesAt, lines-at}
 pub use Rattle.crontab.proofs.TimeViews.{FromField, FromFields, WhenView, TimeRead, TimeView, time-view}
 pub use Rattle.crontab.proofs.TextViews.{Quoted, NamePart, BareValue, ValuePart}
 pub use Rattle.crontab.proofs.LineViews.{contentStart, EntryView, SettingView, ContentView, content-view, LineView, line-view, setting-says}
@@ -173,24 +174,6 @@ table-short rules s = go (ltb maxTable (length s)) refl
     go false e z = ltb-false maxTable (length s) e
 
 -- ---- an entry that is found
-
-abbrev Answered : ℕ → EntryAnswer → Type 0
-Answered n (answer.Found e) = Sound n e
-Answered n (answer.Refused number) = Unit {0}
-
-from-answered : (rules : Rules) (s : List ℕ) (m k i : ℕ) (f : EntryAnswer) (items : Items) → Answered (length s) f → SoundItems rules s m k items → Answered (length s) (entryFrom f k i items)
-unfolding entryFrom
-from-answered rules s m k i f done p q = p
-from-answered rules s m k i f (fault number line column) p q = tt
-from-answered rules s m k i f (setting line name value later) p q = from-answered rules s (line + 1) k i f later p (q .2)
-from-answered rules s m k i f (entry e later) p q = from-answered rules s (e .line + 1) (k + 1) i (cond (eqb k i) (answer.Found e) f) later (go (eqb k i)) (q .2)
-  where
-    go : (t : Bool) → Answered (length s) (cond t (answer.Found e) f)
-    go true = q .0
-    go false = p
-
-pub entry-sound : (rules : Rules) (s : List ℕ) (i : ℕ) {e : Entry} → entryIn (tableOf rules s) i ≡ answer.Found e → Sound (length s) e
-entry-sound rules s i e = rw (sym (table-entry rules s i) ∙ e) at (from-answered rules s 1 0 i (answer.Refused 13) (itemsOf rules s) tt (items-sound rules s))
 
 -- an answer of a table of n bytes: an entry, and then the table isn't refused; or a refusal
 abbrev pub EntryTold : ℕ → EntryAnswer → Type 0

@@ -1,4 +1,4 @@
--- Laws of the user column: its parts stand in the line.
+-- A view of the user column: its parts are in the line, and the user isn't empty.
 -- Assumes nothing.
 use mathlib.Core.Path.{_≡_, refl}
 use mathlib.Core.Bool.{Bool, true, false, cond, not, _&&_, and-eq-true-iff}
@@ -25,6 +25,12 @@ use Rattle.crontab.specs.Users.{colon, absent, accountAt, accountAfter, 
 use Rattle.crontab.specs.Owners.{namedOwner, lineOwner}
 
 module _ (s : List ℕ) where
+  -- a name, which isn't empty
+  abbrev AccountView : Text → Type 0
+  AccountView text.Malformed = Unit {0}
+  AccountView (text.Found p next) = (p .start < p .end) × (p .end ≤ length s)
+
+  -- one that may be absent
   abbrev TextWithin : Text → Type 0
   TextWithin text.Malformed = Unit {0}
   TextWithin (text.Found p next) = p .end ≤ length s
@@ -34,9 +40,9 @@ module _ (s : List ℕ) where
     pub group : o .group .end ≤ length s
     pub class : o .class .end ≤ length s
 
-  abbrev ColumnWithin : Column → Type 0
-  ColumnWithin Malformed = Unit {0}
-  ColumnWithin (Named owner next) = OwnerWithin owner
+  abbrev pub ColumnView : Column → Type 0
+  ColumnView Malformed = Unit {0}
+  ColumnView (Named owner next) = (owner .user .start < owner .user .end) × OwnerWithin owner
 
   -- a run that isn't empty starts within
   run-within : (at : ℕ) → at < skipped Account s at → skipped Account s at ≤ length s
@@ -45,9 +51,9 @@ module _ (s : List ℕ) where
       past : length s < at → ⊥
       past k = omega (arith, skipped-end Account s at (omega arith))
 
-  account-within : (at : ℕ) → TextWithin (accountAt s at)
+  account-view : (at : ℕ) → AccountView (accountAt s at)
   unfolding accountAt
-  account-within at = go (ltb at end && rest) refl
+  account-view at = go (ltb at end && rest) refl
     where
       end : ℕ
       end = skipped Account s at
@@ -55,45 +61,49 @@ module _ (s : List ℕ) where
       rest : Bool
       rest = leb (end - at) maxAccount && not (eqb (getD s at 0) dash)
 
-      go : (t : Bool) → (ltb at end && rest) ≡ t → TextWithin (cond t (text.Found (record { start = at; end = end }) end) text.Malformed)
-      go true e = run-within at (ltb-true at end (and-eq-true-iff (ltb at end) rest .0 e .0))
+      go : (t : Bool) → (ltb at end && rest) ≡ t → AccountView (cond t (text.Found (record { start = at; end = end }) end) text.Malformed)
+      go true e = let some = ltb-true at end (and-eq-true-iff (ltb at end) rest .0 e .0) in (some, run-within at some)
       go false e = tt
+
+  within : (t : Text) → AccountView t → TextWithin t
+  within text.Malformed h = tt
+  within (text.Found p next) h = h .1
 
   after-within : (mark at : ℕ) → TextWithin (accountAfter mark s at)
   unfolding accountAfter
   after-within mark at = go (eqb (getD s at 0) mark)
     where
       go : (t : Bool) → TextWithin (cond t (accountAt s (at + 1)) (text.Found absent at))
-      go true = account-within (at + 1)
+      go true = within (accountAt s (at + 1)) (account-view (at + 1))
       go false = omega arith
 
-  then-within : (t : Text) (later : Part → ℕ → Column)
-      → TextWithin t → ((p : Part) (n : ℕ) → p .end ≤ length s → ColumnWithin (later p n)) → ColumnWithin (andThen t later)
+  then-view : (P : Text → Type 0) (t : Text) (later : Part → ℕ → Column)
+      → P t → ((p : Part) (n : ℕ) → P (text.Found p n) → ColumnView (later p n)) → ColumnView (andThen t later)
   unfolding andThen
-  then-within text.Malformed later h k = tt
-  then-within (text.Found p next) later h k = k p next h
+  then-view P text.Malformed later h k = tt
+  then-view P (text.Found p next) later h k = k p next h
 
-  ended-within : (o : Owner) (next : ℕ) → OwnerWithin o → ColumnWithin (ended s o next)
+  ended-view : (o : Owner) (next : ℕ) → (o .user .start < o .user .end) × OwnerWithin o → ColumnView (ended s o next)
   unfolding ended
-  ended-within o next h = go (eqb (skipped Solid s next) next)
+  ended-view o next h = go (eqb (skipped Solid s next) next)
     where
-      go : (t : Bool) → ColumnWithin (cond t (Named o next) Malformed)
+      go : (t : Bool) → ColumnView (cond t (Named o next) Malformed)
       go true = h
       go false = tt
 
-  column-within : (at : ℕ) → ColumnWithin (columnAt s at)
+  pub column-view : (at : ℕ) → ColumnView (columnAt s at)
   unfolding columnAt
-  column-within at =
-      then-within _ _ (account-within at)
-      (λ user next u. then-within _ _ (after-within colon next)
-      (λ group after g. then-within _ _ (after-within slash after)
-      (λ class end c. ended-within _ end (record { user = u; group = g; class = c }))))
+  column-view at =
+      then-view AccountView _ _ (account-view at)
+      (λ user next u. then-view TextWithin _ _ (after-within colon next)
+      (λ group after g. then-view TextWithin _ _ (after-within slash after)
+      (λ class end c. ended-view _ end (u .0, record { user = u .1; group = g; class = c }))))
 
-  owner-in : (c : Column) → ColumnWithin c → OwnerWithin (namedOwner c)
+  owner-in : (c : Column) → ColumnView c → OwnerWithin (namedOwner c)
   unfolding namedOwner
-  owner-in (Named owner next) h = h
+  owner-in (Named owner next) h = h .1
   owner-in Malformed h = record { user = omega arith; group = omega arith; class = omega arith }
 
   pub owner-within : OwnerWithin (lineOwner s)
   unfolding lineOwner
-  owner-within = owner-in (columnAt s _) (column-within _)
+  owner-within = owner-in (columnAt s _) (column-view _)

@@ -22,7 +22,7 @@ use Rattle.crontab.specs.declared.item.Item.{Item}
 use Rattle.crontab.specs.declared.item.Item.the-variants as item
 use Rattle.crontab.specs.declared.item.Step.{Step}
 use Rattle.crontab.specs.Limits.{maxEntries}
-use Rattle.crontab.specs.Steps.{itemsAt, given, counted, StepIs}
+use Rattle.crontab.specs.Steps.{itemsAt, given, counted, StepIs, Sound}
 use Rattle.crontab.specs.Tables.{refusedTable, withEntry, withItems}
 use Rattle.crontab.specs.Settings.{refusedSetting, shown, settingFrom, lineOr, nextLineFrom}
 use Rattle.crontab.proofs.Tables.{good, verdictFrom, entryFrom}
@@ -125,7 +125,10 @@ module _ {rules : Rules} {s : List ℕ} {c : Cursor} {r : Step} (step : StepIs r
     line-refused is = rw (left is)
 
   pub entry-under : {e : Entry} → r .item ≡ item.Entry e → e .offset ≡ c .offset
-  entry-under is = rw is at (step .under)
+  entry-under is = (rw is at (step .under)) .0
+
+  pub entry-sound : {e : Entry} → r .item ≡ item.Entry e → Sound (length s) e
+  entry-sound is = (rw is at (step .under)) .1
 
   -- the entries' array has a place for one more
   pub entry-room : {e : Entry} → r .item ≡ item.Entry e → c .count < maxEntries

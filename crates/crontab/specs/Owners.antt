@@ -1,6 +1,6 @@
 -- Ticket 2026-04: who owns an entry, as parts of the table, an absent one as an empty part; in a user table all are absent. They are read again
 -- from the entry's line, whose time needs no second reading: the column stands behind one run of non-blank bytes where the time is an `@` word,
--- else behind five. That this is the column which was judged is `behind-time` of proofs/Theorems. The order is table, 13.
+-- else behind five. That this is the column which was judged is `owner-judged` of proofs/Theorems. The order is table, 13.
 -- Assumes nothing.
 use Prim.Native.Nat.{ℕ, zero, suc}
 use mathlib.Core.Bool.{cond}

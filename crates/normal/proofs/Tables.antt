@@ -7,7 +7,7 @@ use mathlib.Core.List.{List, [], _∷_, _++_, map, append-nil}
 use Prim.Native.Nat.{ℕ, suc, _+_, _≤_}
 use native.Mathlib.Omega.{arith}
 use lib.ListN.{length, drop}
-use lib.Seq.{drop-drop, take-all}
+use lib.Seq.{take-all}
 use lib.IntN.{ℤ}
 use Rattle.field.specs.declared.Dialect.{Dialect}
 use Rattle.crontab.specs.declared.Rules.{Rules}
@@ -32,7 +32,7 @@ use Rattle.crontab.specs.Items.{Items, placed, moved, afterLine, itemsFrom, ite
 use Rattle.crontab.specs.Items as items
 use Rattle.crontab.specs.Settings.{partBytes}
 use Rattle.crontab.specs.Tables.{refusedTable, emptyTable, withEntry, withItems, tableOf}
-use Rattle.crontab.proofs.Theorems.{Inside, LineView, line-view, table-short}
+use Rattle.crontab.proofs.Theorems.{LinesAt, lines-at, Inside, LineView, line-view, table-short}
 use Rattle.crontab.proofs.Sound.{SoundItems, items-sound}
 use Rattle.normal.specs.Meanings.{Item, setting, boot, timed, entryItem, entriesIn, ofUser, meanings, meaningOf, itemIn, lineItems, itemsIn, offsetsFrom, entryOffsets}
 use Rattle.normal.specs.Texts.{itemText, normalText, areShort}
@@ -61,30 +61,7 @@ clean-good t (items.fault number line column) e h = absurd h
 clean-good t (items.setting line name value later) e h = clean-good t later e h
 clean-good t (items.entry x later) e h = clean-good (withEntry t x) later e h
 
--- ---- where lines stand
-
-abbrev Lie : List ℕ → ℕ → List (List ℕ) → Type 0
-Lie s at [] = Unit {0}
-Lie s at (l ∷ ls) = Stands s at l (drop (at + length l) s) × Lie s (at + length l + 1) ls
-
-onto-lie : (t : List ℕ) (at b : ℕ) (ls : List (List ℕ)) → drop at t ≡ b ∷ drop (at + 1) t → Lie t (at + 1) ls → Lie t at (onto b ls)
-unfolding onto
-onto-lie t at b [] here h = (record { is = here }, tt)
-onto-lie t at b (l ∷ ls) here h =
-    let e : at + 1 + length l ≡ at + suc (length l) = omega arith in
-    (record { is = here ∙ ap (λ (x : List ℕ). b ∷ x) (h .0 .is) ∙ rw e }, rw (← e) (h .1))
-
-lines-lie : (t : List ℕ) (at : ℕ) (s : List ℕ) → drop at t ≡ s → Lie t at (linesOf s)
-unfolding linesOf
-lines-lie t at [] here = tt
-lines-lie t at (b ∷ s) here = go (eqb b 10) next (lines-lie t (at + 1) s next)
-  where
-    next : drop (at + 1) t ≡ s
-    next = sym (drop-drop 1 at t) ∙ ap (drop 1) here
-
-    go : (c : Bool) → drop (at + 1) t ≡ s → Lie t (at + 1) (linesOf s) → Lie t at (cond c ([] ∷ linesOf s) (onto b (linesOf s)))
-    go true e h = let z : at + 0 ≡ at = omega arith in (record { is = rw z }, rw z h)
-    go false e h = onto-lie t at b (linesOf s) (here ∙ ap (λ (x : List ℕ). b ∷ x) (sym e)) h
+-- ---- lines
 
 -- no newline in any of them
 abbrev Free : List (List ℕ) → Type 0
@@ -215,7 +192,7 @@ uncut : (c : Bool) (f g : Items) → Clean (cond c f g) → (Clean f → ⊥) �
 uncut true f g h n = absurd (n h)
 uncut false f g h n = (refl, h)
 
-lines-meant : (d : Dialect) (s : List ℕ) (c : Bool) (at n k : ℕ) (o : ℤ) (ls : List (List ℕ)) → Lie s at ls → Free ls → Clean (itemsFrom (ofUser d) c at n k o ls)
+lines-meant : (d : Dialect) (s : List ℕ) (c : Bool) (at n k : ℕ) (o : ℤ) (ls : List (List ℕ)) → LinesAt s at ls → Free ls → Clean (itemsFrom (ofUser d) c at n k o ls)
     → Meant d s k ls (itemsFrom (ofUser d) c at n k o ls)
 unfolding itemsFrom itemsIn lineItems meanings areItems entriesIn
 lines-meant d s c at n k o [] lie free h = record { means = refl; proper = refl; few = λ f. omega arith }
@@ -223,7 +200,7 @@ lines-meant d s c at n k o (l ∷ ls) lie free h =
     let u = uncut (c && isLast ls) _ _ h (λ z. z) in
     let g = line-given s l at (lie .0) (ofUser d) n k o (readLine (ofUser d) l) (λ j next. itemsFrom (ofUser d) c (at + length l + 1) (n + 1) j next ls) (line-view (ofUser d) l) (u .1) in
     let r = line-read d l (g .read) in
-    let m = lines-meant d s c (at + length l + 1) (n + 1) (g .count) (g .offset) ls (lie .1) (free .1) (g .clean) in
+    let m = lines-meant d s c (at + length l + 1) (n + 1) (g .count) (g .offset) ls (lie .2) (free .1) (g .clean) in
     let e : itemIn l (readLine (ofUser d) l) ≡ lineItems d l = ap (itemIn l) (r .0) in
     record {
       means = rw (u .0) (g .means ∙ rw (e, m .means));
@@ -252,7 +229,7 @@ unfolding tableOf emptyTable refusedTable
 items-good d s short h = rw (items-of d s short) (clean-good emptyTable (tableItems d s) refl h)
 
 meant : (d : Dialect) (s : List ℕ) → Clean (tableItems d s) → Meant d s 0 (linesOf s) (tableItems d s)
-meant d s h = lines-meant d s (isCut s) 0 1 0 utc (linesOf s) (lines-lie s 0 s refl) (lines-free s) h
+meant d s h = lines-meant d s (isCut s) 0 1 0 utc (linesOf s) (lines-at s 0 s refl) (lines-free s) h
 
 -- a good table means what its lines mean
 pub meaning-lines : (d : Dialect) (s : List ℕ) → tableOf (ofUser d) s .refusal ≡ 0 → meaningOf d s ≡ itemsIn d (linesOf s)
@@ -355,13 +332,13 @@ unfolding offsetsFrom
 setting-under o n v zone is e = ap (λ (z : Zone). offsetsFrom (inForce z o) is) (sym e)
 
 -- entries are under the offset that the settings before them say
-lines-under : (d : Dialect) (s : List ℕ) (c : Bool) (at n k : ℕ) (o : ℤ) (ls : List (List ℕ)) → Lie s at ls → Clean (itemsFrom (ofUser d) c at n k o ls)
+lines-under : (d : Dialect) (s : List ℕ) (c : Bool) (at n k : ℕ) (o : ℤ) (ls : List (List ℕ)) → LinesAt s at ls → Clean (itemsFrom (ofUser d) c at n k o ls)
     → entryOffsets (itemsFrom (ofUser d) c at n k o ls) ≡ offsetsFrom o (meanings s (itemsFrom (ofUser d) c at n k o ls))
 unfolding itemsFrom afterLine entryOffsets meanings offsetsFrom
 lines-under d s c at n k o [] lie h = refl
 lines-under d s c at n k o (l ∷ ls) lie h =
     let u = uncut (c && isLast ls) _ _ h (λ z. z) in
-    rw (u .0) (go (readLine (ofUser d) l) refl (line-view (ofUser d) l) (u .1) (λ j next. lines-under d s c (at + length l + 1) (n + 1) j next ls (lie .1)))
+    rw (u .0) (go (readLine (ofUser d) l) refl (line-view (ofUser d) l) (u .1) (λ j next. lines-under d s c (at + length l + 1) (n + 1) j next ls (lie .2)))
   where
     later : ℕ → ℤ → Items
     later j next = itemsFrom (ofUser d) c (at + length l + 1) (n + 1) j next ls
@@ -386,4 +363,4 @@ lines-under d s c at n k o (l ∷ ls) lie h =
 pub meaning-offsets : (d : Dialect) (s : List ℕ) → tableOf (ofUser d) s .refusal ≡ 0 → entryOffsets (itemsOf (ofUser d) s) ≡ offsetsFrom utc (meaningOf d s)
 unfolding meaningOf
 meaning-offsets d s e =
-    rw (items-of d s (table-short (ofUser d) s e)) (lines-under d s (isCut s) 0 1 0 utc (linesOf s) (lines-lie s 0 s refl) (good-items d s e))
+    rw (items-of d s (table-short (ofUser d) s e)) (lines-under d s (isCut s) 0 1 0 utc (linesOf s) (lines-at s 0 s refl) (good-items d s e))

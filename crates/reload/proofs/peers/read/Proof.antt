@@ -17,9 +17,8 @@ use Rattle.crontab.specs.Tables.{noEntries, refusedTable, emptyTable, withItems
 use Rattle.crontab.specs.Choices.{markWords, choice, chosenBy}
 use Rattle.crontab.proofs.Tables.{good}
 use Rattle.crontab.proofs.Items.{items-start, start-reached, items-end}
-use Rattle.crontab.proofs.Walks.{step-less, count-entry, count-setting, count-nothing, entry-room, table-here, table-setting, table-nothing, table-refused}
+use Rattle.crontab.proofs.Walks.{step-less, count-entry, count-setting, count-nothing, entry-room, entry-sound, table-here, table-setting, table-nothing, table-refused}
 use Rattle.crontab.proofs.Choices.{chosen-more, chosen-refused}
-use Rattle.crontab.proofs.Sound.{here-sound}
 use Rattle.reload.specs.Duties.{meansAs}
 use Rattle.reload.proofs.peers.read.Statement.{statement}
 use Rattle.reload.proofs.peers.read.Tie as tie
@@ -58,7 +57,7 @@ is-alike-requires : tie.Need-is-alike-requires Inv-loop μ-loop
 is-alike-requires c κs =
     let a = c .before .before .before .before .before in
     let l = a .before .before .before in
-    (l .before .before .before .before .pre, here-sound (a .advance .ensures) (l .loop .inv .4) (a .before .if2 .taken) (c .before .before .item2 .given .1))
+    (l .before .before .before .before .pre, entry-sound (a .advance .ensures) (c .before .before .item2 .given .1))
 
 loop-again : tie.Need-loop-again Inv-loop μ-loop
 unfolding meansAs
