@@ -42,7 +42,7 @@ pub enum Time {
 
 // The field that starts at a place.
 fn field_at(s: &[u8], at: usize, limits: Limits, dialect: Dialect) -> Field
-    requires { ⌜ (length (now s) ≤ maxLine) × (0 < limits .bits) ⌝ }
+    requires { ⌜ length (now s) ≤ maxLine ⌝ }
     ensures { λ r. ⌜ r ≡ fieldAt (inDialect dialect limits) (now (s .entry)) at ⌝ }
 {
     if s.len() <= at {

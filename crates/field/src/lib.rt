@@ -8,7 +8,7 @@ mod values;
 pub mod written;
 
 ghost use mathlib.Core.Path.{_≡_};
-ghost use Prim.Native.Nat.{_<_};
+ghost use Prim.Native.Nat.{_-_};
 ghost use Rattle.field.specs.Limits.{inDialect};
 ghost use Rattle.field.specs.Fields.{starElement, readField};
 use element::Element;
@@ -96,9 +96,18 @@ pub const WEEKDAY: Limits = Limits {
     wraps: false,
 };
 
+// The last of so many bits; 0 where there is none.
+fn last_bit(bits: u8) -> u8
+    ensures { λ r. ⌜ r ≡ bits - 1 ⌝ }
+{
+    if bits == 0 {
+        return 0;
+    }
+    bits - 1
+}
+
 // A field's limits in a dialect: in the second its values are those that have bits of their own, so there is no weekday 7.
 pub fn in_dialect(limits: Limits, dialect: Dialect) -> Limits
-    requires { ⌜ 0 < limits .bits ⌝ }
     ensures { λ r. ⌜ r ≡ inDialect dialect limits ⌝ }
 {
     let names = limits.names;
@@ -106,7 +115,7 @@ pub fn in_dialect(limits: Limits, dialect: Dialect) -> Limits
         Dialect::Rising => limits,
         Dialect::Wrapping => Limits {
             first: limits.first,
-            last: limits.bits - 1,
+            last: last_bit(limits.bits),
             bits: limits.bits,
             names,
             wraps: true,

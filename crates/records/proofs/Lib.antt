@@ -2,6 +2,7 @@ pub mod Splits
 pub mod Bodies
 pub mod Means
 pub mod Saids
+pub mod Faults
 pub mod Packing
 pub mod Compiling
 pub mod Readers

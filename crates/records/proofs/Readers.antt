@@ -1,6 +1,6 @@
 -- Laws of the functions that read records: what a body holds, test by test; where a record stands; and the walk that measures.
 -- Assumes nothing.
-use mathlib.Core.Path.{_≡_, refl, sym, _∙_}
+use mathlib.Core.Path.{_≡_, refl, sym, ap, _∙_}
 use mathlib.Core.Bool.{Bool, true, false, cond, _&&_, or-true}
 use mathlib.Core.List.{List, [], _∷_, _++_}
 use Prim.Native.Nat.{ℕ, _+_, _-_, _≤_, _<_}
@@ -16,12 +16,13 @@ use Rattle.normal.specs.Texts.{itemText}
 use Rattle.normal.specs.Proper.{isCommand, isSchedule, isItem}
 use Rattle.bytes.specs.LittleEndian.{numberOf}
 use Rattle.crontab.specs.declared.time.When.{When}
+use Rattle.crontab.specs.declared.time.When.the-variants.{Reboot, Timed}
 use Rattle.records.specs.declared.body.Content as held
 use Rattle.records.specs.declared.body.Content.the-variants.{Skipped, Entry, Setting, Refused}
 use Rattle.records.specs.declared.record.Step.{Step}
 use Rattle.records.specs.Formats.{kindOf}
 use Rattle.records.specs.Readings.{numberAt, lengthAt, isCut, saidFrom, afterRecord, scheduleAt, timedIn, settingIn, Content, refused, means, meant, contentOf}
-use Rattle.records.specs.ReaderSteps.{found, Within, StepIs, lineFound}
+use Rattle.records.specs.ReaderSteps.{found, Within, placesOf, BodyIs, stepAt, StepIs, lineFound}
 use Rattle.records.proofs.Splits.{split-cut, split-next}
 
 -- ---- a body
@@ -63,6 +64,18 @@ module _ (body : List ℕ) where
   unfolding settingIn meant
   setting-meant kind h t e = rw (le-leb 2 (length body) (omega arith), le-leb (2 + numberAt body 0 2) (length body) h, e)
 
+-- the places are those that what is found has
+places-found : (body : List ℕ) (r : held.Content) → Within body r → r ≡ placesOf body (found body r)
+unfolding placesOf found entryItem
+places-found body Skipped h = refl
+places-found body (Refused number) h = refl
+places-found body (Entry Reboot start) h = let e : length body - length (drop start body) ≡ start = omega (arith, length-drop start body) in rw e
+places-found body (Entry (Timed s) start) h = let e : length body - length (drop start body) ≡ start = omega (arith, length-drop start body) in rw e
+places-found body (Setting value) h = let e : length body - length (drop value body) ≡ value = omega (arith, length-drop value body) in rw e
+
+pub body-is : (kind : ℕ) (body : List ℕ) (r : held.Content) → found body r ≡ contentOf kind body → Within body r → BodyIs kind body r
+body-is kind body r e h = record { is = places-found body r h ∙ rw e; gives = e; parts = h }
+
 -- the rest of a body, as a part of it
 pub rest-part : (s : List ℕ) (at : ℕ) → take (length s - at) (drop at s) ≡ drop at s
 rest-part s at = take-all (length s - at) (drop at s) (omega (arith, length-drop at s))
@@ -94,14 +107,20 @@ module _ (s : List ℕ) where
   unfolding isCut
   cut-not low fit = rw (le-ltb (length s) 2 (omega arith), le-ltb (lengthAt s) 2 low, le-ltb (length s) (2 + lengthAt s) fit)
 
+step-parts : (r q : Step) → r .content ≡ q .content → r .start ≡ q .start → r .end ≡ q .end → r ≡ q
+step-parts r q c a e = ap (λ (x : held.Content). record { content = x; start = r .start; end = r .end }) c
+    ∙ ap (λ (x : ℕ). record { content = q .content; start = x; end = r .end }) a
+    ∙ ap (λ (x : ℕ). record { content = q .content; start = q .start; end = x }) e
+
 module _ (s : List ℕ) (at : ℕ) (r : Step) (some : at < length s) where
   left : length (drop at s) ≡ length s - at
   left = length-drop at s
 
   pub cut-step : isCut (drop at s) ≡ true → r .content ≡ Refused 22 → r .start ≡ length s → r .end ≡ length s → StepIs s at r
-  unfolding found saidFrom afterRecord
+  unfolding found saidFrom afterRecord stepAt
   cut-step cut c a e =
       record {
+        is = rw cut (step-parts r _ c a e);
         gives = λ n. rw (split-cut (drop at s) (omega (arith, left)) cut, c);
         onward = omega arith;
         order = omega arith;
@@ -123,22 +142,22 @@ module _ (s : List ℕ) (at : ℕ) (r : Step) (some : at < length s) where
 
     pub next-step : (kind : ℕ) → kind ≡ numberOf (between s (at + 2) (at + 2 + 2)) → 2 ≤ size → 2 + size ≤ length s - at → size < 65536
         → r .start ≡ at + 4 → r .end ≡ at + 2 + size
-        → found (between s (at + 4) (at + 2 + size)) (r .content) ≡ contentOf kind (between s (at + 4) (at + 2 + size))
-        → Within (between s (at + 4) (at + 2 + size)) (r .content) → StepIs s at r
-    unfolding saidFrom
-    next-step kind is-kind low fit small is-start is-end same parts =
+        → BodyIs kind (between s (at + 4) (at + 2 + size)) (r .content) → StepIs s at r
+    unfolding saidFrom stepAt
+    next-step kind is-kind low fit small is-start is-end read =
         let all : isCut (drop at s) ≡ false = cut-not (drop at s) (rw size-here low) (rw (size-here, left) fit) in
         let k : numberAt (drop at s) 2 2 ≡ kind = number-at s at 2 2 ∙ sym is-kind in
         let e : at + (2 + size) ≡ at + 2 + size = omega arith in
         let body : between (drop at s) 4 (2 + size) ≡ between s (at + 4) (at + 2 + size) = part-at s at 4 (2 + size) ∙ rw e in
         let later : drop (2 + size) (drop at s) ≡ drop (at + 2 + size) s = drop-drop (2 + size) at s ∙ rw e in
         record {
-          gives = λ n. rw (is-start, is-end, same, split-next (drop at s) (omega (arith, left)) all, size-here, k, body, later);
+          is = rw (all, k, size-here, body) (step-parts r _ (read .is) is-start is-end);
+          gives = λ n. rw (is-start, is-end, read .gives, split-next (drop at s) (omega (arith, left)) all, size-here, k, body, later);
           onward = omega arith;
           order = omega arith;
           within = omega arith;
           short = omega arith;
-          parts = rw (is-start, is-end) parts;
+          parts = rw (is-start, is-end) (read .parts);
         }
 
 -- ---- the line of what is found

@@ -56,7 +56,7 @@ skipped-kind : (kind : ℕ) → isSkipped kind ≡ true → skippedFrom ≤ kind
 unfolding isSkipped
 skipped-kind kind e = leb-true skippedFrom kind e
 
-skipped-content : (kind : ℕ) (body : List ℕ) → isSkipped kind ≡ true → contentOf kind body ≡ skipped
+pub skipped-content : (kind : ℕ) (body : List ℕ) → isSkipped kind ≡ true → contentOf kind body ≡ skipped
 unfolding contentOf
 skipped-content kind body e = rw e
 

@@ -2,7 +2,7 @@
 -- 32,768 only to what changes no entry".
 -- Assumes nothing.
 use mathlib.Core.Path.{_≡_}
-use Prim.Native.Nat.{ℕ, _≤_, _<_}
+use Prim.Native.Nat.{ℕ, suc, _≤_, _<_}
 use mathlib.Core.Bool.{true, cond}
 use mathlib.Core.List.{List, [], _∷_, _++_}
 use lib.ListN.{length}
@@ -14,7 +14,8 @@ use Rattle.field.specs.declared.Dialect.{Dialect}
 use Rattle.schedule.specs.declared.Schedule.{Schedule}
 use Rattle.normal.specs.Meanings.{Item, setting, boot, timed, lineItems}
 use Rattle.records.specs.Formats.{recordOf, kindOf, bodyOf}
-use Rattle.records.specs.Readings.{skippedFrom}
+use Rattle.records.specs.Readings.{skippedFrom, Records, cut, next, Content, skipped, refused, means, contentOf}
+use Rattle.records.specs.Readings.Records.{done}
 
 -- ---- a line, whatever its length
 
@@ -52,6 +53,23 @@ bytesOf (r ∷ rs) = recordOf (r .kind) (r .body) ++ bytesOf rs
 unfoldable pub kept : List Record → List Record
 kept [] = []
 kept (r ∷ rs) = let more = kept rs in cond (leb skippedFrom (r .kind)) more (r ∷ more)
+
+-- how many of them are skipped
+unfoldable pub skippedIn : List Record → ℕ
+skippedIn [] = 0
+skippedIn (r ∷ rs) = let more = skippedIn rs in cond (leb skippedFrom (r .kind)) (suc more) more
+
+-- ---- no record is bad: none is cut short, and each is skipped or means something
+
+abbrev pub NotBad : Content → Type 0
+NotBad skipped = Unit {0}
+NotBad (refused number) = ⊥
+NotBad (means i) = Unit {0}
+
+abbrev pub NoneBad : Records → Type 0
+NoneBad done = Unit {0}
+NoneBad cut = ⊥
+NoneBad (next kind body later) = NotBad (contentOf kind body) × NoneBad later
 
 -- ---- a later writer
 

@@ -8,8 +8,8 @@ ghost use lib.Dec.{eqb};
 ghost use Rattle.normal.specs.Meanings.{boot, setting};
 ghost use Rattle.normal.specs.Proper.{isCommand, isSchedule, isItem};
 ghost use Rattle.records.specs.Formats.{kindOf};
-ghost use Rattle.records.specs.Readings.{starsOf, scheduleAt, timedIn, settingIn, meant, isSkipped, contentOf};
-ghost use Rattle.records.specs.ReaderSteps.{found, Within};
+ghost use Rattle.records.specs.Readings.{starsOf, scheduleAt, timedIn, settingIn, meant, isSkipped};
+ghost use Rattle.records.specs.ReaderSteps.{found, Within, BodyIs};
 use crate::BOOT;
 use crate::MEANINGLESS;
 use crate::SCHEDULE_SIZE;
@@ -150,7 +150,7 @@ fn is_skipped(kind: u16) -> bool
 }
 
 pub fn read(body: &[u8], kind: u16) -> Content
-    ensures { λ r. ⌜ (found (now (body .entry)) r ≡ contentOf kind (now (body .entry))) × Within (now (body .entry)) r ⌝ }
+    ensures { λ r. ⌜ BodyIs kind (now (body .entry)) r ⌝ }
 {
     if is_skipped(kind) {
         return Content::Skipped;

@@ -33,7 +33,7 @@ returns-4 c =
     let b = c .before .before .before .before .before .before .before .before in
     let read = c .before .before .before .before .before .read .ensures in
     next-step _ _ _ (b .pre) _ (read .0) _ (c .before .before .read2 .ensures .0) (c .before .before .before .before .if2 .left)
-    (omega (arith, c .before .before .before .if3 .left, c .before .before .before .before .before .before .if1 .left)) (read .1) refl refl (c .read3 .ensures .0) (c .read3 .ensures .1)
+    (omega (arith, c .before .before .before .if3 .left, c .before .before .before .before .before .before .if1 .left)) (read .1) refl refl (c .read3 .ensures)
 
 pub advance-spec : {M : Type 1} → statement M
 advance-spec =
