@@ -9,4 +9,5 @@ pub mod Laid
 pub mod Sets
 pub mod LittleEndian
 pub mod Marks
+pub mod Refusals
 pub mod Examples

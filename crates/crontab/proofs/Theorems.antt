@@ -5,6 +5,7 @@
 --   owner-inside, owner-short: where an owner's parts stand
 --   owner-judged: in a system table the owner that is shown is the one that was judged, with a user that isn't empty
 --   entry-on-line, found-view: it is on a line of its table, which is the line that was read to it
+--   owner-number, setting-number: a refusal has eight bits
 --   setting-inside, setting-short: where name and value stand
 --   next-setting: the first line from a line on that has a setting is the least one, and where there is none no line has one
 --   line-told: what is answered there, refused or not
@@ -42,6 +43,7 @@ use Rattle.crontab.specs.declared.Part.{Part}
 use Rattle.crontab.specs.declared.Kind.{Kind}
 use Rattle.crontab.specs.declared.Kind.the-variants.{User, System}
 use Rattle.crontab.specs.declared.user.Owner.{Owner}
+use Rattle.bytes.specs.Refusals.{IsRefusal}
 use Rattle.bytes.specs.Runs.{between}
 use Rattle.crontab.specs.Users.{absent}
 use Rattle.crontab.specs.Entries.{byKind}
@@ -178,7 +180,7 @@ table-short rules s = go (ltb maxTable (length s)) refl
 -- an answer of a table of n bytes: an entry, and then the table isn't refused; or a refusal
 abbrev pub EntryTold : ℕ → EntryAnswer → Type 0
 EntryTold n (answer.Found e) = (Sound n e) × (n ≤ maxTable)
-EntryTold n (answer.Refused number) = 1 ≤ number
+EntryTold n (answer.Refused number) = IsRefusal number
 
 pub entry-told : (rules : Rules) (s : List ℕ) (i : ℕ) → EntryTold (length s) (entryIn (tableOf rules s) i)
 unfolding entryIn
@@ -191,7 +193,7 @@ entry-told rules s i = go (eqb (t .refusal) 0) (ltb i (t .count)) refl refl
         → EntryTold (length s) (cond a (cond b (answer.Found (getD (t .entries) i blankEntry)) (answer.Refused 13)) (answer.Refused (t .refusal)))
     go true true p q = (table-sound rules s .each i (ltb-true i (t .count) q), table-short rules s (eqb-true (t .refusal) 0 p))
     go true false p q = omega arith
-    go false b p q = omega (arith, eqb-false (t .refusal) 0 p)
+    go false b p q = omega (arith, eqb-false (t .refusal) 0 p, table-sound rules s .number)
 
 -- ---- its owner
 
@@ -253,6 +255,14 @@ module _ (rules : Rules) (s : List ℕ) (i : ℕ) where
       go (answer.Found e) h z = h .1
       go (answer.Refused number) h z = absurd (omega arith)
 
+  pub owner-number : ownerIn rules s i .refusal ≤ 255
+  unfolding ownerAnswer
+  owner-number = go (entryIn (tableOf rules s) i) (entry-told rules s i)
+    where
+      go : (a : EntryAnswer) → EntryTold (length s) a → ownerAnswer rules s a .refusal ≤ 255
+      go (answer.Found e) h = omega arith
+      go (answer.Refused number) h = h .1
+
 -- ---- a setting
 
 pub record SettingInside (n : ℕ) (a : SettingAnswer) : Type 0 where
@@ -283,6 +293,23 @@ pub setting-inside : (rules : Rules) (s : List ℕ) (k : ℕ) → SettingInside 
 unfolding settingIn
 setting-inside rules s k = from-inside rules s 1 0 k (refusedSetting 19) (itemsOf rules s) (none-inside rules s 19) (items-sound rules s)
 
+-- the refusal of a setting is the table's, or 19
+from-number : (rules : Rules) (s : List ℕ) (l k m : ℕ) (f : SettingAnswer) (items : Items) → f .refusal ≤ 255 → SoundItems rules s l k items
+    → settingFrom f m items .refusal ≤ 255
+unfolding settingFrom refusedSetting
+from-number rules s l k m f done p q = p
+from-number rules s l k m f (fault number line column) p q = omega (arith, q .0 .to)
+from-number rules s l k m f (entry e later) p q = from-number rules s (e .line + 1) (k + 1) m f later p (q .2)
+from-number rules s l k m f (setting line name value later) p q = from-number rules s (line + 1) k m (cond (eqb line m) (shown name value) f) later (go (eqb line m)) (q .2)
+  where
+    go : (t : Bool) → cond t (shown name value) f .refusal ≤ 255
+    go true = omega arith
+    go false = p
+
+pub setting-number : (rules : Rules) (s : List ℕ) (k : ℕ) → settingIn (itemsOf rules s) k .refusal ≤ 255
+unfolding settingIn refusedSetting
+setting-number rules s k = from-number rules s 1 0 k (refusedSetting 19) (itemsOf rules s) (omega arith) (items-sound rules s)
+
 -- a setting that is found stands in a table that isn't too long
 pub setting-short : (rules : Rules) (s : List ℕ) (k : ℕ) → settingIn (itemsOf rules s) k .refusal ≡ 0 → length s ≤ maxTable
 unfolding settingIn itemsOf settingFrom refusedSetting
@@ -296,7 +323,7 @@ setting-short rules s k = go (ltb maxTable (length s)) refl
 -- a line of the table, or a refusal
 abbrev pub LineTold : LineAnswer → Type 0
 LineTold (nextLine.At k) = k ≤ maxTable + 1
-LineTold (nextLine.Refused number) = 1 ≤ number
+LineTold (nextLine.Refused number) = IsRefusal number
 
 pub line-told : (rules : Rules) (s : List ℕ) (n : ℕ) → LineTold (nextLineIn (itemsOf rules s) n)
 line-told rules s n = go (nextLineIn (itemsOf rules s) n) (next-setting rules s n)
@@ -306,7 +333,7 @@ line-told rules s n = go (nextLineIn (itemsOf rules s) n) (next-setting rules s 
     go (nextLine.Refused number) h =
         elim (decLe (tableOf rules s .refusal) 0) [
           | yes z ↦ omega (arith, h .1 (omega arith) .0)
-          | no z ↦ let l = lt-of-not-le z in omega (arith, h .0 (λ e. omega (arith, e, l)))
+          | no z ↦ let l = lt-of-not-le z in omega (arith, h .0 (λ e. omega (arith, e, l)), table-sound rules s .number)
         ]
 
 -- ---- what is said of an entry: yes, no, a minute of the calendar, or a refusal
@@ -314,11 +341,11 @@ line-told rules s n = go (nextLineIn (itemsOf rules s) n) (next-setting rules s 
 abbrev pub DueTold : DueAnswer → Type 0
 DueTold due.Yes = Unit {0}
 DueTold due.No = Unit {0}
-DueTold (due.Refused number) = 1 ≤ number
+DueTold (due.Refused number) = IsRefusal number
 
 abbrev pub NextTold : NextAnswer → Type 0
 NextTold (At n) = n ≤ lastMinute
-NextTold (Refused number) = 1 ≤ number
+NextTold (Refused number) = IsRefusal number
 
 due-of : (e : Entry) (m : ℕ) → DueTold (dueOf e m)
 unfolding dueOf

@@ -10,6 +10,7 @@ use native.Mathlib.Omega.{arith}
 use lib.ListN.{length, getD}
 use lib.Dec.{eqb, leb, ltb}
 use borrow.Author.Tests.{leb-true, leb-false, eqb-false}
+use Rattle.bytes.specs.Refusals.{IsRefusal}
 use Rattle.calendar.specs.Dates.{lastMinute}
 use Rattle.crontab.specs.declared.Rules.{Rules}
 use Rattle.crontab.specs.declared.time.When.{When}
@@ -20,7 +21,7 @@ use Rattle.crontab.specs.declared.table.EntryAnswer.{EntryAnswer}
 use Rattle.crontab.specs.declared.table.EntryAnswer.the-variants as answer
 use Rattle.crontab.specs.Tables.{blankEntry, tableOf, entryIn}
 use Rattle.crontab.specs.Firings.{byWhen, firesAt}
-use Rattle.crontab.proofs.Theorems.{table-sound}
+use Rattle.crontab.proofs.Theorems.{table-sound, EntryTold, entry-told}
 use Rattle.firings.specs.declared.Filled.the-variants.{All, More}
 use Rattle.bytes.specs.Passing.{passing, passingUpTo}
 use Rattle.firings.specs.Lists.{firingsOf, mergedOf}
@@ -61,28 +62,11 @@ filled-kept n room before after = go (leb n room)
 
 -- ---- of an entry
 
-abbrev Numbered : EntryAnswer → Type 0
-Numbered (answer.Found e) = Unit {0}
-Numbered (answer.Refused number) = (1 ≤ number) × (number ≤ 255)
-
-entry-numbered : (rules : Rules) (s : List ℕ) (i : ℕ) → Numbered (entryIn (tableOf rules s) i)
-unfolding entryIn
-entry-numbered rules s i = go (eqb (t .refusal) 0) refl (ltb i (t .count))
-  where
-    t : Table
-    t = tableOf rules s
-
-    go : (a : Bool) → eqb (t .refusal) 0 ≡ a → (b : Bool)
-        → Numbered (cond a (cond b (answer.Found (getD (t .entries) i blankEntry)) (answer.Refused 13)) (answer.Refused (t .refusal)))
-    go true e true = tt
-    go true e false = (omega arith, omega arith)
-    go false e b = (omega (arith, eqb-false (t .refusal) 0 e), omega (arith, table-sound rules s .number))
-
 module _ (a b : ℕ) (run : List ℕ) where
   abbrev EntryFine : EntryStep → Type 0
   EntryFine s = Few (s .answer) × Kept (s .answer) run (s .run)
 
-  refused-fine : (number : ℕ) → (1 ≤ number) × (number ≤ 255) → EntryFine (refusedEntry number run)
+  refused-fine : (number : ℕ) → IsRefusal number → EntryFine (refusedEntry number run)
   unfolding refusedEntry
   refused-fine number h = (h, refl)
 
@@ -103,7 +87,7 @@ module _ (a b : ℕ) (run : List ℕ) where
       go true true e Reboot = refused-fine 15 (omega arith, omega arith)
       go true true e (Timed s) = listed (leb-true b lastMinute e)
 
-  answer-fine : (e : EntryAnswer) → Numbered e → EntryFine (firingsAnswer e a b run)
+  answer-fine : {n : ℕ} (e : EntryAnswer) → EntryTold n e → EntryFine (firingsAnswer e a b run)
   unfolding firingsAnswer
   answer-fine (answer.Found e) h = found-fine e
   answer-fine (answer.Refused number) h = refused-fine number h
@@ -111,7 +95,7 @@ module _ (a b : ℕ) (run : List ℕ) where
 module _ (rules : Rules) (s : List ℕ) (i a b : ℕ) (run : List ℕ) where
   fine : EntryFine a b run (firingsIn (tableOf rules s) i a b run)
   unfolding firingsIn
-  fine = answer-fine a b run (entryIn (tableOf rules s) i) (entry-numbered rules s i)
+  fine = answer-fine a b run (entryIn (tableOf rules s) i) (entry-told rules s i)
 
   pub firings-few : Few (firingsIn (tableOf rules s) i a b run .answer)
   firings-few = fine .0
@@ -132,7 +116,7 @@ module _ (rules : Rules) (s : List ℕ) (a b : ℕ) (minutes entries : List ℕ)
   abbrev MergedFine : MergedStep → Type 0
   MergedFine step = Few (step .answer) × Kept (step .answer) minutes (step .minutes) × Kept (step .answer) entries (step .entries)
 
-  merged-refused : (number : ℕ) → (1 ≤ number) × (number ≤ 255) → MergedFine (refusedMerged number minutes entries)
+  merged-refused : (number : ℕ) → IsRefusal number → MergedFine (refusedMerged number minutes entries)
   unfolding refusedMerged
   merged-refused number h = (h, refl, refl)
 

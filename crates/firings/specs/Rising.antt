@@ -4,6 +4,7 @@ use mathlib.Core.Path.{_≡_}
 use mathlib.Core.Logic.{_⊎_}
 use mathlib.Core.List.{List, [], _∷_}
 use Prim.Native.Nat.{ℕ, _≤_, _<_}
+use Rattle.bytes.specs.Refusals.{IsRefusal}
 use Rattle.firings.specs.declared.Filled.{Filled}
 use Rattle.firings.specs.declared.Filled.the-variants.{All, More, Refused}
 use Rattle.firings.specs.Lists.{Firing}
@@ -30,7 +31,7 @@ Exactly A B = (A → B) × (B → A)
 abbrev pub Few : Filled → Type 0
 Few (All n) = n ≤ maxPlaces
 Few (More n) = n ≤ maxPlaces
-Few (Refused number) = (1 ≤ number) × (number ≤ 255)
+Few (Refused number) = IsRefusal number
 
 -- a refused call leaves a run as it was
 abbrev pub Kept : Filled → List ℕ → List ℕ → Type 0

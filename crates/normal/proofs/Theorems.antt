@@ -23,6 +23,8 @@ use lib.ListN.{length, drop, length-append, length-drop}
 use lib.Dec.{eqb, leb}
 use borrow.Author.Tests.{leb-true, eqb-false}
 use Rattle.bytes.specs.Laid.{laid}
+use Rattle.bytes.specs.Refusals.{IsRefusal}
+use Rattle.crontab.proofs.Theorems.{table-sound}
 use Rattle.bytes.specs.LittleEndian.{width}
 use Rattle.field.specs.declared.Dialect.{Dialect}
 use Rattle.field.specs.Limits.{minuteLimits, hourLimits, dayLimits, monthLimits, weekdayLimits}
@@ -145,12 +147,12 @@ form-again d e s buffer good fit =
 -- of a buffer as it was and as it is: a refusal has its number, and changes no byte; what is written has at most so many bytes
 abbrev pub Told : ℕ → List ℕ → NormalAnswer → List ℕ → Type 0
 Told most before (Written size) now = (size ≤ most) × (size ≤ length before) × (length now ≡ length before)
-Told most before (Refused number) now = (1 ≤ number) × (now ≡ before)
+Told most before (Refused number) now = IsRefusal number × (now ≡ before)
 
 abbrev pub FormTold : ℕ → List ℕ → NormalForm → Type 0
 FormTold most before f = Told most before (f .answer) (f .buffer)
 
-pub refused-told : (most number : ℕ) (buffer : List ℕ) → 1 ≤ number → FormTold most buffer (refusedForm number buffer)
+pub refused-told : (most number : ℕ) (buffer : List ℕ) → IsRefusal number → FormTold most buffer (refusedForm number buffer)
 unfolding refusedForm
 refused-told most number buffer h = (h, refl)
 
@@ -182,4 +184,4 @@ form-told d s buffer = go (eqb (tableOf (ofUser d) s .refusal) 0) refl
     go : (b : Bool) → eqb (tableOf (ofUser d) s .refusal) 0 ≡ b
         → FormTold maxTable buffer (cond b (formOf (meaningOf d s) buffer) (refusedForm (tableOf (ofUser d) s .refusal) buffer))
     go true e = items-told (meaningOf d s) buffer
-    go false e = refused-told maxTable (tableOf (ofUser d) s .refusal) buffer (omega (arith, eqb-false (tableOf (ofUser d) s .refusal) 0 e))
+    go false e = refused-told maxTable (tableOf (ofUser d) s .refusal) buffer (omega (arith, eqb-false (tableOf (ofUser d) s .refusal) 0 e, table-sound (ofUser d) s .number))

@@ -83,6 +83,13 @@ said-sound n (said.next kind body later) = go (contentOf kind body) (content-sou
     go (refused number) s h = (omega (arith, s .0), s .1, omega arith)
     go (means i) s h = h
 
+-- a refusal of records has eight bits
+pub refusal-small : (n : ℕ) (x : Said) → SoundSaid n x → refusalSaid x ≤ 255
+unfolding refusalSaid
+refusal-small n said.Said.done h = omega arith
+refusal-small n (said.fault number k) h = omega (arith, h .1)
+refusal-small n (said.item i later) h = refusal-small n later h
+
 -- a bad record is one of them: each has bytes
 pub fault-near : (most n : ℕ) (s : List ℕ) → 1 ≤ n → faultSaid (saidFrom n (recordsIn most s)) + 1 ≤ n + length s
 unfolding recordsIn saidFrom faultSaid afterRecord

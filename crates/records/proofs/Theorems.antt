@@ -26,6 +26,7 @@ use Rattle.bytes.proofs.LittleEndian.{Bytes, length-littleEndian}
 use Rattle.field.specs.declared.Dialect.{Dialect}
 use Rattle.crontab.specs.Limits.{maxTable, maxLine, maxEntries}
 use Rattle.crontab.specs.Tables.{tableOf}
+use Rattle.crontab.proofs.Theorems.{table-sound}
 use Rattle.normal.specs.declared.NormalAnswer.the-variants.{Written, Refused}
 use Rattle.normal.specs.Meanings.{Item, setting, boot, timed, entriesIn, ofUser, meaningOf}
 use Rattle.normal.specs.Texts.{doubleQuote, singleQuote, inQuotes, isBareName, isBareValue, quoted, nameText, valueText, itemText, normalText, areShort, fits}
@@ -36,11 +37,11 @@ use Rattle.crontab.specs.Offsets.{mayStand}
 use Rattle.records.proofs.Packing.{schedule-size}
 use Rattle.records.specs.Refusals.{meaningless}
 use Rattle.records.specs.Formats.{scheduleBytes, recordOf, bodyOf, recordsOf}
-use Rattle.records.specs.Readings.{refused, contentOf, split, saidOf, itemsSaid, refusalSaid}
+use Rattle.records.specs.Readings.{refused, contentOf, split, saidFrom, saidOf, itemsSaid, refusalSaid}
 use Rattle.records.specs.Calls.{compiled, textOf, decompiled, recordFault}
 use Rattle.records.specs.Writers.{LineMeans, Record, longestBody, Framed, All, bytesOf, kept, Sent, asRecords, Writer, itemsSent, ChangesNone}
 use Rattle.records.proofs.Means.{no-line, no-line-back}
-use Rattle.records.proofs.Decompiling.{fault-near}
+use Rattle.records.proofs.Decompiling.{said-sound, refusal-small, fault-near}
 pub use Rattle.records.proofs.Faults.{fault-none, fault-lowered}
 use Rattle.records.proofs.Saids.{Alike, kept-alike, sent-said, Says, Sendable, items-said}
 
@@ -260,17 +261,20 @@ compiled-told d s buffer = go (eqb (tableOf (ofUser d) s .refusal) 0) (fits (mea
         → FormTold mostRecords buffer (cond a (cond b (laidForm (recordsOf (meaningOf d s)) buffer) (refusedForm 21 buffer)) (refusedForm (tableOf (ofUser d) s .refusal) buffer))
     go true true p q = laid-told mostRecords (recordsOf (meaningOf d s)) buffer (omega (arith, records-short (meaningOf d s) (meaning-proper d s (eqb-true (tableOf (ofUser d) s .refusal) 0 p)), fits-parts (meaningOf d s) q .small))
     go true false p q = refused-told mostRecords 21 buffer (omega arith)
-    go false b p q = refused-told mostRecords (tableOf (ofUser d) s .refusal) buffer (omega (arith, eqb-false (tableOf (ofUser d) s .refusal) 0 p))
+    go false b p q = refused-told mostRecords (tableOf (ofUser d) s .refusal) buffer (omega (arith, eqb-false (tableOf (ofUser d) s .refusal) 0 p, table-sound (ofUser d) s .number))
 
 pub decompiled-told : (s buffer : List ℕ) → FormTold maxTable buffer (decompiled s buffer)
-unfolding decompiled textOf
+unfolding decompiled textOf saidOf
 decompiled-told s buffer = go (eqb (refusalSaid (saidOf s)) 0) (leb (entriesIn (itemsSaid (saidOf s))) maxEntries) refl
   where
+    small : refusalSaid (saidOf s) ≤ 255
+    small = refusal-small 1 (saidFrom 1 (split s)) (said-sound 1 (split s))
+
     go : (a b : Bool) → eqb (refusalSaid (saidOf s)) 0 ≡ a
         → FormTold maxTable buffer (cond a (cond b (formOf (itemsSaid (saidOf s)) buffer) (refusedForm 12 buffer)) (refusedForm (refusalSaid (saidOf s)) buffer))
     go true true p = items-told (itemsSaid (saidOf s)) buffer
     go true false p = refused-told maxTable 12 buffer (omega arith)
-    go false b p = refused-told maxTable (refusalSaid (saidOf s)) buffer (omega (arith, eqb-false (refusalSaid (saidOf s)) 0 p))
+    go false b p = refused-told maxTable (refusalSaid (saidOf s)) buffer (omega (arith, eqb-false (refusalSaid (saidOf s)) 0 p, small))
 
 -- a bad record is one of them: each has bytes
 pub fault-told : (s : List ℕ) → recordFault s ≤ length s
