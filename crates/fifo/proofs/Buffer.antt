@@ -19,7 +19,7 @@ use Rattle.fifo.specs.Fairness.{Call, roomOf, roomAfter, isRefused, line
 use Rattle.fifo.specs.Buffer.{Use, tickIn, popIn, lent, callOn, bufferAfter, callsOn, bufferAfterAll, started}
 use Rattle.fifo.proofs.WaitingLines.{entries-length}
 use Rattle.fifo.proofs.Lines.{length-line, lineOf-laid, is-proper}
-use Rattle.fifo.proofs.Calls.{holds-front, holds-laid, Undone, Done, effect, outcome, after-proper}
+use Rattle.fifo.proofs.Calls.{fresh-proper, holds-front, holds-laid, Undone, Done, effect, outcome, after-proper}
 
 -- ---- a line at the front of a buffer
 
@@ -94,3 +94,11 @@ pub calls-append : (jobs : Jobs) (first second : List Use) (buffer : List ℕ)
 unfolding callsOn bufferAfterAll
 calls-append jobs [] second buffer = refl
 calls-append jobs (u ∷ us) second buffer = rw (calls-append jobs us second (bufferAfter jobs buffer u))
+
+-- a list that comes after any other on a buffer in which a queue was made
+pub buffer-follows : (jobs : Jobs) (h : jobs .count < limit) (size : ℕ) (buffer : List ℕ) → roomy (jobs .count) (take size buffer) ≡ true → (first second : List Use)
+    → let b = started jobs size buffer in
+    Follows jobs (fresh jobs) (callsOn jobs b first ++ callsOn jobs (bufferAfterAll jobs b first) second)
+buffer-follows jobs h size buffer r first second =
+    let b = started jobs size buffer in
+    rw (calls-append jobs first second b) at (on-follows jobs h (first ++ second) b (fresh jobs) (fresh-proper jobs) (started-holds jobs h size buffer r))
