@@ -26,8 +26,7 @@ use Rattle.fifo.proofs.WaitingLines.{entries-cons, entries-behind, pick
 use Rattle.fifo.specs.Queue.{limit}
 use Rattle.fifo.proofs.Lines.{is-line, is-proper, make-proper, small-line, lineOf-laid, isLine-laid}
 use Rattle.fifo.proofs.Calls.{fresh-proper, goes-on, expected-all}
-use Rattle.fifo.proofs.Fair.{runs, runs-ticked, paced-some, waits-named, called-named}
-use Rattle.fifo.proofs.Buffer.{buffer-follows}
+use Rattle.fifo.proofs.Fair.{runs, runs-ticked, waits-named, called-named}
 use Rattle.fifo.proofs.Steady.{every-from, steady-from}
 -- minutes that are announced one by one outrun any hold
 pub use Rattle.fifo.proofs.Outrun.{held-stays, outrun, soon-past-hold}
@@ -35,9 +34,11 @@ pub use Rattle.fifo.proofs.Outrun.{held-stays, outrun, soon-past-hold}
 unfoldable pub use Rattle.fifo.proofs.OneByOne.{isCalled}
 pub use Rattle.fifo.proofs.OneByOne.{Before, fresh-line, without, emptied-line, emptied-is, announced-is, announced-line, announced-mark, announced-stands}
 -- a queued entry is named after those before it, and by the N-th request at the latest
-pub use Rattle.fifo.proofs.Waits.{waits-exactly, waits-at-most, called-waits}
+pub use Rattle.fifo.proofs.Waits.{standing-in, waits-exactly, waits-at-most, called-waits}
+-- what calls on one buffer follow from: the queue that was made in it, or the one that is found there
+pub use Rattle.fifo.proofs.Buffer.{buffer-follows, found-follows}
 -- a request after each announcement, or every 1: the same
-pub use Rattle.fifo.proofs.Fair.{paced-one, one-paced}
+pub use Rattle.fifo.proofs.Fair.{paced-one, one-paced, paced-some}
 -- where no minute calls anybody, nobody is named
 pub use Rattle.fifo.proofs.Fair.{Runs}
 pub use Rattle.fifo.proofs.Quiet.{quiet, two-run}

@@ -41,6 +41,9 @@ at-in e (suc p) (x ∷ l) (there a) = rw (at-in e p l a) (either (eqb x e))
     either true = refl
     either false = refl
 
+pub standing-in : (e p : ℕ) (l : List ℕ) → standing p l ≡ Entry e → standsIn e l ≡ true
+standing-in e p l q = at-in e p l (at-standing e p l q)
+
 -- ---- requests
 
 module _ (jobs : Jobs) (e : ℕ) where
