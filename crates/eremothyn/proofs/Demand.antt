@@ -5,15 +5,20 @@ use mathlib.Core.Path.{_≡_, refl, sym, ap, _∙_}
 use mathlib.Core.Logic.{_⊎_, inl, inr}
 use mathlib.Core.Bool.{Bool, true, false, not, cond}
 use mathlib.Core.List.{List, [], _∷_, _++_}
-use Prim.Native.Nat.{ℕ, suc, _+_, _≤_, _<_}
+use Prim.Native.Nat.{ℕ, suc, _+_, _-_, _*_, _≤_, _<_}
 use native.Mathlib.Omega.{arith}
 use lib.Dec.{leb, eqb}
 use lib.ListN.{length, take, drop}
 use borrow.Author.Tests.{eqb-true, ne-eqb, le-leb, lt-leb}
+use Rattle.bytes.specs.Texts.{text}
+use Rattle.calendar.specs.Dates.{lastMinute}
 use Rattle.crontab.specs.declared.Rules.{Rules}
 use Rattle.crontab.specs.declared.table.Table.{Table}
 use Rattle.crontab.specs.Limits.{maxEntries}
+use Rattle.crontab.specs.declared.firing.DueAnswer.{DueAnswer}
+use Rattle.crontab.specs.declared.firing.DueAnswer.the-variants as due
 use Rattle.crontab.specs.Tables.{tableOf}
+use Rattle.crontab.specs.Firings.{dueIn}
 use Rattle.crontab.proofs.Theorems.{table-sound}
 use Rattle.fifo.specs.declared.Ticked.{Ticked}
 use Rattle.fifo.specs.declared.Ticked.the-variants as tick
@@ -30,15 +35,18 @@ use Rattle.fifo.specs.Buffer.{Use, lent, callOn, bufferAfter, callsOn, bufferAf
 use Rattle.fifo.proofs.Theorems.{TickedWithin, PoppedWithin, buffer-follows, found-follows, standing-in, steady-every-paced}
 use Rattle.runqueue.specs.Calls.{initTable, tickTable, popTable, entryTable}
 use Rattle.runqueue.specs.Jobs.{jobsOf}
-use Rattle.runqueue.specs.Demand.{jobsIn, boundFrom, boundEveryFrom}
-use Rattle.runqueue.proofs.Theorems.{entry-good, few, table-steps-good, tick-told, pop-told, table-fair-in-buffer, table-fair-every, table-waits-exactly, table-waits-at-most}
+use Rattle.runqueue.specs.Demand.{jobsIn, CanFire, boundFrom, boundEveryFrom}
+use Rattle.runqueue.proofs.Theorems as runqueue
+use Rattle.runqueue.proofs.Theorems.{entry-good, few, table-steps-good, tick-told, pop-told, table-fair-in-buffer, table-fair-every, table-waits-exactly, table-waits-at-most, table-waits-every}
 use Rattle.eremothyn.specs.Answer.{refusedFrom, answerOf}
 use Rattle.eremothyn.specs.Rules.{rulesOf}
 use Rattle.eremothyn.specs.Tables.{checkNumber}
+use Rattle.eremothyn.specs.Entries.{dueNumber}
 use Rattle.eremothyn.specs.Queue.{tickNumber, popNumber}
-use Rattle.eremothyn.specs.Calls.{checkCall, queueInitCall, queuePopCall, queueEntryCall}
+use Rattle.eremothyn.specs.Calls.{checkCall, dueCall, queueInitCall, queuePopCall, queueEntryCall}
+use Rattle.eremothyn.specs.Computing.{answering}
 use Rattle.eremothyn.specs.Demand.{answerTo, bytesAfter, bufferMade, bufferLeft, bufferLeftBy, callsMade, answered, Answers}
-use Rattle.eremothyn.specs.Demand.{QueueFair, QueueFairEvery, QueueFairSteady, QueueWaitsExactly, QueueWaitsAtMost}
+use Rattle.eremothyn.specs.Demand.{QueueFair, QueueFairEvery, QueueFairSteady, QueueWaitsExactly, QueueWaitsAtMost, QueueWaitsEvery}
 
 -- ---- numbers
 
@@ -155,6 +163,16 @@ after-made table kind dialect good size buffer first second =
 
 -- ---- the third demand
 
+-- an entry that is due at any minute can fire
+pub due-can-fire : (table : List ℕ) (kind dialect e m : ℕ) → dueCall table kind dialect e m ≡ 1 → CanFire (rulesOf kind dialect) table e
+unfolding dueNumber
+due-can-fire table kind dialect e m q = runqueue.due-can-fire (rulesOf kind dialect) table e m (go (dueIn (tableOf (rulesOf kind dialect) table) e m) q)
+  where
+    go : (a : DueAnswer) → dueNumber a ≡ 1 → a ≡ due.Yes
+    go due.Yes q = refl
+    go due.No q = absurd (omega (arith, q))
+    go (due.Refused number) q = absurd (omega (arith, q))
+
 pub queue-fair : QueueFair
 queue-fair table kind dialect e t size buffer first second f made on paced =
     let rules = rulesOf kind dialect in
@@ -196,6 +214,19 @@ queue-fair-steady table kind dialect k e t size buffer first f made on some =
     let all = answered-is table kind dialect good calls ∙ taken in
     rw same
     (rw (same, all) at (queue-fair-every table kind dialect k e t size buffer first second f made on (rw (same, all) paced)))
+
+-- at its edges: a request once a day, up to the calendar's last minute
+pub queue-fair-ends : (size : ℕ) (buffer : List ℕ)
+    → let table = text "* * * * * a\n" in
+    let t = 4223371679 - 21038579 in
+    let n = boundEveryFrom (rulesOf 0 0) table 1440 0 t in
+    queueInitCall table 0 0 (take size buffer) ≤ refusedFrom
+    → (t + n ≡ lastMinute) × Answers table 0 0 0 (upTo n (callsMade table 0 0 (bufferMade table 0 0 size buffer) (steadyEvery size 1440 (t + 1) n 0)))
+unfolding answering bufferLeftBy
+queue-fair-ends size buffer made =
+    let table = text "* * * * * a\n" in
+    let can = due-can-fire table 0 0 0 0 refl in
+    (refl, queue-fair-steady table 0 0 1440 0 (4223371679 - 21038579) size buffer [] can made (runqueue.every-ends .0) (omega arith))
 
 -- ---- how long a queued entry waits
 
@@ -246,3 +277,14 @@ queue-waits-at-most table kind dialect e p size buffer us bytes q h =
     rw (check-is table kind dialect good, calls-is table kind dialect good us buffer, answered-is table kind dialect good (callsOn jobs buffer us))
     (λ enough. names-answers table kind dialect good e (upToRequest (jobs .count) (unrefused jobs (callsOn jobs buffer us)))
     (table-waits-at-most rules table e (lineOf (take size buffer)) (callsOn jobs buffer us) proper waits follows enough))
+
+pub queue-waits-every : QueueWaitsEvery
+unfolding jobsOf
+queue-waits-every table kind dialect k e p m size buffer us bytes q h =
+    let rules = rulesOf kind dialect in
+    let jobs = jobsIn rules table in
+    let (good, is, at) = entry-there table kind dialect e p (take size buffer) q h in
+    let (proper, follows) = found-follows jobs (few rules table) size buffer bytes is us in
+    rw (calls-is table kind dialect good us buffer, answered-is table kind dialect good (callsOn jobs buffer us))
+    (λ paced. names-answers table kind dialect good e (upTo (k * suc p - 1) (unrefused jobs (callsOn jobs buffer us)))
+    (table-waits-every rules table k e p m (lineOf (take size buffer)) (callsOn jobs buffer us) proper at follows paced))

@@ -3,21 +3,24 @@
 -- answer is above 4,294,967,296. `Paced`, `PacedEvery`, `upTo` and `upToRequest` are fifo's, which speak of the order of the calls alone.
 -- That the claims hold is proved in proofs/Theorems.
 -- Assumes nothing.
-use mathlib.Core.Path.{_≡_}
-use mathlib.Core.Logic.{_⊎_}
-use Prim.Native.Nat.{ℕ, suc, _+_, _≤_, _<_}
+use mathlib.Core.Path.{_≡_, refl}
+use mathlib.Core.Logic.{_⊎_, inl, inr}
+use Prim.Native.Nat.{ℕ, suc, _+_, _-_, _*_, _≤_, _<_}
 use mathlib.Core.Bool.{true, cond}
-use mathlib.Core.List.{List, [], _∷_, _++_}
+use mathlib.Core.List.{List, [], _∷_, _++_, map}
+use native.Mathlib.Omega.{arith}
 use lib.Dec.{leb}
-use lib.ListN.{take, drop, getD}
+use lib.ListN.{take, drop, getD, replicate}
+use Rattle.bytes.specs.Texts.{text}
 use Rattle.fifo.specs.Fairness.{Call, tick, pop, Paced, upTo}
 use Rattle.fifo.specs.FairEvery.{PacedEvery, steadyEvery}
 use Rattle.fifo.specs.Waits.{requests, upToRequest}
-use Rattle.fifo.specs.Buffer.{Use, lent, callOn}
+use Rattle.fifo.specs.Buffer.{Use, tickIn, popIn, lent, callOn}
 use Rattle.runqueue.specs.Demand.{CanFire, boundFrom, OnCalendar, boundEveryFrom, OnCalendarEvery}
 use Rattle.eremothyn.specs.Answer.{refusedFrom}
 use Rattle.eremothyn.specs.Rules.{rulesOf}
 use Rattle.eremothyn.specs.Calls.{checkCall, queueInitCall, queueInitRoom, queueTickCall, queueTickRoom, queuePopCall, queuePopRoom, queueEntryCall}
+use Rattle.eremothyn.specs.Computing.{answering}
 
 -- ---- calls on one buffer
 
@@ -113,3 +116,39 @@ QueueWaitsAtMost = (table : List ℕ) (kind dialect e p size : ℕ) (buffer : Li
     → e < refusedFrom
     → let calls = answered table kind dialect (callsMade table kind dialect buffer us) in
     checkCall table kind dialect ≤ requests calls → Answers table kind dialect e (upToRequest (checkCall table kind dialect) calls)
+
+-- In minutes: where those after the last announcement go on one by one, with a request every k announcements, it is named by the first request after
+-- k * (p + 1) - 1 more.
+abbrev pub QueueWaitsEvery : Type 0
+QueueWaitsEvery = (table : List ℕ) (kind dialect k e p m size : ℕ) (buffer : List ℕ) (us : List Use)
+    → ((i : ℕ) → getD buffer i 0 < 256)
+    → queueEntryCall table kind dialect (take size buffer) p ≡ e
+    → e < refusedFrom
+    → let calls = answered table kind dialect (callsMade table kind dialect buffer us) in
+    let n = k * suc p - 1 in
+    PacedEvery k m n 1 calls → Answers table kind dialect e (upTo n calls)
+
+-- ---- worked: the table of paper 01's whole run, in a buffer of 90 bytes
+
+abbrev whole : List ℕ
+whole = text "* * * * * a\n@reboot b\n0 * * * * c\n"
+
+-- A minute off the calendar is refused with 14, and 15 bytes, one too few for three entries, with 28: these change nothing and don't count.
+-- "Nothing waits" counts. The bytes that aren't lent stay.
+calls-run :
+    let made = bufferMade whole 0 0 88 (replicate 90 7) in
+    let us = popIn 88 ∷ tickIn 59 90 ∷ tickIn 4223371680 88 ∷ popIn 15 ∷ tickIn 60 88 ∷ popIn 16 ∷ popIn 90 ∷ popIn 88 ∷ [] in
+    let calls = callsMade whole 0 0 made us in
+    (map (answerTo whole 0 0) calls ≡ 1 ∷ 1 ∷ 4294967310 ∷ 4294967324 ∷ 1 ∷ 0 ∷ 2 ∷ 4294967296 ∷ [])
+    × (map (answerTo whole 0 0) (answered whole 0 0 calls) ≡ 1 ∷ 1 ∷ 1 ∷ 0 ∷ 2 ∷ 4294967296 ∷ [])
+    × (drop 16 (bufferLeftBy whole 0 0 made us) ≡ replicate 74 7)
+unfolding answering answerTo bytesAfter bufferMade bufferLeft bufferLeftBy callsMade answered
+calls-run = (refl, refl, refl)
+
+-- Only a request answers an entry: 1 is what the announcement of minute 59 answers, too, and doesn't count.
+answers : let made = bufferMade whole 0 0 88 (replicate 90 7) in
+    Answers whole 0 0 1 (tick 59 made ∷ pop made ∷ [])
+    × (Answers whole 0 0 1 (tick 59 made ∷ []) → ⊥)
+    × (Answers whole 0 0 0 (tick 59 made ∷ pop made ∷ []) → ⊥)
+unfolding answering bufferMade
+answers = (inl refl, (λ a. a), (λ a. elim a [ inl q ↦ absurd (omega (arith, q)) | inr a ↦ a ]))

@@ -105,13 +105,13 @@ paced-some k (tick minute room ∷ cs) m (suc n) since paced = omega (arith, pac
 
 -- ---- an entry that waits is named
 
-times-next : (k p : ℕ) → k * suc p ≡ k + k * p
+pub times-next : (k p : ℕ) → k * suc p ≡ k + k * p
 times-next k p = omega arith
 
 module _ (jobs : Jobs) (e k : ℕ) (some : 0 < k) where
   -- With p before it, n minutes to come and `since` announced since the last request: a request comes within k - since announcements, and each of
   -- the p after it within k more.
-  waiting-named : (cs : List Call) (mark : Mark) (l : List ℕ) (p m n since : ℕ) → At e p l → since ≤ k → k + k * p ≤ n + since
+  pub waiting-named : (cs : List Call) (mark : Mark) (l : List ℕ) (p m n since : ℕ) → At e p l → since ≤ k → k + k * p ≤ n + since
       → Runs jobs (record { mark = mark; waiting = l }) cs → PacedEvery k m n since cs → Names jobs e (upTo n cs)
   unfolding ticked front behind popped
   waiting-named [] mark l p m n since a h near r paced = absurd (omega (arith, paced .0, paced .1))

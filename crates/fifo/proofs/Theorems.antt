@@ -34,7 +34,7 @@ pub use Rattle.fifo.proofs.Outrun.{held-stays, outrun, soon-past-hold}
 unfoldable pub use Rattle.fifo.proofs.OneByOne.{isCalled}
 pub use Rattle.fifo.proofs.OneByOne.{Before, fresh-line, without, emptied-line, emptied-is, announced-is, announced-line, announced-mark, announced-stands}
 -- a queued entry is named after those before it, and by the N-th request at the latest
-pub use Rattle.fifo.proofs.Waits.{standing-in, waits-exactly, waits-at-most, called-waits}
+pub use Rattle.fifo.proofs.Waits.{standing-in, waits-exactly, waits-at-most, called-waits, waits-every}
 -- what calls on one buffer follow from: the queue that was made in it, or the one that is found there
 pub use Rattle.fifo.proofs.Buffer.{buffer-follows, found-follows}
 -- a request after each announcement, or every 1: the same

@@ -4,7 +4,7 @@ use mathlib.Core.Path.{_≡_, refl, sym, _∙_}
 use mathlib.Core.Logic.{_⊎_, inl, inr}
 use mathlib.Core.Bool.{Bool, true, false, _||_, false≢true}
 use mathlib.Core.List.{List, [], _∷_, _++_}
-use Prim.Native.Nat.{ℕ, zero, suc, _≤_, _<_}
+use Prim.Native.Nat.{ℕ, zero, suc, _-_, _*_, _≤_, _<_}
 use native.Mathlib.Omega.{arith}
 use lib.Dec.{eqb}
 use borrow.Author.Tests.{eq-eqb}
@@ -14,11 +14,11 @@ use Rattle.fifo.specs.declared.Popped.the-variants.{Entry}
 use Rattle.fifo.specs.WaitingLine.{Line, standsIn, entriesOf, proper}
 use Rattle.fifo.specs.Steps.{Jobs, joiners, ticked, front, behind, popped, popStep, standing}
 use Rattle.fifo.specs.Fairness.{Call, tick, pop, unrefused, Names}
-use Rattle.fifo.specs.Waits.{requests, upToRequest, WaitsExactly, WaitsAtMost, CalledWaits}
+use Rattle.fifo.specs.Waits.{requests, upToRequest, WaitsExactly, WaitsAtMost, CalledWaits, WaitsEvery}
 use Rattle.fifo.proofs.WaitingLines.{entries-cons, entries-length}
 use Rattle.fifo.proofs.Lines.{is-proper}
 use Rattle.fifo.proofs.Calls.{ticked-entries}
-use Rattle.fifo.proofs.Fair.{At, here, there, at-append, at-length, at-stands, ticked-stands, Runs, runs, runs-ticked}
+use Rattle.fifo.proofs.Fair.{At, here, there, at-append, at-length, at-stands, ticked-stands, Runs, runs, runs-ticked, paced-some, times-next, waiting-named}
 
 -- ---- places
 
@@ -100,3 +100,10 @@ pub called-waits : CalledWaits
 called-waits jobs e minute l room cs h good below timed called follows taken enough =
     named-last jobs e (unrefused jobs cs) (ticked jobs minute l) (ticked-entries jobs l minute (is-proper (jobs .count) l good .1))
     (ticked-stands jobs e minute l below timed called) enough (runs-ticked jobs h minute room cs l good follows taken)
+
+pub waits-every : WaitsEvery
+waits-every jobs k e p m l cs h good at follows paced =
+    let n = k * suc p - 1 in
+    let some = paced-some k (unrefused jobs cs) m n 1 paced in
+    waiting-named jobs e k some (unrefused jobs cs) (l .mark) (l .waiting) p m n 1 (at-standing e p (l .waiting) at) (omega arith)
+    (omega (arith, times-next k p)) (runs jobs h cs l good follows) paced

@@ -2,14 +2,15 @@
 -- that join come after it. That the claims hold is proved in proofs/Theorems.
 -- Assumes nothing.
 use mathlib.Core.Path.{_≡_}
-use Prim.Native.Nat.{ℕ, zero, suc, _≤_, _<_}
+use Prim.Native.Nat.{ℕ, zero, suc, _-_, _*_, _≤_, _<_}
 use mathlib.Core.Bool.{true, false}
 use mathlib.Core.List.{List, [], _∷_}
 use Rattle.fifo.specs.declared.Popped.the-variants.{Entry}
 use Rattle.fifo.specs.WaitingLine.{Line, standsIn, proper}
 use Rattle.fifo.specs.Queue.{limit}
 use Rattle.fifo.specs.Steps.{Jobs, calls, standing}
-use Rattle.fifo.specs.Fairness.{Call, tick, pop, isRefused, unrefused, Follows, Names}
+use Rattle.fifo.specs.Fairness.{Call, tick, pop, isRefused, unrefused, Follows, upTo, Names}
+use Rattle.fifo.specs.FairEvery.{PacedEvery}
 
 -- how many requests there are among the calls
 abbrev pub requests : List Call → ℕ
@@ -55,3 +56,14 @@ CalledWaits = (jobs : Jobs) (e minute : ℕ) (l : Line) (room : List ℕ) (cs : 
     → isRefused jobs (tick minute room) ≡ false
     → jobs .count ≤ requests (unrefused jobs cs)
     → Names jobs e (upToRequest (jobs .count) (unrefused jobs cs))
+
+-- In minutes: where those after the last announcement go on one by one, with a request every k announcements, an entry at place p is named by the first
+-- request after k * (p + 1) - 1 more.
+abbrev pub WaitsEvery : Type 0
+WaitsEvery = (jobs : Jobs) (k e p m : ℕ) (l : Line) (cs : List Call)
+    → jobs .count < limit
+    → proper (jobs .count) l ≡ true
+    → standing p (l .waiting) ≡ Entry e
+    → Follows jobs l cs
+    → let n = k * suc p - 1 in
+    PacedEvery k m n 1 (unrefused jobs cs) → Names jobs e (upTo n (unrefused jobs cs))

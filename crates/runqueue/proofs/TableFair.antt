@@ -8,11 +8,11 @@ use Rattle.schedule.specs.Local.{gapIn}
 use Rattle.crontab.specs.declared.Rules.{Rules}
 use Rattle.fifo.specs.Fairness.{unrefused}
 use Rattle.fifo.proofs.Theorems.{fair-from, fair, refused-only, fair-in-buffer, fair-steady}
-use Rattle.fifo.proofs.Theorems.{paced-some, fair-every-from, fair-every, waits-exactly, waits-at-most, called-waits, called-every}
+use Rattle.fifo.proofs.Theorems.{paced-some, fair-every-from, fair-every, waits-exactly, waits-at-most, waits-every, called-waits, called-every}
 use Rattle.runqueue.specs.Jobs.{jobsOf}
 use Rattle.runqueue.specs.Demand.{jobsIn, TableFair, TableFairFrom, TableRefusedOnly, TableFairInBuffer, TableFairSteady, aheadOf, hold, OnCalendar}
 use Rattle.runqueue.specs.Demand.{boundEveryFrom, OnCalendarEvery, TableFairEvery, TableFairEveryFrom}
-use Rattle.runqueue.specs.Waits.{TableWaitsExactly, TableWaitsAtMost, TableCalledWaits, TableCalledEvery}
+use Rattle.runqueue.specs.Waits.{TableWaitsExactly, TableWaitsAtMost, TableWaitsEvery, TableCalledWaits, TableCalledEvery}
 use Rattle.runqueue.proofs.TableJobs.{soon, few}
 
 -- the third demand, from any line of the table
@@ -71,6 +71,9 @@ table-waits-at-most rules table e l cs = waits-at-most (jobsIn rules table) e l 
 
 pub table-called-waits : TableCalledWaits
 table-called-waits rules table e minute l room cs = called-waits (jobsIn rules table) e minute l room cs (few rules table)
+
+pub table-waits-every : TableWaitsEvery
+table-waits-every rules table k e p m l cs = waits-every (jobsIn rules table) k e p m l cs (few rules table)
 
 pub table-called-every : TableCalledEvery
 table-called-every rules table k e minute l room second good below timed called =

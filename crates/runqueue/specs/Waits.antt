@@ -46,8 +46,19 @@ TableCalledWaits = (rules : Rules) (table : List ℕ) (e minute : ℕ) (l : Line
     → jobs .count ≤ requests (unrefused jobs cs)
     → Names jobs e (upToRequest (jobs .count) (unrefused jobs cs))
 
--- And where minutes go on one by one, with a request every k announcements, it is named by the first request after k * N - 1 more: for 27 entries and
--- a request each minute, at most 26 minutes later.
+-- In minutes: where those after the last announcement go on one by one, with a request every k announcements, an entry at place p is named by the first
+-- request after k * (p + 1) - 1 more.
+abbrev pub TableWaitsEvery : Type 0
+TableWaitsEvery = (rules : Rules) (table : List ℕ) (k e p m : ℕ) (l : Line) (cs : List Call)
+    → let jobs = jobsIn rules table in
+    proper (jobs .count) l ≡ true
+    → standing p (l .waiting) ≡ Entry e
+    → Follows jobs l cs
+    → let n = k * suc p - 1 in
+    PacedEvery k m n 1 (unrefused jobs cs) → Names jobs e (upTo n (unrefused jobs cs))
+
+-- So an entry that an announcement calls is named by the first request after k * N - 1 more: for 27 entries and a request each minute, at most 26
+-- minutes later.
 abbrev pub TableCalledEvery : Type 0
 TableCalledEvery = (rules : Rules) (table : List ℕ) (k e minute : ℕ) (l : Line) (room : List ℕ) (second : List Call)
     → let jobs = jobsIn rules table in
