@@ -3,13 +3,13 @@
 -- Assumes nothing.
 use mathlib.Core.Path.{_≡_, refl, sym, ap, _∙_}
 use mathlib.Core.Logic.{_⊎_, inl, inr}
-use mathlib.Core.Bool.{Bool, true, false, not, cond}
+use mathlib.Core.Bool.{Bool, true, false, not, cond, _&&_, and-eq-true-iff}
 use mathlib.Core.List.{List, [], _∷_, _++_}
-use Prim.Native.Nat.{ℕ, suc, _+_, _-_, _*_, _≤_, _<_}
+use Prim.Native.Nat.{ℕ, zero, suc, _+_, _-_, _*_, _≤_, _<_}
 use native.Mathlib.Omega.{arith}
-use lib.Dec.{leb, eqb}
-use lib.ListN.{length, take, drop}
-use borrow.Author.Tests.{eqb-true, ne-eqb, le-leb, lt-leb}
+use lib.Dec.{ltb, leb, eqb}
+use lib.ListN.{length, take, drop, getD, replicate}
+use borrow.Author.Tests.{ltb-true, eqb-true, ne-eqb, le-leb, lt-leb}
 use Rattle.bytes.specs.Texts.{text}
 use Rattle.calendar.specs.Dates.{lastMinute}
 use Rattle.crontab.specs.declared.Rules.{Rules}
@@ -31,7 +31,7 @@ use Rattle.fifo.specs.Steps.{Jobs, Step, fresh, initStep, standing, entryStep}
 use Rattle.fifo.specs.Fairness.{Call, tick, pop, roomAfter, refusal, isRefused, unrefused, upTo, Names}
 use Rattle.fifo.specs.FairEvery.{steadyEvery}
 use Rattle.fifo.specs.Waits.{requests, upToRequest}
-use Rattle.fifo.specs.Buffer.{Use, lent, callOn, bufferAfter, callsOn, bufferAfterAll, started}
+use Rattle.fifo.specs.Buffer.{Use, tickIn, lent, callOn, bufferAfter, callsOn, bufferAfterAll, started}
 use Rattle.fifo.proofs.Theorems.{TickedWithin, PoppedWithin, buffer-follows, found-follows, standing-in, steady-every-paced}
 use Rattle.runqueue.specs.Calls.{initTable, tickTable, popTable, entryTable}
 use Rattle.runqueue.specs.Jobs.{jobsOf}
@@ -45,7 +45,7 @@ use Rattle.eremothyn.specs.Entries.{dueNumber}
 use Rattle.eremothyn.specs.Queue.{tickNumber, popNumber}
 use Rattle.eremothyn.specs.Calls.{checkCall, dueCall, queueInitCall, queuePopCall, queueEntryCall}
 use Rattle.eremothyn.specs.Computing.{answering}
-use Rattle.eremothyn.specs.Demand.{answerTo, bytesAfter, bufferMade, bufferLeft, bufferLeftBy, callsMade, answered, Answers}
+use Rattle.eremothyn.specs.Demand.{answerTo, bytesAfter, bufferMade, bufferLeft, bufferLeftBy, callsMade, answered, Answers, whole}
 use Rattle.eremothyn.specs.Demand.{QueueFair, QueueFairEvery, QueueFairSteady, QueueWaitsExactly, QueueWaitsAtMost, QueueWaitsEvery}
 
 -- ---- numbers
@@ -288,3 +288,22 @@ queue-waits-every table kind dialect k e p m size buffer us bytes q h =
     rw (calls-is table kind dialect good us buffer, answered-is table kind dialect good (callsOn jobs buffer us))
     (λ paced. names-answers table kind dialect good e (upTo (k * suc p - 1) (unrefused jobs (callsOn jobs buffer us)))
     (table-waits-every rules table k e p m (lineOf (take size buffer)) (callsOn jobs buffer us) proper at follows paced))
+
+-- used at the last place of paper 01's table of three, after the announcement of minute 60: entry 2 is the answer of the third request, and of none before
+abbrev areBytes : List ℕ → Bool
+areBytes [] = true
+areBytes (b ∷ s) = ltb b 256 && areBytes s
+
+are-bytes : (s : List ℕ) → areBytes s ≡ true → (i : ℕ) → getD s i 0 < 256
+are-bytes [] e i = omega arith
+are-bytes (b ∷ s) e zero = ltb-true b 256 (and-eq-true-iff (ltb b 256) (areBytes s) .0 e .0)
+are-bytes (b ∷ s) e (suc i) = are-bytes s (and-eq-true-iff (ltb b 256) (areBytes s) .0 e .1) i
+
+pub waits-third : (us : List Use)
+    → let buffer = bufferLeftBy whole 0 0 (bufferMade whole 0 0 88 (replicate 90 7)) (tickIn 60 88 ∷ []) in
+    let calls = answered whole 0 0 (callsMade whole 0 0 buffer us) in
+    (Answers whole 0 0 2 (upToRequest 2 calls) → ⊥) × (2 < requests calls → Answers whole 0 0 2 (upToRequest 3 calls))
+unfolding answering bytesAfter bufferMade bufferLeft bufferLeftBy
+waits-third us =
+    let buffer = bufferLeftBy whole 0 0 (bufferMade whole 0 0 88 (replicate 90 7)) (tickIn 60 88 ∷ []) in
+    queue-waits-exactly whole 0 0 2 2 88 buffer us (are-bytes buffer refl) refl (omega arith)

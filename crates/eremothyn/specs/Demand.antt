@@ -130,7 +130,7 @@ QueueWaitsEvery = (table : List ℕ) (kind dialect k e p m size : ℕ) (buffer :
 
 -- ---- worked: the table of paper 01's whole run, in a buffer of 90 bytes
 
-abbrev whole : List ℕ
+abbrev pub whole : List ℕ
 whole = text "* * * * * a\n@reboot b\n0 * * * * c\n"
 
 -- A minute off the calendar is refused with 14, and 15 bytes, one too few for three entries, with 28: these change nothing and don't count.
@@ -146,9 +146,9 @@ unfolding answering answerTo bytesAfter bufferMade bufferLeft bufferLeftBy calls
 calls-run = (refl, refl, refl)
 
 -- Only a request answers an entry: 1 is what the announcement of minute 59 answers, too, and doesn't count.
-answers : let made = bufferMade whole 0 0 88 (replicate 90 7) in
+answers-run : let made = bufferMade whole 0 0 88 (replicate 90 7) in
     Answers whole 0 0 1 (tick 59 made ∷ pop made ∷ [])
     × (Answers whole 0 0 1 (tick 59 made ∷ []) → ⊥)
     × (Answers whole 0 0 0 (tick 59 made ∷ pop made ∷ []) → ⊥)
 unfolding answering bufferMade
-answers = (inl refl, (λ a. a), (λ a. elim a [ inl q ↦ absurd (omega (arith, q)) | inr a ↦ a ]))
+answers-run = (inl refl, (λ a. a), (λ a. elim a [ inl q ↦ absurd (omega (arith, q)) | inr a ↦ a ]))

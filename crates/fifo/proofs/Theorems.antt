@@ -229,7 +229,7 @@ called-every jobs k e minute l room second h below timed called good follows tak
     waits-named jobs e k some below timed (unrefused jobs second) l minute (minute + 1) n 1 (is-proper (jobs .count) l good .1) called (omega arith) (omega arith)
     (omega arith) (runs-ticked jobs h minute room second l good follows taken) paced
 
--- with k = 1 it is the demand: from any line
+-- with k = 1 it is the demand, from any queue
 pub fair-from : FairFrom
 fair-from jobs gap e t l second h below timed soon good follows paced =
     let same : boundEvery jobs 1 gap ≡ bound jobs gap = omega arith in
