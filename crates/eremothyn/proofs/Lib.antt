@@ -1,3 +1,4 @@
 pub mod DateRuns
 pub mod Apart
+pub mod Demand
 pub mod Theorems

@@ -5,6 +5,10 @@
 --   never-reversed: a check in the second dialect never answers refusal 7 (ticket 2026-13)
 --   command-placed: the bytes from a command's offset on, as many as its length, are the command
 --   date-parts: the six numbers of a date are what the six calls for its parts answer
+--   queue-fair: the third demand over the calls that C makes on one buffer; queue-fair-every: where requests come every k announcements; queue-fair-steady:
+--     with no hypothesis about calls; queue-fair-ends: up to the calendar's last minute; due-can-fire: the entries of which they speak are those that are ever due
+--   queue-waits-exactly: the entry that a look finds at place p is the answer of request p + 1, and of no earlier one; queue-waits-at-most: so by the N-th;
+--     queue-waits-every: and within k * (p + 1) - 1 minutes, where requests come every k announcements; waits-third: used at the last place of three
 --   told-apart: every number tells whether the call was refused
 --   refused-stays: and then no byte and no number was changed
 -- Assumes nothing.
@@ -58,6 +62,7 @@ use Rattle.eremothyn.specs.Entries.{nextNumber, placeNumber}
 use Rattle.eremothyn.specs.KnownDays.{KnownDays}
 use Rattle.eremothyn.specs.Apart.{ToldApart, RefusedStays}
 pub use Rattle.eremothyn.proofs.DateRuns.{date-parts}
+pub use Rattle.eremothyn.proofs.Demand.{due-can-fire, queue-fair, queue-fair-every, queue-fair-steady, queue-fair-ends, queue-waits-exactly, queue-waits-at-most, queue-waits-every, waits-third}
 use Rattle.eremothyn.proofs.Apart.{part-tells, minute-tells, date-tells, check-tells, place-tells, setting-tells, line-tells, owner-tells, due-tells, next-tells}
 use Rattle.eremothyn.proofs.Apart.{split-tells, stdin-tells, form-tells, tick-tells, pop-tells, list-tells, date-stays, split-stays, form-stays, tick-keeps, pop-keeps}
 

@@ -14,3 +14,4 @@ pub mod Computing
 pub mod Examples
 pub mod KnownDays
 pub mod Apart
+pub mod Demand

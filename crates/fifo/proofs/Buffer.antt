@@ -11,15 +11,17 @@ use lib.ListN.{length, take, drop, length-take, take-append-drop}
 use lib.Seq.{take-append-add}
 use borrow.Author.Tests.{leb-true}
 use Rattle.bytes.specs.Laid as front
+use Rattle.bytes.proofs.LittleEndian.{Bytes, bytes-take}
 use Rattle.fifo.specs.WaitingLine.{Line, proper}
 use Rattle.fifo.specs.Queue.{limit}
-use Rattle.fifo.specs.Layout.{lineOf, image, laid, lineSize, roomy}
+use Rattle.fifo.specs.Layout.{lineOf, image, laid, lineSize, roomy, isLine}
 use Rattle.fifo.specs.Steps.{Jobs, fresh, initStep}
 use Rattle.fifo.specs.Fairness.{Call, roomOf, roomAfter, isRefused, lineAfter, Holds, Follows}
 use Rattle.fifo.specs.Buffer.{Use, tickIn, popIn, lent, callOn, bufferAfter, callsOn, bufferAfterAll, started}
 use Rattle.fifo.proofs.WaitingLines.{entries-length}
-use Rattle.fifo.proofs.Lines.{length-line, lineOf-laid, is-proper}
-use Rattle.fifo.proofs.Calls.{holds-front, holds-laid, Undone, Done, effect, outcome, after-proper}
+use Rattle.fifo.proofs.Lines.{length-line, lineOf-laid, is-line, is-proper, make-proper}
+use Rattle.fifo.proofs.Looks.{laid-line}
+use Rattle.fifo.proofs.Calls.{fresh-proper, holds-front, holds-laid, Undone, Done, effect, outcome, after-proper}
 
 -- ---- a line at the front of a buffer
 
@@ -94,3 +96,23 @@ pub calls-append : (jobs : Jobs) (first second : List Use) (buffer : List ℕ)
 unfolding callsOn bufferAfterAll
 calls-append jobs [] second buffer = refl
 calls-append jobs (u ∷ us) second buffer = rw (calls-append jobs us second (bufferAfter jobs buffer u))
+
+-- a list that comes after any other on a buffer in which a queue was made
+pub buffer-follows : (jobs : Jobs) (h : jobs .count < limit) (size : ℕ) (buffer : List ℕ) → roomy (jobs .count) (take size buffer) ≡ true → (first second : List Use)
+    → let b = started jobs size buffer in
+    Follows jobs (fresh jobs) (callsOn jobs b first ++ callsOn jobs (bufferAfterAll jobs b first) second)
+buffer-follows jobs h size buffer r first second =
+    let b = started jobs size buffer in
+    rw (calls-append jobs first second b) at (on-follows jobs h (first ++ second) b (fresh jobs) (fresh-proper jobs) (started-holds jobs h size buffer r))
+
+-- a list on a buffer of bytes in which a queue is found
+pub found-follows : (jobs : Jobs) (h : jobs .count < limit) (size : ℕ) (buffer : List ℕ) → Bytes buffer → isLine (jobs .count) (take size buffer) ≡ true → (us : List Use)
+    → let l = lineOf (take size buffer) in
+    (proper (jobs .count) l ≡ true) × Follows jobs l (callsOn jobs buffer us)
+unfolding lineOf
+found-follows jobs h size buffer f e us =
+    let l = lineOf (take size buffer) in
+    let is = is-line (jobs .count) (take size buffer) e in
+    let good = make-proper (jobs .count) l (is .0) (is .1) in
+    let held = holds-more l (take size buffer) (drop size buffer) (laid-line (jobs .count) (take size buffer) (bytes-take size buffer f) e) in
+    (good, on-follows jobs h us buffer l good (rw (take-append-drop size buffer) at held))

@@ -9,6 +9,7 @@ pub mod Filling
 pub mod Looks
 pub mod Calls
 pub mod Fair
+pub mod Waits
 pub mod Outrun
 pub mod OneByOne
 pub mod Buffer

@@ -1,14 +1,14 @@
--- The steady list is paced, and none of its calls is refused: a buffer keeps its length and always has a line of entries at its front.
+-- The steady lists are paced, and none of their calls is refused: a buffer keeps its length and always has a line of entries at its front.
 -- Assumes nothing.
 use mathlib.Core.Path.{_≡_, refl, ap, _∙_}
 use mathlib.Core.Logic.{inl, inr}
 use mathlib.Core.Bool.{Bool, true, false, cond, true≢false}
-use mathlib.Core.List.{List, [], _∷_}
+use mathlib.Core.List.{List, [], _∷_, _++_}
 use Prim.Native.Nat.{ℕ, zero, suc, _+_, _≤_, _<_}
 use native.Mathlib.Omega.{arith}
 use lib.Dec.{leb}
 use lib.ListN.{length, take, drop, length-take, length-drop, length-append}
-use borrow.Author.Tests.{leb-true, le-leb}
+use borrow.Author.Tests.{leb-true, leb-false, le-leb}
 use Rattle.calendar.specs.Dates.{lastMinute}
 use Rattle.fifo.specs.WaitingLine.{Line, proper}
 use Rattle.fifo.specs.Queue.{limit}
@@ -18,10 +18,22 @@ use Rattle.fifo.specs.RefusedCalls.{expected}
 use Rattle.fifo.specs.Fairness.{Call, tick, pop, roomOf, roomAfter, refusal, isRefused, unrefused, lineAfter, Holds, Paced}
 use Rattle.fifo.specs.Buffer.{Use, tickIn, popIn, lent, callOn, bufferAfter, callsOn, bufferAfterAll, started}
 use Rattle.fifo.specs.Steady.{steady}
+use Rattle.fifo.specs.FairEvery.{PacedEvery, steadyEvery}
 use Rattle.fifo.proofs.WaitingLines.{entries-length}
 use Rattle.fifo.proofs.Lines.{length-laid, is-proper}
 use Rattle.fifo.proofs.Calls.{Done, effect, outcome, fresh-proper, after-proper}
+use Rattle.fifo.proofs.Fair.{one-paced}
 use Rattle.fifo.proofs.Buffer.{room-on, on-holds, on-after, started-holds}
+
+-- ---- calls that nothing speaks against: bytes enough for a queue, and a minute of the calendar
+
+abbrev Sound : ℕ → Use → Type 0
+Sound least (tickIn minute size) = (least ≤ size) × (minute ≤ lastMinute)
+Sound least (popIn size) = least ≤ size
+
+abbrev AllSound : ℕ → List Use → Type 0
+AllSound least [] = Unit {0}
+AllSound least (u ∷ us) = Sound least u × AllSound least us
 
 -- ---- the buffer between calls
 
@@ -91,33 +103,52 @@ module _ (jobs : Jobs) (h : jobs .count < limit) (n : ℕ) where
 
   -- ---- the list
 
-  module _ (size : ℕ) (large : lineSize (jobs .count) ≤ size) (room : lineSize (jobs .count) ≤ n) where
-    part-roomy : (buffer : List ℕ) → Stands jobs n buffer → roomy (jobs .count) (take size buffer) ≡ true
+  module _ (room : lineSize (jobs .count) ≤ n) where
+    part-roomy : (size : ℕ) (buffer : List ℕ) → lineSize (jobs .count) ≤ size → Stands jobs n buffer → roomy (jobs .count) (take size buffer) ≡ true
     unfolding roomy
-    part-roomy buffer s = le-leb (lineSize (jobs .count)) (length (take size buffer)) (omega (arith, length-take size buffer, s .long))
+    part-roomy size buffer large s = le-leb (lineSize (jobs .count)) (length (take size buffer)) (omega (arith, length-take size buffer, s .long))
 
-    tick-taken : (m : ℕ) (buffer : List ℕ) → m ≤ lastMinute → Stands jobs n buffer → isRefused jobs (callOn buffer (tickIn m size)) ≡ false
+    one-taken : (u : Use) (buffer : List ℕ) → Sound (lineSize (jobs .count)) u → Stands jobs n buffer → isRefused jobs (callOn buffer u) ≡ false
     unfolding expected callOn c
-    tick-taken m buffer b s = taken buffer (tickIn m size) s (rw (part-roomy buffer s, le-leb m (lastMinute) b))
+    one-taken (tickIn m size) buffer k s = taken buffer (tickIn m size) s (rw (part-roomy size buffer (k .0) s, le-leb m (lastMinute) (k .1)))
+    one-taken (popIn size) buffer k s = taken buffer (popIn size) s (rw (part-roomy size buffer k s))
 
-    pop-taken : (buffer : List ℕ) → Stands jobs n buffer → isRefused jobs (callOn buffer (popIn size)) ≡ false
-    unfolding expected callOn c
-    pop-taken buffer s = taken buffer (popIn size) s (rw (part-roomy buffer s))
+    all-taken : (us : List Use) (buffer : List ℕ) → AllSound (lineSize (jobs .count)) us → Stands jobs n buffer
+        → unrefused jobs (callsOn jobs buffer us) ≡ callsOn jobs buffer us
+    unfolding callsOn unrefused
+    all-taken [] buffer k s = refl
+    all-taken (u ∷ us) buffer k s = rw (one-taken u buffer (k .0) s, all-taken us (bufferAfter jobs buffer u) (k .1) (after-stands buffer u s))
 
-    all-taken : (k m : ℕ) (buffer : List ℕ) → m + k ≤ lastMinute + 1 → Stands jobs n buffer
-        → unrefused jobs (callsOn jobs buffer (steady size m k)) ≡ callsOn jobs buffer (steady size m k)
-    unfolding steady callsOn unrefused
-    all-taken zero m buffer b s = refl
-    all-taken (suc k) m buffer b s =
-        let s′ = after-stands buffer (tickIn m size) s in
-        let buffer′ = bufferAfter jobs buffer (tickIn m size) in
-        let later = all-taken k (m + 1) (bufferAfter jobs buffer′ (popIn size)) (omega arith) (after-stands buffer′ (popIn size) s′) in
-        rw (tick-taken m buffer (omega arith) s, pop-taken buffer′ s′, later)
+module _ (size k : ℕ) where
+  every-sound : (least n m since : ℕ) → least ≤ size → m + n ≤ lastMinute + 1 → AllSound least (steadyEvery size k m n since)
+  unfolding steadyEvery
+  every-sound least zero m since h b = tt
+  every-sound least (suc n) m since h b =
+      let later = cond (leb k (since + 1)) 0 (since + 1) in
+      ((h, omega arith), go (leb k (since + 1)) (steadyEvery size k (m + 1) n later) (every-sound least n (m + 1) later h (omega arith)))
+    where
+      go : (full : Bool) (us : List Use) → AllSound least us → AllSound least (cond full (popIn size ∷ []) [] ++ us)
+      go true us rest = (h, rest)
+      go false us rest = rest
 
-paced : (jobs : Jobs) (size k m : ℕ) (buffer : List ℕ) → Paced m k true (callsOn jobs buffer (steady size m k))
-unfolding steady callsOn callOn
-paced jobs size zero m buffer = (refl, refl)
-paced jobs size (suc k) m buffer = (refl, refl, paced jobs size k (m + 1) _)
+  every-paced : (jobs : Jobs) (n m since : ℕ) (buffer : List ℕ) → since < k → PacedEvery k m n since (callsOn jobs buffer (steadyEvery size k m n since))
+  unfolding steadyEvery callsOn callOn
+  every-paced jobs zero m since buffer h = (refl, h)
+  every-paced jobs (suc n) m since buffer h =
+      (h, refl, go (leb k (since + 1)) refl (bufferAfter jobs buffer (tickIn m size)) (λ s b. every-paced jobs n (m + 1) s b))
+    where
+      go : (full : Bool) → leb k (since + 1) ≡ full → (buffer : List ℕ)
+          → ((s : ℕ) (b : List ℕ) → s < k → PacedEvery k (m + 1) n s (callsOn jobs b (steadyEvery size k (m + 1) n s)))
+          → PacedEvery k (m + 1) n (since + 1)
+          (callsOn jobs buffer (cond full (popIn size ∷ []) [] ++ steadyEvery size k (m + 1) n (cond full 0 (since + 1))))
+      go true q buffer later = later 0 (bufferAfter jobs buffer (popIn size)) (omega arith)
+      go false q buffer later = later (since + 1) buffer (leb-false k (since + 1) q)
+
+-- a request after each announcement
+steady-one : (size n m : ℕ) → steadyEvery size 1 m n 0 ≡ steady size m n
+unfolding steady steadyEvery
+steady-one size zero m = refl
+steady-one size (suc n) m = rw (steady-one size n (m + 1))
 
 -- the buffer as it starts
 module _ (jobs : Jobs) (h : jobs .count < limit) (size : ℕ) (buffer : List ℕ) (r : roomy (jobs .count) (take size buffer) ≡ true) where
@@ -138,11 +169,19 @@ module _ (jobs : Jobs) (h : jobs .count < limit) (size : ℕ) (buffer : List ℕ
       let same = length-laid (fresh jobs) (take size buffer) (omega (arith, enough)) in
       rw r (omega (arith, enough, same, length-append (laid (fresh jobs) (take size buffer)) (drop size buffer)))
 
+  pub every-from : (k t n : ℕ) (first : List Use) → t + n ≤ lastMinute → 0 < k
+      → let calls = callsOn jobs (bufferAfterAll jobs begun first) (steadyEvery size k (t + 1) n 0) in
+      (unrefused jobs calls ≡ calls) × PacedEvery k (t + 1) n 0 calls
+  every-from k t n first b some = (
+    all-taken jobs h (length begun) begun-long (steadyEvery size k (t + 1) n 0) (bufferAfterAll jobs begun first)
+        (every-sound size k (lineSize (jobs .count)) n (t + 1) 0 (omega (arith, enough, length-take size buffer)) (omega arith))
+        (end-stands jobs h (length begun) first begun at-first),
+    every-paced size k jobs n (t + 1) 0 (bufferAfterAll jobs begun first) some,
+  )
+
   pub steady-from : (t n : ℕ) (first : List Use) → t + n ≤ lastMinute
       → let calls = callsOn jobs (bufferAfterAll jobs begun first) (steady size (t + 1) n) in
       (unrefused jobs calls ≡ calls) × Paced (t + 1) n true calls
-  steady-from t n first b = (
-    all-taken jobs h (length begun) size (omega (arith, enough, length-take size buffer)) begun-long n (t + 1) (bufferAfterAll jobs begun first) (omega arith)
-        (end-stands jobs h (length begun) first begun at-first),
-    paced jobs size n (t + 1) (bufferAfterAll jobs begun first),
-  )
+  steady-from t n first b =
+      let (taken, paced) = rw (steady-one size n (t + 1)) at (every-from 1 t n first b (omega arith)) in
+      (taken, one-paced (callsOn jobs (bufferAfterAll jobs begun first) (steady size (t + 1) n)) (t + 1) n true paced)

@@ -1,10 +1,10 @@
--- What is proved of the line in bytes and of lists of calls, for any jobs. The claims are in specs/Fairness, RefusedCalls, Buffer and
--- Steady; the lemmas in the files beside this one.
+-- What is proved of the line in bytes and of lists of calls, for any jobs. The claims are in specs/Fairness, FairEvery, Waits,
+-- RefusedCalls, Buffer and Steady; the lemmas in the files beside this one.
 -- Assumes nothing.
 use mathlib.Core.Path.{_≡_, refl, sym, _∙_}
 use mathlib.Core.Bool.{Bool, true, false, cond, true≢false}
 use mathlib.Core.List.{List, [], _∷_, _++_}
-use Prim.Native.Nat.{ℕ, zero, suc, _+_, _*_, _≤_, _<_}
+use Prim.Native.Nat.{ℕ, zero, suc, _+_, _-_, _*_, _≤_, _<_}
 use native.Mathlib.Omega.{arith}
 use lib.Dec.{leb}
 use lib.ListN.{length, drop}
@@ -21,18 +21,24 @@ use Rattle.fifo.specs.Fairness.{unrefused, Soon, bound, FairFrom, Fair}
 use Rattle.fifo.specs.RefusedCalls.{RefusedOnly}
 use Rattle.fifo.specs.Buffer.{callsOn, bufferAfterAll, started, FairInBuffer}
 use Rattle.fifo.specs.Steady.{steady, SteadyPaced, FairSteady}
+use Rattle.fifo.specs.FairEvery.{boundEvery, FairEveryFrom, FairEvery, CalledEvery, SteadyEveryPaced}
 use Rattle.fifo.proofs.WaitingLines.{entries-cons, entries-behind, pick-length}
 use Rattle.fifo.specs.Queue.{limit}
 use Rattle.fifo.proofs.Lines.{is-line, is-proper, make-proper, small-line, lineOf-laid, isLine-laid}
 use Rattle.fifo.proofs.Calls.{fresh-proper, goes-on, expected-all}
-use Rattle.fifo.proofs.Fair.{runs, called-named}
-use Rattle.fifo.proofs.Buffer.{on-follows, started-holds, calls-append}
-use Rattle.fifo.proofs.Steady.{steady-from}
+use Rattle.fifo.proofs.Fair.{runs, runs-ticked, waits-named, called-named}
+use Rattle.fifo.proofs.Steady.{every-from, steady-from}
 -- minutes that are announced one by one outrun any hold
 pub use Rattle.fifo.proofs.Outrun.{held-stays, outrun, soon-past-hold}
 -- announced one by one, on a line that is emptied before each, they let just those join that they match
 unfoldable pub use Rattle.fifo.proofs.OneByOne.{isCalled}
 pub use Rattle.fifo.proofs.OneByOne.{Before, fresh-line, without, emptied-line, emptied-is, announced-is, announced-line, announced-mark, announced-stands}
+-- a queued entry is named after those before it, and by the N-th request at the latest
+pub use Rattle.fifo.proofs.Waits.{standing-in, waits-exactly, waits-at-most, called-waits, waits-every}
+-- what calls on one buffer follow from: the queue that was made in it, or the one that is found there
+pub use Rattle.fifo.proofs.Buffer.{buffer-follows, found-follows}
+-- a request after each announcement, or every 1: the same
+pub use Rattle.fifo.proofs.Fair.{paced-one, one-paced, paced-some}
 -- where no minute calls anybody, nobody is named
 pub use Rattle.fifo.proofs.Fair.{Runs}
 pub use Rattle.fifo.proofs.Quiet.{quiet, two-run}
@@ -203,13 +209,32 @@ pop-stays count room n = go (isLine count room)
 
 -- ---- fairness
 
--- an entry that a minute calls soon is named in time, from any line
-pub fair-from : FairFrom
+-- an entry that a minute calls soon is named in time, from any queue, where a request comes every k announcements
+pub fair-every-from : FairEveryFrom
 unfolding Soon
-fair-from jobs gap e t l second h below timed soon good follows paced =
+fair-every-from jobs k gap e t l second h below timed soon good follows paced =
     let (j, within, called) = soon (l .mark) in
-    called-named jobs e below timed (unrefused jobs second) l (t + 1) (bound jobs gap) j true (is-proper (jobs .count) l good .1) called (omega arith)
-    (runs jobs h second l good follows) paced
+    called-named jobs e k (paced-some k (unrefused jobs second) (t + 1) (boundEvery jobs k gap) 0 paced) below timed (unrefused jobs second) l (t + 1) (boundEvery jobs k gap) j 0
+    (is-proper (jobs .count) l good .1) called (omega arith) (runs jobs h second l good follows) paced
+
+pub fair-every : FairEvery
+fair-every jobs k gap e t first second h below timed soon follows paced =
+    let (l, good, goes) = goes-on jobs h first second (fresh jobs) (fresh-proper jobs) follows in
+    fair-every-from jobs k gap e t l second h below timed soon good goes paced
+
+pub called-every : CalledEvery
+called-every jobs k e minute l room second h below timed called good follows taken paced =
+    let n = k * jobs .count - 1 in
+    let some = paced-some k (unrefused jobs second) (minute + 1) n 1 paced in
+    waits-named jobs e k some below timed (unrefused jobs second) l minute (minute + 1) n 1 (is-proper (jobs .count) l good .1) called (omega arith) (omega arith)
+    (omega arith) (runs-ticked jobs h minute room second l good follows taken) paced
+
+-- with k = 1 it is the demand, from any queue
+pub fair-from : FairFrom
+fair-from jobs gap e t l second h below timed soon good follows paced =
+    let same : boundEvery jobs 1 gap ≡ bound jobs gap = omega arith in
+    let every = rw (← same) at (paced-one (unrefused jobs second) (t + 1) (bound jobs gap) true paced) in
+    rw same at (fair-every-from jobs 1 gap e t l second h below timed soon good follows every)
 
 -- from the fresh line
 pub fair : Fair
@@ -225,11 +250,12 @@ refused-only jobs cs h f = expected-all jobs h cs (fresh jobs) (fresh-proper job
 pub fair-in-buffer : FairInBuffer
 fair-in-buffer jobs gap e t size buffer first second h below timed soon r paced =
     let b = started jobs size buffer in
-    let follows = on-follows jobs h (first ++ second) b (fresh jobs) (fresh-proper jobs) (started-holds jobs h size buffer r) in
-    fair jobs gap e t (callsOn jobs b first) (callsOn jobs (bufferAfterAll jobs b first) second) h below timed soon
-    (rw (calls-append jobs first second b) at follows) paced
+    fair jobs gap e t (callsOn jobs b first) (callsOn jobs (bufferAfterAll jobs b first) second) h below timed soon (buffer-follows jobs h size buffer r first second) paced
 
--- the steady list is paced as the demand has it, and none of its calls is refused
+-- the steady lists are paced as the demand has it, and none of their calls is refused
+pub steady-every-paced : SteadyEveryPaced
+steady-every-paced jobs k t n size buffer first h r b some = every-from jobs h size buffer r k t n first b some
+
 pub steady-paced : SteadyPaced
 steady-paced jobs t n size buffer first h r b = steady-from jobs h size buffer r t n first b
 

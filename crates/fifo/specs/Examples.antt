@@ -26,6 +26,8 @@ use Rattle.fifo.specs.Fairness.{Call, tick, pop, roomOf, roomAfter, refu
 use Rattle.fifo.specs.RefusedCalls.{expected, Expected}
 use Rattle.fifo.specs.Buffer.{tickIn, popIn, lent, callOn, bufferAfter, callsOn, started}
 use Rattle.fifo.specs.Steady.{steady}
+use Rattle.fifo.specs.FairEvery.{PacedEvery, boundEvery, steadyEvery}
+use Rattle.fifo.specs.Waits.{requests, upToRequest}
 
 three : Jobs
 three = record { count = 3; boot = λ e. eqb e 1; fixed = λ e. false; matches = matching }
@@ -114,6 +116,56 @@ bound-is-met = refl
 bounds : (bound pair 21036960 ≡ 21036961) × (bound three 21036960 ≡ 21036962)
 unfolding pair three
 bounds = (refl, refl)
+
+-- ---- requests every k announcements
+
+-- Of any two announcements in a row one has a request after it; at the end one may have none.
+paced-every : PacedEvery 2 5 4 0 (tick 5 [] ∷ pop [] ∷ tick 6 [] ∷ tick 7 [] ∷ pop [] ∷ pop [] ∷ tick 8 [] ∷ [])
+paced-every = (omega arith, refl, (omega arith, refl, (omega arith, refl, (omega arith, refl, (refl, omega arith)))))
+
+-- Not so: three in a row, two at the end, another minute, one too few, one too many.
+not-paced-every :
+    (PacedEvery 2 5 3 0 (tick 5 [] ∷ tick 6 [] ∷ tick 7 [] ∷ pop [] ∷ []) → ⊥)
+    × (PacedEvery 2 5 2 0 (tick 5 [] ∷ tick 6 [] ∷ []) → ⊥)
+    × (PacedEvery 2 5 2 0 (tick 5 [] ∷ tick 7 [] ∷ pop [] ∷ []) → ⊥)
+    × (PacedEvery 2 5 3 0 (tick 5 [] ∷ tick 6 [] ∷ pop [] ∷ []) → ⊥)
+    × (PacedEvery 2 5 1 0 (tick 5 [] ∷ tick 6 [] ∷ pop [] ∷ []) → ⊥)
+not-paced-every = (
+  λ p. omega (arith, p .2 .2 .0),
+  λ p. omega (arith, p .2 .2 .1),
+  λ p. omega (arith, p .2 .1),
+  λ p. omega (arith, p .2 .2 .0),
+  λ p. p .2,
+)
+
+-- For k = 2 the second of the pair, with a gap of 2, is named by the request of minute 5 = 2 + 2 * 2 - 1, and by none before.
+bound-every-is-met :
+    map (answer pair)
+    (callsOn pair (started pair 14 (replicate 14 0)) (tickIn 1 14 ∷ popIn 14 ∷ tickIn 2 14 ∷ tickIn 3 14 ∷ popIn 14 ∷ tickIn 4 14 ∷ tickIn 5 14 ∷ popIn 14 ∷ []))
+    ≡ inl (Joined 1) ∷ inr (Entry 0) ∷ inl (Joined 2) ∷ inl (Joined 0) ∷ inr (Entry 0) ∷ inl (Joined 1) ∷ inl (Joined 0) ∷ inr (Entry 1) ∷ []
+unfolding pair answer running
+bound-every-is-met = refl
+
+-- k minutes for each entry, less one: for k = 1 the demand's bound
+bounds-every : (boundEvery pair 2 2 ≡ 5) × (boundEvery three 1 21036960 ≡ 21036962) × (boundEvery three 10 21037140 ≡ 21037169)
+unfolding pair three
+bounds-every = (refl, refl, refl)
+
+-- each minute is announced, and a request follows each third
+steady-every-list : steadyEvery 14 3 5 4 0 ≡ tickIn 5 14 ∷ tickIn 6 14 ∷ tickIn 7 14 ∷ popIn 14 ∷ tickIn 8 14 ∷ []
+unfolding steadyEvery
+steady-every-list = refl
+
+-- ---- how long an entry waits
+
+-- the calls up to a request, and how many there are
+up-to-request :
+    let cs = tick 5 [] ∷ pop [] ∷ tick 6 [] ∷ tick 7 [] ∷ pop [] ∷ pop [] ∷ tick 8 [] ∷ [] in
+    (upToRequest 0 cs ≡ [])
+    × (upToRequest 2 cs ≡ tick 5 [] ∷ pop [] ∷ tick 6 [] ∷ tick 7 [] ∷ pop [] ∷ [])
+    × (upToRequest 4 cs ≡ cs)
+    × (requests cs ≡ 3)
+up-to-request = (refl, refl, refl, refl)
 
 -- ---- the words of the demand's claim
 

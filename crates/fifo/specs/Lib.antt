@@ -8,4 +8,6 @@ pub mod Fairness
 pub mod RefusedCalls
 pub mod Buffer
 pub mod Steady
+pub mod FairEvery
+pub mod Waits
 pub mod Examples

@@ -35,7 +35,7 @@ use Rattle.fifo.specs.Buffer.{callOn, callsOn, bufferAfterAll, started}
 use Rattle.fifo.specs.Steady.{steady}
 use Rattle.fifo.proofs.Theorems.{steady-paced, held-stays, outrun, quiet, two-run}
 use Rattle.runqueue.specs.Jobs.{jobAt, jobsOf}
-use Rattle.runqueue.specs.Demand.{jobsIn, CanFire, OnCalendar, boundFrom, leapSundays, HoldReached}
+use Rattle.runqueue.specs.Demand.{jobsIn, CanFire, OnCalendar, boundFrom, OnCalendarEvery, boundEveryFrom, leapSundays, HoldReached}
 use Rattle.runqueue.proofs.TableJobs.{few}
 use Rattle.runqueue.proofs.TableFair.{table-fair-steady}
 
@@ -182,4 +182,24 @@ demand-begins = (
   record { utc = leb-true _ _ refl; local = leb-true _ _ refl },
   record { utc = leb-true _ _ refl; local = leb-true _ _ refl },
   record { utc = leb-true _ _ refl; local = leb-true _ _ refl },
+)
+
+-- With a request once a day, k = 1,440, the last minute may be the calendar's last, too, and locally; 720 minutes are added where t falls before 1970
+-- locally; each entry adds k minutes.
+pub every-ends :
+    let rules : Rules = record { kind = User; dialect = Rising } in
+    let west = text "CRON_TZ=-12:00\n* * * * * a\n" in
+    let three = text "* * * * * a\n@reboot b\n* * * * * c\n" in
+    OnCalendarEvery rules (text "* * * * * a\n") 1440 0 (4223371679 - 21038579)
+    × OnCalendarEvery rules (text "CRON_TZ=+14:00\n* * * * * a\n") 1440 0 (4223370839 - 21038579)
+    × (boundEveryFrom rules west 1440 0 719 ≡ 21039299)
+    × (boundEveryFrom rules west 1440 0 720 ≡ 21038579)
+    × (boundEveryFrom rules three 1440 2 0 ≡ 21041459)
+unfolding jobsOf jobAt reading
+every-ends = (
+  record { utc = leb-true _ _ refl; local = leb-true _ _ refl },
+  record { utc = leb-true _ _ refl; local = leb-true _ _ refl },
+  refl,
+  refl,
+  refl,
 )

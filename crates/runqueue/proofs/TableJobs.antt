@@ -8,9 +8,10 @@ use Prim.Native.Nat.{ℕ, _+_, _≤_, _<_}
 use native.Mathlib.Nat.{lt-of-not-le}
 use native.Mathlib.Decide.{decLe}
 use native.Mathlib.Omega.{arith}
-use lib.Dec.{ltb}
+use lib.Dec.{ltb, leb, eqb}
+use lib.ListN.{getD}
 use borrow.Author.Tests.{lt-ltb, le-ltb, ltb-true}
-use Rattle.calendar.specs.Dates.{cycleMinutes}
+use Rattle.calendar.specs.Dates.{lastMinute, cycleMinutes}
 use Rattle.schedule.specs.declared.Schedule.{Schedule}
 use Rattle.schedule.specs.Match.{matches}
 use Rattle.schedule.specs.Next.{canFire}
@@ -21,8 +22,12 @@ use Rattle.schedule.proofs.Theorems.{fires-within-in, matching-fires-in}
 use Rattle.crontab.specs.declared.Rules.{Rules}
 use Rattle.crontab.specs.declared.time.When.{When}
 use Rattle.crontab.specs.declared.time.When.the-variants.{Reboot, Timed}
-use Rattle.crontab.specs.Tables.{tableOf}
-use Rattle.crontab.specs.Firings.{byWhen, isBoot, firesAt}
+use Rattle.crontab.specs.declared.entry.Entry.{Entry}
+use Rattle.crontab.specs.declared.table.Table.{Table}
+use Rattle.crontab.specs.declared.table.EntryAnswer.the-variants as answer
+use Rattle.crontab.specs.declared.firing.DueAnswer.the-variants as due
+use Rattle.crontab.specs.Tables.{tableOf, entryIn, blankEntry}
+use Rattle.crontab.specs.Firings.{byWhen, isBoot, firesAt, dueOf, dueAnswer, dueIn}
 use Rattle.crontab.proofs.Theorems.{table-sound}
 use Rattle.fifo.specs.Queue.{limit}
 use Rattle.fifo.specs.Fairness.{Soon}
@@ -86,3 +91,27 @@ matching-can-fire rules table e m h t =
     go (Timed s) x =
         let (n, u, v, y) = some-from (matches s) cycleMinutes 0 (omega arith) (ltb-true _ _ (matching-fires-in s (aheadOf rules table e) m x)) in
         (refl, n, v, y)
+
+-- so can one that is due at any minute
+due-fires : (x : Entry) (m : ℕ) → dueOf x m ≡ due.Yes → firesAt x m ≡ true
+unfolding dueOf
+due-fires x m = go (leb m lastMinute) (firesAt x m)
+  where
+    go : (on fires : Bool) → cond on (cond fires due.Yes due.No) (due.Refused 14) ≡ due.Yes → fires ≡ true
+    go true true q = refl
+    go true false q = absurd (let z : _≡_ {A = ℕ} 0 1 = cc in omega arith)
+    go false fires q = absurd (let z : _≡_ {A = ℕ} 0 1 = cc in omega arith)
+
+pub due-can-fire : (rules : Rules) (table : List ℕ) (e m : ℕ) → dueIn (tableOf rules table) e m ≡ due.Yes → CanFire rules table e
+unfolding dueIn dueAnswer entryIn jobsOf jobAt
+due-can-fire rules table e m q =
+    let t = tableOf rules table in
+    let (below, fired) = go t (eqb (t .refusal) 0) (ltb e (t .count)) refl q in
+    matching-can-fire rules table e m below fired
+  where
+    go : (t : Table) (good some : Bool) → ltb e (t .count) ≡ some
+        → dueAnswer (cond good (cond some (answer.Found (getD (t .entries) e blankEntry)) (answer.Refused 13)) (answer.Refused (t .refusal))) m ≡ due.Yes
+        → (e < t .count) × (firesAt (getD (t .entries) e blankEntry) m ≡ true)
+    go t true true s q = (ltb-true e (t .count) s, due-fires (getD (t .entries) e blankEntry) m q)
+    go t true false s q = absurd (let z : _≡_ {A = ℕ} 0 1 = cc in omega arith)
+    go t false some s q = absurd (let z : _≡_ {A = ℕ} 0 1 = cc in omega arith)

@@ -1,10 +1,15 @@
 -- What is proved of the calls, by table bytes.
 --   table-fair, table-fair-from, table-fair-in-buffer, table-fair-steady: the third demand and its companions, as specs/Demand has them
+--   table-fair-every, table-fair-every-from: the same where requests come every k announcements; every-ends: its hypotheses up to the calendar's last minute
+--   table-waits-exactly, table-waits-at-most: an entry at place p is named by request p + 1, and by no earlier one; so by the N-th at the latest
+--   table-waits-every: it is named within k * (p + 1) - 1 minutes more, where requests come every k announcements
+--   table-called-waits, table-called-every: an entry that an announcement calls is named by the N-th request, and within k * N - 1 minutes more
 --   table-refused-only: a call is refused only for too little room or for a minute off the calendar
 --   hold-reached: a case in which the demand's bound is met exactly
 --   demand-ends: its last minute may be the last of the calendar, in UTC and locally
 --   demand-begins: t may be its first, and where 720 minutes are added
---   matching-can-fire: an entry that any minute matches is one of those that can fire
+--   few: a table has fewer entries than a queue can hold
+--   matching-can-fire: an entry that any minute matches is one of those that can fire; due-can-fire: so is one that is due at any minute
 --   chain-is-due: "starting from any minute and asking for next firing again and again yields exactly the later calendar minutes that match
 --     the entry", none skipped or added (ticket 2026-14)
 --   chain-is-ticks: "as announcements one by one would find on a line with no mark at first and emptied before each"
@@ -45,8 +50,9 @@ use Rattle.runqueue.specs.Demand.{jobsIn, TableDue, TableSteps, TableSte
 use Rattle.runqueue.proofs.Exits.{init-good, tick-good, pop-good}
 use Rattle.runqueue.proofs.Exits as exits
 pub use Rattle.runqueue.proofs.TableFair.{table-fair, table-fair-from, table-refused-only, table-fair-in-buffer, table-fair-steady}
-pub use Rattle.runqueue.proofs.Reached.{hold-reached, demand-ends, demand-begins}
-pub use Rattle.runqueue.proofs.TableJobs.{matching-can-fire}
+pub use Rattle.runqueue.proofs.TableFair.{table-fair-every, table-fair-every-from, table-waits-exactly, table-waits-at-most, table-waits-every, table-called-waits, table-called-every}
+pub use Rattle.runqueue.proofs.Reached.{hold-reached, demand-ends, demand-begins, every-ends}
+pub use Rattle.runqueue.proofs.TableJobs.{few, matching-can-fire, due-can-fire}
 pub use Rattle.runqueue.proofs.Chains.{chain-is-due}
 pub use Rattle.runqueue.proofs.ChainTicks.{chain-is-ticks, chain-goes-on}
 pub use Rattle.runqueue.proofs.Shifts.{next-shifts}

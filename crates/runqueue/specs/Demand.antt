@@ -21,6 +21,7 @@ use Rattle.fifo.specs.WaitingLine.{Line, proper}
 use Rattle.fifo.specs.Layout.{roomy}
 use Rattle.fifo.specs.Steps.{Jobs, fresh, initStep, tickStep, popStep}
 use Rattle.fifo.specs.Fairness.{Call, Follows, unrefused, Paced, upTo, Names, bound}
+use Rattle.fifo.specs.FairEvery.{PacedEvery, boundEvery}
 use Rattle.fifo.specs.RefusedCalls.{Expected}
 use Rattle.fifo.specs.Buffer.{Use, callsOn, bufferAfterAll, started}
 use Rattle.fifo.specs.Steady.{steady}
@@ -126,6 +127,38 @@ TableFairSteady = (rules : Rules) (table : List ℕ) (e t size : ℕ) (buffer : 
     → roomy (jobs .count) (take size buffer) ≡ true
     → OnCalendar rules table e t
     → Names jobs e (upTo (boundFrom rules table e t) (callsOn jobs (bufferAfterAll jobs (started jobs size buffer) first) (steady size (t + 1) (boundFrom rules table e t))))
+
+-- ---- requests every k announcements
+
+-- The bound has k minutes for each entry, less one: for k = 1 it is the demand's.
+abbrev pub boundEveryFrom : Rules → List ℕ → ℕ → ℕ → ℕ → ℕ
+boundEveryFrom rules table k e t = boundEvery (jobsIn rules table) k (gapIn (aheadOf rules table e) t + hold)
+
+-- its last minute is on the calendar, in UTC and locally
+pub record OnCalendarEvery (rules : Rules) (table : List ℕ) (k e t : ℕ) : Type 0 where
+  pub utc : t + boundEveryFrom rules table k e t ≤ lastMinute
+  pub local : t + boundEveryFrom rules table k e t + aheadOf rules table e ≤ lastMinute + 720
+
+-- the third demand where any k announcements in a row have a request among them or before the next one
+abbrev pub TableFairEvery : Type 0
+TableFairEvery = (rules : Rules) (table : List ℕ) (k e t : ℕ) (first second : List Call)
+    → let jobs = jobsIn rules table in
+    CanFire rules table e
+    → Follows jobs (fresh jobs) (first ++ second)
+    → OnCalendarEvery rules table k e t
+    → PacedEvery k (t + 1) (boundEveryFrom rules table k e t) 0 (unrefused jobs second)
+    → Names jobs e (upTo (boundEveryFrom rules table k e t) (unrefused jobs second))
+
+-- the same from any queue of the table
+abbrev pub TableFairEveryFrom : Type 0
+TableFairEveryFrom = (rules : Rules) (table : List ℕ) (k e t : ℕ) (l : Line) (second : List Call)
+    → let jobs = jobsIn rules table in
+    CanFire rules table e
+    → proper (jobs .count) l ≡ true
+    → Follows jobs l second
+    → OnCalendarEvery rules table k e t
+    → PacedEvery k (t + 1) (boundEveryFrom rules table k e t) 0 (unrefused jobs second)
+    → Names jobs e (upTo (boundEveryFrom rules table k e t) (unrefused jobs second))
 
 -- ---- the bound is met exactly
 

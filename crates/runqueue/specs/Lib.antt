@@ -1,4 +1,5 @@
 pub mod Jobs
 pub mod Calls
 pub mod Demand
+pub mod Waits
 pub mod Chain
