@@ -14,6 +14,8 @@ pub mod Tables
 pub mod Walks
 pub mod LineNumbers
 pub mod Firings
+pub mod Gap
+pub mod Clocks
 pub mod Choices
 pub mod Reversed
 pub mod FirstDialect
