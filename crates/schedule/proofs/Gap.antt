@@ -18,7 +18,7 @@ use Rattle.schedule.specs.Next.{canFire}
 use Rattle.schedule.specs.Gap.{gapDays, gap}
 use Rattle.schedule.proofs.Search.{from-some, some-from}
 use Rattle.schedule.proofs.LeapYears.{firstDays}
-use Rattle.schedule.proofs.Recurrence.{Within, gap-whole, first-whole}
+use Rattle.schedule.proofs.Recurrence.{Within, gap-covers, first-covers}
 use Rattle.schedule.proofs.Possible.{some-within, matching-some}
 
 -- a minute matches by its day and its time of day
@@ -69,7 +69,7 @@ some-fires : (s : Schedule) → someTime s ≡ true → someDay s ≡ true → c
 unfolding canFire someTime
 some-fires s a b =
     let (t, _, h, m) = some-from (matchesAt s) 1440 0 (omega arith) (ltb-true _ _ a) in
-    let (d, _, k, c) = some-within 0 firstDays first-whole s b in
+    let (d, _, k, c) = some-within 0 firstDays first-covers s b in
     lt-ltb _ _ (from-some (matches s) cycleMinutes 0 (d * 1440 + t) (omega arith) (omega arith) (parts-match s d t h c m))
 
 pub can-fire : (s : Schedule) → canFire s ≡ (ltb (from (matchesAt s) 1440 0) 1440 && someDay s)
@@ -98,7 +98,7 @@ unfolding someTime
 fires-within s fires =
     let p = fires-some s fires in
     let (time, _, h, m) = some-from (matchesAt s) 1440 0 (omega arith) (ltb-true _ _ (p .0)) in
-    minutes-within s gapDays time (λ x i. some-within x gapDays (gap-whole x i) s (p .1)) h m
+    minutes-within s gapDays time (λ x i. some-within x gapDays (gap-covers x i) s (p .1)) h m
 
 -- and one in the calendar's first 27 years
 pub fires-first : (s : Schedule) → canFire s ≡ true → (n : ℕ) × (n < firstDays * 1440) × (matches s n ≡ true)
@@ -106,5 +106,5 @@ unfolding someTime
 fires-first s fires =
     let p = fires-some s fires in
     let (time, _, h, m) = some-from (matchesAt s) 1440 0 (omega arith) (ltb-true _ _ (p .0)) in
-    let (d, _, k, c) = some-within 0 firstDays first-whole s (p .1) in
+    let (d, _, k, c) = some-within 0 firstDays first-covers s (p .1) in
     (d * 1440 + time, omega arith, parts-match s d time h c m)

@@ -188,7 +188,7 @@ module _ (s : Schedule) (o : ℕ) where
   pub next-within-in : (t n : ℕ) → nextAfterIn s o t ≡ At n → n ≤ t + gap
   next-within-in t n e = elim (decLe 720 (t + o)) [ yes k ↦ elim (decLe (t + gap + o) (lastMinute + 720)) [ yes h ↦ near k h | no h ↦ far (lt-of-not-le h) ] | no k ↦ below (lt-of-not-le k) ]
     where
-      -- there is no later one than any that matches
+      -- it comes no later than any later minute that matches
       by : (m : ℕ) → t < m → matchesIn s o m ≡ true → n ≤ m
       by m u w =
           let (_, _, _, none) = next-is-in t n e in

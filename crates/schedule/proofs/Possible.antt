@@ -19,7 +19,7 @@ use Rattle.schedule.specs.Search.{from}
 use Rattle.schedule.specs.Days.{hasDate, someDay}
 use Rattle.schedule.proofs.Search.{from-some, some-from}
 use Rattle.schedule.proofs.Dates.{month-lengths, longest, Is}
-use Rattle.schedule.proofs.Recurrence.{Within, Whole, date-within}
+use Rattle.schedule.proofs.Recurrence.{Within, Covers, date-within}
 
 -- ---- the day rule
 
@@ -107,7 +107,7 @@ matchable s t = go (bothMust s) refl t
 first-day : (m : ℕ) → 1 ≤ m → m ≤ 12 → Is true m 1
 first-day m h k = record { monthFrom = h; monthTo = k; dayFrom = omega arith; dayTo = omega (arith, month-lengths m h k) }
 
-pub some-within : (x g : ℕ) → Whole x g → (s : Schedule) → someDay s ≡ true → Within s x g
+pub some-within : (x g : ℕ) → Covers x g → (s : Schedule) → someDay s ≡ true → Within s x g
 some-within x g all s t = go (matchable s t)
   where
     go : Matchable s → Within s x g

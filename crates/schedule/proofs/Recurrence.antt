@@ -20,8 +20,8 @@ abbrev pub Within : Schedule → ℕ → ℕ → Type 0
 Within s x g = (d : ℕ) × (x ≤ d) × (d < x + g) × (matchesOn s d ≡ true)
 
 -- each date comes among them in a leap year that begins on each weekday
-abbrev pub Whole : ℕ → ℕ → Type 0
-Whole x g = (v m d : ℕ) → v < 7 → Is true m d → Comes (leapOn v) true m d x g
+abbrev pub Covers : ℕ → ℕ → Type 0
+Covers x g = (v m d : ℕ) → v < 7 → Is true m d → Comes (leapOn v) true m d x g
 
 T-true : (b : Bool) → T b → b ≡ true
 T-true true t = refl
@@ -44,14 +44,14 @@ leaps : (v j : ℕ) → T (leapOn v j) → leap (1970 + j) ≡ true
 leaps v j u = leap-is j (leapOn-is v j u .0)
 
 -- so it is in each gap, and in the calendar's first days
-pub gap-whole : (x : ℕ) → x + gapDays ≤ calendarDays → Whole x gapDays
-gap-whole x h v m d k i = date-comes {q = leapOn v} (leap-on-soon v k) (leaps v) i x h
+pub gap-covers : (x : ℕ) → x + gapDays ≤ calendarDays → Covers x gapDays
+gap-covers x h v m d k i = date-comes {q = leapOn v} (leap-on-soon v k) (leaps v) i x h
 
-pub first-whole : Whole 0 firstDays
-first-whole v m d k i = date-comes-first {q = leapOn v} (leap-on-soon v k) (leaps v) i
+pub first-covers : Covers 0 firstDays
+first-covers v m d k i = date-comes-first {q = leapOn v} (leap-on-soon v k) (leaps v) i
 
 -- a date on a weekday
-pub date-within : (x g : ℕ) → Whole x g → (s : Schedule) (m d w : ℕ) → Is true m d → w < 7 → matchesDay s m d w ≡ true → Within s x g
+pub date-within : (x g : ℕ) → Covers x g → (s : Schedule) (m d w : ℕ) → Is true m d → w < 7 → matchesDay s m d w ≡ true → Within s x g
 date-within x g all s m d w i hw t =
     let v = (w + 371 - into true m d) % 7 in
     let c = all v m d (omega arith) i in

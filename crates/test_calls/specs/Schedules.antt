@@ -25,7 +25,7 @@ scheduleOf minutes hours days months weekdays stars =
       stars = record { minutes = false; hours = false; days = eqb (stars % 2) 1; months = false; weekdays = eqb (stars / 2 % 2) 1 };
     }
 
--- an offset that may be stands for itself, any other for none
+-- an offset from -12:00 to +14:00 is itself, any other is 0
 unfoldable pub offsetOf : ℤ → ℤ
 offsetOf z = cond (ltZ z (negsuc 719) || ltZ (pos 840) z) (pos 0) z
 

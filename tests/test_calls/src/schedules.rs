@@ -25,8 +25,8 @@ pub fn next_after(numbers: [u64; 6], minute: u64) -> Answer {
     next_under(numbers, 0, minute)
 }
 
-/// The same by a local clock, so many minutes ahead of UTC; the minute given and the one answered are UTC. An offset that may not
-/// be counts as 0.
+/// The same by a local clock, so many minutes ahead of UTC; the minute given and the one answered are UTC. An offset that no table
+/// can have counts as 0.
 pub fn next_under([a, b, c, d, e, stars]: [u64; 6], offset: i64, minute: u64) -> Answer {
     from_c(schedule_next(a, b, c, d, e, stars, offset as i32, minute))
 }
