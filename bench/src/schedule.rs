@@ -1,5 +1,6 @@
-//! The next firing after each of many starts (ticket 2026-07): the search alone, the same by a table's bytes, which are read at each
-//! call, and the plain minute walk, with a date worked out directly at each minute. The walk takes seconds, and so has one round only.
+//! The next firing after each of many starts (ticket 2026-07): the search alone, which is the one that answers a table's entries, at
+//! offset 0; the same by a table's bytes, which are read at each call; and the plain minute walk, with a date worked out directly at
+//! each minute. The walk takes seconds, and so has one round only.
 
 use crate::measure::{in_turn, round};
 use crate::plain::{minute_walk, Sets};

@@ -15,6 +15,8 @@ pub mod EntryViews
 pub mod Owners
 pub mod LineNumbers
 pub mod Firings
+pub mod Gap
+pub mod Clocks
 pub mod Choices
 pub mod Reversed
 pub mod FirstDialect

@@ -12,8 +12,8 @@
 --   time-view, content-view, line-view: for each answer of reading a time or a line, all that is known of it
 --   zoned-is, setting-says: what a setting says of the offset, by its shown name and value; one that is read may stand
 --   due-told, next-told: what is said of an entry, refused or not
---   next-in-gap: a next firing that is told is at most 21,036,960 minutes ahead, and 720 more from before 1970 locally
---   next-in-gap-on: no more from minute 720 on, where no offset leads before 1970
+--   next-in-gap: a next firing that is told is at most 21,036,960 minutes ahead
+--   next-by-clock: a next firing, refused or not, is what the slow engine of ticket 2026-07 says, minute by minute under the entry's offset
 -- Ticket 2026-13, each sentence with its theorem. "Refusal 7 is never given in this dialect":
 --   never-reversed, verdict-never-reversed: never for a table in the second dialect, whatever its bytes
 -- "In the first dialect nothing changes":
@@ -30,14 +30,13 @@ use native.Mathlib.Omega.{arith}
 use lib.ListN.{length, getD, set, drop, length-set, length-drop}
 use lib.Seq.{getD-set-same, getD-set-other, length-take-le}
 use lib.Dec.{eqb, leb, ltb}
-use borrow.Author.Tests.{le-ltb, ltb-true, ltb-false, eqb-true, eqb-false}
+use borrow.Author.Tests.{ltb-true, ltb-false, eqb-true, eqb-false}
 use Rattle.calendar.specs.Dates.{lastMinute}
 use Rattle.schedule.specs.declared.Schedule.{Schedule}
 use Rattle.schedule.specs.declared.Next.{Next}
 use Rattle.schedule.specs.declared.Next.the-variants as next
-use Rattle.schedule.specs.Local.{ahead, nextAfterIn, gapIn}
-use Rattle.schedule.specs.Gap.{gap}
-use Rattle.schedule.proofs.Theorems.{next-on-calendar-in, next-within-in}
+use Rattle.schedule.specs.Local.{ahead, nextAfterIn}
+use Rattle.schedule.proofs.Theorems.{next-on-calendar-in}
 use Rattle.crontab.specs.declared.Rules.{Rules}
 use Rattle.crontab.specs.declared.Part.{Part}
 use Rattle.crontab.specs.declared.Kind.{Kind}
@@ -71,6 +70,8 @@ use Rattle.crontab.specs.Settings.{refusedSetting, shown, settingFrom, s
 use Rattle.crontab.specs.Firings.{byWhen, firesAt, dueOf, told, nextOf, dueAnswer, dueIn, nextAnswer, nextIn}
 pub use Rattle.crontab.proofs.LineViews.{Inside}
 use Rattle.crontab.proofs.Sound.{Sound, SoundItems, items-sound}
+pub use Rattle.crontab.proofs.Gap.{next-in-gap}
+pub use Rattle.crontab.proofs.Clocks.{next-by-clock}
 pub use Rattle.crontab.proofs.Cuts.{cut-refused}
 pub use Rattle.crontab.proofs.Owners.{OwnerJudged, owner-judged}
 pub use Rattle.crontab.proofs.Reversed.{never-reversed, verdict-never-reversed}
@@ -388,45 +389,3 @@ next-told rules s i m = go (entryIn (tableOf rules s) i) (entry-told rules s i)
     go : (a : EntryAnswer) → EntryTold (length s) a → NextTold (nextAnswer a m)
     go (answer.Found e) h = next-of e m
     go (answer.Refused number) h = h
-
--- ---- a next firing that is told is at most 21,036,960 minutes ahead, and 720 more where the minute is before 1970 locally
-
-found : (x : Next) (n : ℕ) → told x ≡ At n → x ≡ next.At n
-unfolding told
-found (next.At m) n e = cc
-found next.Never n e = absurd (let z : _≡_ {A = ℕ} 0 1 = cc in omega arith)
-found next.PastEnd n e = absurd (let z : _≡_ {A = ℕ} 0 1 = cc in omega arith)
-
-entry-within : (e : Entry) (m n : ℕ) → nextOf e m ≡ At n → n ≤ m + gapIn (ahead (e .offset)) m
-unfolding nextOf
-entry-within e m n p = go (leb m lastMinute) (e .when) p
-  where
-    o : ℕ
-    o = ahead (e .offset)
-
-    go : (t : Bool) (when : When) → cond t (byWhen when (Refused 15) (λ s. told (nextAfterIn s o m))) (Refused 14) ≡ At n → n ≤ m + gapIn o m
-    go false when p = absurd (let z : _≡_ {A = ℕ} 0 1 = cc in omega arith)
-    go true Reboot p = absurd (let z : _≡_ {A = ℕ} 0 1 = cc in omega arith)
-    go true (Timed times) p = next-within-in times o m n (found (nextAfterIn times o m) n p)
-
--- the gap from a minute on, for an entry that is found
-abbrev pub gapOf : EntryAnswer → ℕ → ℕ
-gapOf (answer.Found e) m = gapIn (ahead (e .offset)) m
-gapOf (answer.Refused number) m = gap
-
-pub next-in-gap : (t : Table) (i m n : ℕ) → nextIn t i m ≡ At n → n ≤ m + gapOf (entryIn t i) m
-unfolding nextIn nextAnswer
-next-in-gap t i m n p = go (entryIn t i) p
-  where
-    go : (a : EntryAnswer) → nextAnswer a m ≡ At n → n ≤ m + gapOf a m
-    go (answer.Found e) p = entry-within e m n p
-    go (answer.Refused number) p = absurd (let z : _≡_ {A = ℕ} 0 1 = cc in omega arith)
-
-pub next-in-gap-on : (t : Table) (i m n : ℕ) → 720 ≤ m → nextIn t i m ≡ At n → n ≤ m + gap
-next-in-gap-on t i m n h p = go (entryIn t i) (next-in-gap t i m n p)
-  where
-    go : (a : EntryAnswer) → n ≤ m + gapOf a m → n ≤ m + gap
-    go (answer.Found e) k =
-        let j : n ≤ m + (gap + 0) = rw (le-ltb (m + ahead (e .offset)) 720 (omega arith)) at k in
-        omega arith
-    go (answer.Refused number) k = k

@@ -13,6 +13,7 @@ pub mod FirstDialect
 pub mod Owners
 pub mod Settings
 pub mod Firings
+pub mod Clocks
 pub mod Choices
 pub mod Steps
 pub mod Computing

@@ -32,6 +32,7 @@ use Rattle.runqueue.specs.Demand.{aheadOf}
 use Rattle.runqueue.specs.Chain.{emptied, announced, joinsOver, OnBoth, Shifting, BothEnds, FreshUnmarked, userRules, midnightTable, midnights, MarkNeeded, westEvenings, ShiftMet, ShiftFails}
 use Rattle.runqueue.proofs.Exits.{init-good, tick-good}
 use Rattle.runqueue.proofs.TableJobs.{few}
+use Rattle.runqueue.proofs.Shifts.{answer-shifts}
 
 -- ---- evenings at -12:00
 
@@ -60,16 +61,19 @@ from-720 =
     let (u, v, t, none) = next-is-in schedule.evenings 0 0 1800 (known-days-in .3) in
     next-at-in schedule.evenings 0 720 1800 (omega arith) v t (λ k h i. none k (omega arith) i)
 
+evening-shifting : Shifting (aheadOf userRules westEvenings 0) 720 1800 (1800 + cycleMinutes)
+evening-shifting =
+    rw ahead-is (record {
+      start = record { utc = omega arith; from = omega arith; to = omega arith };
+      shifted = record { utc = omega arith; from = omega arith; to = omega arith };
+      answer = record { utc = omega arith; from = omega arith; to = omega arith };
+      other = record { utc = omega arith; from = omega arith; to = omega arith };
+    })
+
 pub shift-met : ShiftMet
-shift-met = (
-  rw ahead-is (record {
-    start = record { utc = omega arith; from = omega arith; to = omega arith };
-    shifted = record { utc = omega arith; from = omega arith; to = omega arith };
-    answer = record { utc = omega arith; from = omega arith; to = omega arith };
-    other = record { utc = omega arith; from = omega arith; to = omega arith };
-  }),
-  evening-next 720 1800 (omega arith) from-720,
-)
+shift-met =
+    let here = evening-next 720 1800 (omega arith) from-720 in
+    (evening-shifting, here, answer-shifts userRules westEvenings 0 720 1800 evening-shifting .0 here)
 
 pub shift-fails : ShiftFails
 shift-fails = (
@@ -92,7 +96,7 @@ both-starts = (
 )
 
 -- A start may be the calendar's first minute, and the later answer its last, in UTC and, locally, at +14:00.
-pub shift-reaches : Shifting 720 0 4012991999 × Shifting 1560 0 4012991159
+pub shift-reaches : Shifting 720 0 4012991999 4223371679 × Shifting 1560 0 4012991159 4223370839
 shift-reaches = (
   record {
     start = record { utc = omega arith; from = omega arith; to = omega arith };

@@ -87,7 +87,7 @@ module _ (rules : Rules) (table : List ℕ) (e : ℕ) where
   abbrev isDue : ℕ → Bool
   isDue k = isYes (dueIn (tableOf rules table) e k)
 
-  link-at : (m n : ℕ) → nextIn (tableOf rules table) e m ≡ At n
+  pub link-at : (m n : ℕ) → nextIn (tableOf rules table) e m ≡ At n
       → (m < n) × (n ≤ lastMinute) × (dueAfter (tableOf rules table) e m ≡ n ∷ dueAfter (tableOf rules table) e n)
   unfolding nextIn dueIn dueAfter
   link-at m n p =

@@ -3,7 +3,7 @@
 use mathlib.Core.Path.{_≡_}
 use mathlib.Core.Logic.{_↔_}
 use mathlib.Core.Bool.{Bool, true, false, cond}
-use Prim.Native.Nat.{ℕ, _+_}
+use Prim.Native.Nat.{ℕ, _+_, _-_}
 use native.Mathlib.Omega.{arith}
 use lib.Dec.{eqb, ltb}
 use lib.ListN.{getD}
@@ -23,7 +23,8 @@ use Rattle.crontab.specs.declared.firing.NextAnswer.the-variants.{At, Refused}
 use Rattle.crontab.specs.Tables.{tableOf, entryIn, blankEntry}
 use Rattle.crontab.specs.Firings.{byWhen, told, nextOf, nextAnswer, nextIn}
 use Rattle.runqueue.specs.Jobs.{jobAt}
-use Rattle.runqueue.specs.Chain.{Shifting, NextShifts}
+use Rattle.runqueue.specs.Chain.{OnBoth, NextShifts, AnswerShifts}
+use Rattle.runqueue.proofs.Chains.{link-at}
 
 -- what is told is a firing, and the other way
 told-at : (x : Next) (n : ℕ) → (told x ≡ At n) ↔ (x ≡ next.At n)
@@ -36,7 +37,13 @@ refused-at : {k j m n : ℕ} → (Refused k ≡ At m) ↔ (Refused j ≡ At n)
 refused-at = ((λ e. absurd (let z : _≡_ {A = ℕ} 0 1 = cc in omega arith)), (λ e. absurd (let z : _≡_ {A = ℕ} 0 1 = cc in omega arith)))
 
 module _ (m n : ℕ) where
-  entry-shifts : (x : Entry) → Shifting (ahead (x .offset)) m n → (nextOf x m ≡ At n) ↔ (nextOf x (m + cycleMinutes) ≡ At (n + cycleMinutes))
+  -- what is needed: the start's answer is then on the calendar too
+  record Shifted (o : ℕ) : Type 0 where
+    start : OnBoth o m
+    shifted : OnBoth o (m + cycleMinutes)
+    other : OnBoth o (n + cycleMinutes)
+
+  entry-shifts : (x : Entry) → Shifted (ahead (x .offset)) → (nextOf x m ≡ At n) ↔ (nextOf x (m + cycleMinutes) ≡ At (n + cycleMinutes))
   unfolding nextOf
   entry-shifts x s = rw (le-leb m lastMinute (s .start .utc), le-leb (m + cycleMinutes) lastMinute (s .shifted .utc)) (go (x .when))
     where
@@ -53,7 +60,7 @@ module _ (m n : ℕ) where
           let there = told-at (nextAfterIn r o (m + cycleMinutes)) (n + cycleMinutes) in
           ((λ e. there .1 (shifts .0 (here .0 e))), (λ e. here .1 (shifts .1 (there .0 e))))
 
-  table-shifts : (t : Table) (e : ℕ) → Shifting (ahead (jobAt t e .offset)) m n
+  table-shifts : (t : Table) (e : ℕ) → Shifted (ahead (jobAt t e .offset))
       → (nextIn t e m ≡ At n) ↔ (nextIn t e (m + cycleMinutes) ≡ At (n + cycleMinutes))
   unfolding jobAt nextIn entryIn nextAnswer
   table-shifts t e s = go (eqb (t .refusal) 0) (ltb e (t .count))
@@ -69,5 +76,18 @@ module _ (m n : ℕ) where
       go true false = refused-at
       go true true = entry-shifts x s
 
+pub answer-shifts : AnswerShifts
+answer-shifts rules table e m n s =
+    table-shifts m n (tableOf rules table) e (record { start = s .start; shifted = s .shifted; other = s .other })
+
+-- the shifted start's answer is later than it, so that its minute 400 years before is the start's answer
 pub next-shifts : NextShifts
-next-shifts rules table e m n s = table-shifts m n (tableOf rules table) e s
+next-shifts rules table e m n n' s p q =
+    let later = link-at rules table e (m + cycleMinutes) n' q .0 in
+    let back : n' - cycleMinutes + cycleMinutes ≡ n' = omega arith in
+    let r : nextIn (tableOf rules table) e m ≡ At (n' - cycleMinutes) =
+    table-shifts m (n' - cycleMinutes) (tableOf rules table) e (record { start = s .start; shifted = s .shifted; other = rw back (s .other) }) .1
+    (rw back q)
+    in
+    let same : n ≡ n' - cycleMinutes = cc in
+    omega arith

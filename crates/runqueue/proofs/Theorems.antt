@@ -14,7 +14,8 @@
 --     the entry", none skipped or added (ticket 2026-14)
 --   chain-is-ticks: "as announcements one by one would find on a line with no mark at first and emptied before each"
 --   next-shifts: "shifting a start by 210,379,680 minutes shifts the answer by the same number, provided the start, the shifted start, both
---     answers and, under an offset, their local minutes are on the calendar"
+--     answers and, under an offset, their local minutes are on the calendar"; answer-shifts: the one start has its answer just where the
+--     other has it
 --   chain-goes-on: the same on a line whose mark is the start
 --   fresh-unmarked, shift-met, shift-reaches, both-ends, both-starts: their hypotheses can be met; mark-needed, shift-fails: and are needed
 --   table-steps, table-steps-good, table-due: the claims speak of what the functions promise
@@ -55,7 +56,7 @@ pub use Rattle.runqueue.proofs.Reached.{hold-reached, demand-ends, dema
 pub use Rattle.runqueue.proofs.TableJobs.{few, matching-can-fire, due-can-fire}
 pub use Rattle.runqueue.proofs.Chains.{chain-is-due}
 pub use Rattle.runqueue.proofs.ChainTicks.{chain-is-ticks, chain-goes-on}
-pub use Rattle.runqueue.proofs.Shifts.{next-shifts}
+pub use Rattle.runqueue.proofs.Shifts.{next-shifts, answer-shifts}
 pub use Rattle.runqueue.proofs.ChainCases.{fresh-unmarked, mark-needed, shift-met, shift-reaches, both-ends, both-starts, shift-fails}
 
 -- a table that has an entry isn't refused

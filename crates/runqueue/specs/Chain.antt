@@ -96,17 +96,26 @@ pub record OnBoth (o m : ℕ) : Type 0 where
   pub from : 720 ≤ m + o
   pub to : m + o ≤ lastMinute + 720
 
--- "provided the start, the shifted start, both answers and, under an offset, their local minutes are on the calendar"
-pub record Shifting (o m n : ℕ) : Type 0 where
+-- "provided the start, the shifted start, both answers and, under an offset, their local minutes are on the calendar": n is the start's
+-- answer, n' the shifted start's
+pub record Shifting (o m n n' : ℕ) : Type 0 where
   pub start : OnBoth o m
   pub shifted : OnBoth o (m + cycleMinutes)
   pub answer : OnBoth o n
-  pub other : OnBoth o (n + cycleMinutes)
+  pub other : OnBoth o n'
 
 abbrev pub NextShifts : Type 0
-NextShifts = (rules : Rules) (table : List ℕ) (e m n : ℕ)
+NextShifts = (rules : Rules) (table : List ℕ) (e m n n' : ℕ)
     → let t = tableOf rules table in
-    Shifting (aheadOf rules table e) m n
+    Shifting (aheadOf rules table e) m n n'
+    → nextIn t e m ≡ At n → nextIn t e (m + cycleMinutes) ≡ At n'
+    → n' ≡ n + cycleMinutes
+
+-- and the one start has its answer just where the other has it
+abbrev pub AnswerShifts : Type 0
+AnswerShifts = (rules : Rules) (table : List ℕ) (e m n : ℕ)
+    → let t = tableOf rules table in
+    Shifting (aheadOf rules table e) m n (n + cycleMinutes)
     → (nextIn t e m ≡ At n) ↔ (nextIn t e (m + cycleMinutes) ≡ At (n + cycleMinutes))
 
 -- ---- the hypotheses can be met, and are needed
@@ -143,7 +152,11 @@ westEvenings = text "CRON_TZ=-12:00\n0 18 * * * a\n"
 
 -- from minute 720 all is on the calendar
 abbrev pub ShiftMet : Type 0
-ShiftMet = Shifting (aheadOf userRules westEvenings 0) 720 1800 × (nextIn (tableOf userRules westEvenings) 0 720 ≡ At 1800)
+ShiftMet =
+    let t = tableOf userRules westEvenings in
+    Shifting (aheadOf userRules westEvenings 0) 720 1800 (1800 + cycleMinutes)
+    × (nextIn t 0 720 ≡ At 1800)
+    × (nextIn t 0 (720 + cycleMinutes) ≡ At (1800 + cycleMinutes))
 
 -- from minute 0 all but its local minute is, and the answers differ by another number
 abbrev pub ShiftFails : Type 0

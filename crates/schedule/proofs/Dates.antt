@@ -19,7 +19,7 @@ use Rattle.calendar.proofs.Dates.{OnCalendar, year-number, month-is}
 use Rattle.calendar.proofs.Minutes.{midnight-month, midnight-day, midnight-weekday}
 use Rattle.schedule.specs.declared.Schedule.{Schedule}
 use Rattle.schedule.specs.Match.{matchesDay, matchesOn}
-use Rattle.schedule.proofs.LeapYears.{Recurs}
+use Rattle.schedule.proofs.LeapYears.{firstDays, Recurs}
 
 -- a day that is c days into its year comes in every g days
 pub window : {q : ℕ → Bool} {g : ℕ} → Recurs q g → (c x : ℕ) → c ≤ 365 → x ≤ calendarDays
@@ -27,7 +27,7 @@ pub window : {q : ℕ → Bool} {g : ℕ} → Recurs q g → (c x : ℕ) → c �
 window {q} {g} r c x h k = elim (decLe x c) [ yes l ↦ early l | no l ↦ late (lt-of-not-le l) ]
   where
     early : x ≤ c → (j : ℕ) × T (q j) × (x ≤ startAt j + c) × (startAt j + c < x + g)
-    early l = let (j, t, b) = r .first in (j, t, omega arith, omega arith)
+    early l = let (j, t, b) = r .first in (j, t, omega arith, omega (arith, r .sooner))
 
     late : c < x → (j : ℕ) × T (q j) × (x ≤ startAt j + c) × (startAt j + c < x + g)
     late l =
@@ -150,3 +150,11 @@ pub date-comes : {q : ℕ → Bool} {g : ℕ} {b : Bool} {m d : ℕ} → Recurs 
 date-comes {q} {g} {b} {m} {d} r leaps i x h =
     let (j, t, u, v) = window r (into b m d) x (into-small i) (omega arith) in
     record { year = j; passes = t; low = u; high = v; leaps = leaps j t; before = before-end j (omega arith) }
+
+-- and in the calendar's first days
+pub date-comes-first : {q : ℕ → Bool} {g : ℕ} {b : Bool} {m d : ℕ} → Recurs q g → ((j : ℕ) → T (q j) → leap (1970 + j) ≡ b) → Is b m d
+    → Comes q b m d 0 firstDays
+date-comes-first r leaps i =
+    let (j, t, h) = r .first in
+    let c = into-small i in
+    record { year = j; passes = t; low = omega arith; high = omega arith; leaps = leaps j t; before = before-end j (omega arith) }

@@ -1,25 +1,25 @@
 -- The gap theorem: how long a schedule that fires at all can be silent, and the closed test for whether it does.
 -- Assumes nothing.
-use mathlib.Core.Path.{_≡_, refl, sym, _∙_}
-use mathlib.Core.Bool.{Bool, true, false, cond, _&&_, true≢false}
+use mathlib.Core.Path.{_≡_, sym, _∙_}
+use mathlib.Core.Bool.{Bool, true, _&&_}
 use Prim.Native.Nat.{ℕ, _+_, _*_, _/_, _%_, _≤_, _<_}
 use native.Mathlib.Nat.{lt-of-not-le}
 use native.Mathlib.Decide.{decLe}
 use native.Mathlib.Omega.{arith}
-use lib.Dec.{leb, ltb}
-use borrow.Author.Tests.{ltb-true, lt-ltb, leb-true}
-use Rattle.calendar.specs.Dates.{lastMinute, cycleMinutes, dateAt}
+use lib.Dec.{ltb}
+use borrow.Author.Tests.{ltb-true, lt-ltb}
+use Rattle.calendar.specs.Dates.{lastMinute, cycleMinutes, calendarDays, dateAt}
 use Rattle.calendar.proofs.Tests.{and-true, same-test}
 use Rattle.schedule.specs.declared.Schedule.{Schedule}
-use Rattle.schedule.specs.declared.Next.the-variants.{At, Never, PastEnd}
 use Rattle.schedule.specs.Match.{matchesDate, matches, matchesOn, matchesAt}
 use Rattle.schedule.specs.Search.{from}
 use Rattle.schedule.specs.Days.{someDay}
-use Rattle.schedule.specs.Next.{canFire, firingAfter, nextAfter}
+use Rattle.schedule.specs.Next.{canFire}
 use Rattle.schedule.specs.Gap.{gapDays, gap}
-use Rattle.schedule.proofs.Search.{from-past, from-least, from-some, some-from}
-use Rattle.schedule.proofs.Recurrence.{Within}
-use Rattle.schedule.proofs.Possible.{within-gap, matching-some}
+use Rattle.schedule.proofs.Search.{from-some, some-from}
+use Rattle.schedule.proofs.LeapYears.{firstDays}
+use Rattle.schedule.proofs.Recurrence.{Within, gap-covers, first-covers}
+use Rattle.schedule.proofs.Possible.{some-within, matching-some}
 
 -- a minute matches by its day and its time of day
 pub matches-parts : (s : Schedule) (n : ℕ) → matches s n ≡ (matchesOn s (n / 1440) && matchesAt s (n % 1440))
@@ -37,7 +37,7 @@ parts-match s d t h a b =
     rw (matches-parts s (d * 1440 + t), e, f, a, b)
 
 -- from days to minutes, over the number of days
-pub minutes-within : (s : Schedule) (g time : ℕ) → Within s g → time < 1440 → matchesAt s time ≡ true
+pub minutes-within : (s : Schedule) (g time : ℕ) → ((x : ℕ) → x + g ≤ calendarDays → Within s x g) → time < 1440 → matchesAt s time ≡ true
     → (t : ℕ) → t + g * 1440 ≤ lastMinute → (n : ℕ) × (t < n) × (n ≤ t + g * 1440) × (matches s n ≡ true)
 minutes-within s g time w h m t k = elim (decLe time (t % 1440)) [ yes l ↦ tomorrow l | no l ↦ today (lt-of-not-le l) ]
   where
@@ -69,7 +69,7 @@ some-fires : (s : Schedule) → someTime s ≡ true → someDay s ≡ true → c
 unfolding canFire someTime
 some-fires s a b =
     let (t, _, h, m) = some-from (matchesAt s) 1440 0 (omega arith) (ltb-true _ _ a) in
-    let (d, _, k, c) = within-gap s b 0 (omega arith) in
+    let (d, _, k, c) = some-within 0 firstDays first-covers s b in
     lt-ltb _ _ (from-some (matches s) cycleMinutes 0 (d * 1440 + t) (omega arith) (omega arith) (parts-match s d t h c m))
 
 pub can-fire : (s : Schedule) → canFire s ≡ (ltb (from (matchesAt s) 1440 0) 1440 && someDay s)
@@ -98,38 +98,13 @@ unfolding someTime
 fires-within s fires =
     let p = fires-some s fires in
     let (time, _, h, m) = some-from (matchesAt s) 1440 0 (omega arith) (ltb-true _ _ (p .0)) in
-    minutes-within s gapDays time (within-gap s (p .1)) h m
+    minutes-within s gapDays time (λ x i. some-within x gapDays (gap-covers x i) s (p .1)) h m
 
--- a firing that is found is at most that far ahead
-pub next-within : (s : Schedule) (t n : ℕ) → nextAfter s t ≡ At n → n ≤ t + gap
-unfolding nextAfter firingAfter
-next-within s t n e = go (canFire s) (leb k lastMinute) refl refl e
-  where
-    k : ℕ
-    k = from (matches s) (lastMinute + 1) (t + 1)
-
-    on-calendar : k ≤ lastMinute → t ≤ lastMinute
-    on-calendar l = elim (decLe t lastMinute) [ yes h ↦ h | no h ↦ absurd (past (lt-of-not-le h)) ]
-      where
-        past : lastMinute < t → ⊥
-        past h = let p : t + 1 ≡ k = from-past (matches s) (lastMinute + 1) (t + 1) (omega arith) in omega arith
-
-    near : t ≤ lastMinute → canFire s ≡ true → k ≤ lastMinute → k ≤ t + gap
-    near h f l =
-        elim (decLe (t + gap) lastMinute) [
-          | no i ↦ omega (arith, lt-of-not-le i)
-          | yes i ↦
-              let (m, u, v, w) = fires-within s f t i in
-              elim (decLe k m) [
-                | yes j ↦ omega arith
-                | no j ↦ absurd (true≢false (sym w ∙ from-least (matches s) (lastMinute + 1) (t + 1) (omega arith) .none m (omega arith) (lt-of-not-le j)))
-              ]
-        ]
-
-    go : (b c : Bool) → canFire s ≡ b → leb k lastMinute ≡ c → cond b (cond c (At k) PastEnd) Never ≡ At n → n ≤ t + gap
-    go true true q r f =
-        let i : k ≡ n = cc in
-        let l = leb-true _ _ r in
-        omega (arith, near (on-calendar l) q l)
-    go true false q r f = let z : _≡_ {A = ℕ} 0 1 = cc in omega arith
-    go false c q r f = let z : _≡_ {A = ℕ} 0 1 = cc in omega arith
+-- and one in the calendar's first 27 years
+pub fires-first : (s : Schedule) → canFire s ≡ true → (n : ℕ) × (n < firstDays * 1440) × (matches s n ≡ true)
+unfolding someTime
+fires-first s fires =
+    let p = fires-some s fires in
+    let (time, _, h, m) = some-from (matchesAt s) 1440 0 (omega arith) (ltb-true _ _ (p .0)) in
+    let (d, _, k, c) = some-within 0 firstDays first-covers s (p .1) in
+    (d * 1440 + time, omega arith, parts-match s d time h c m)

@@ -24,14 +24,19 @@ leapAt n = leap (1970 + n)
 unfoldable pub leapOn : ℕ → ℕ → Bool
 leapOn w n = leapAt n && eqb (weekdayOf (startAt n)) w
 
+-- the years 1970 to 1996, in days: leap years begin on all seven weekdays in them
+abbrev pub firstDays : ℕ
+firstDays = 9862
+
 -- the next year that passes q begins at most g days after year n begins, and the first of all so early that even its last
--- day is one of the calendar's first g
+-- day is one of the calendar's first days
 pub record Recurs (q : ℕ → Bool) (g : ℕ) : Type 0 where
-  pub first : (j : ℕ) × T (q j) × (startAt j + 366 ≤ g)
+  pub sooner : firstDays ≤ g
+  pub first : (j : ℕ) × T (q j) × (startAt j + 366 ≤ firstDays)
   pub next : (n : ℕ) → (j : ℕ) × (n < j) × T (q j) × (startAt j ≤ startAt n + g)
 
-soon : (ℕ → Bool) → ℕ → ℕ → Bool
-soon q g f = let j = leastOf q f 0 in q j && leb (startAt j + 366) g
+early : (ℕ → Bool) → ℕ → Bool
+early q f = let j = leastOf q f 0 in q j && leb (startAt j + 366) firstDays
 
 reach : (ℕ → Bool) → ℕ → ℕ → ℕ → Bool
 reach q g f n = let j = leastOf q f (suc n) in q j && leb (startAt j) (startAt n + g)
@@ -59,11 +64,12 @@ module _ (q : ℕ → Bool) (g f : ℕ) (period : (n : ℕ) → q (n + 400) ≡ 
   cycles zero n x = let e : n + 0 ≡ n = omega arith in rw e x
   cycles (suc c) n x = let e : n + suc c * 400 ≡ n + c * 400 + 400 = omega arith in rw e (later (n + c * 400) (cycles c n x))
 
-  recurs : T (soon q g f) → T (every (reach q g f) 400) → Recurs q g
-  unfolding soon
-  recurs s t =
+  recurs : firstDays ≤ g → T (early q f) → T (every (reach q g f) 400) → Recurs q g
+  unfolding early
+  recurs h s t =
       record {
-        first = let j = leastOf q f 0 in let p = and-yes (q j) (leb (startAt j + 366) g) s in (j, p .0, leb→le _ _ (p .1));
+        sooner = h;
+        first = let j = leastOf q f 0 in let p = and-yes (q j) (leb (startAt j + 366) firstDays) s in (j, p .0, leb→le _ _ (p .1));
         next =
             λ n.
             let e : n % 400 + n / 400 * 400 ≡ n = omega arith in
@@ -80,13 +86,13 @@ leapOn-period w n =
     let e : (startAt n + 146097 + 4) % 7 ≡ (startAt n + 4) % 7 = omega arith in
     rw (leapAt-period n, start-shift n, e)
 
-every-weekday : T (every (λ w. soon (leapOn w) gapDays 41 && every (reach (leapOn w) gapDays 41) 400) 7)
-unfolding soon reach leapOn leapAt leap weekdayOf leastOf startAt
+every-weekday : T (every (λ w. early (leapOn w) 41 && every (reach (leapOn w) gapDays 41) 400) 7)
+unfolding early reach leapOn leapAt leap weekdayOf leastOf startAt
 every-weekday = tt
 
 -- 40 years: as from 2088 to 2128
 pub leap-on-soon : (w : ℕ) → w < 7 → Recurs (leapOn w) gapDays
 leap-on-soon w h =
-    let t = at-each (λ w. soon (leapOn w) gapDays 41 && every (reach (leapOn w) gapDays 41) 400) 7 every-weekday w h in
-    let p = and-yes (soon (leapOn w) gapDays 41) (every (reach (leapOn w) gapDays 41) 400) t in
-    recurs (leapOn w) gapDays 41 (leapOn-period w) (p .0) (p .1)
+    let t = at-each (λ w. early (leapOn w) 41 && every (reach (leapOn w) gapDays 41) 400) 7 every-weekday w h in
+    let p = and-yes (early (leapOn w) 41) (every (reach (leapOn w) gapDays 41) 400) t in
+    recurs (leapOn w) gapDays 41 (leapOn-period w) (omega arith) (p .0) (p .1)

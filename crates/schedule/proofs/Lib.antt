@@ -6,11 +6,11 @@ pub mod Recurrence
 pub mod Possible
 pub mod Gap
 pub mod Firing
-pub mod Clocks
 pub mod Offsets
 pub mod LocalMinutes
 pub mod LocalFirings
 pub mod LocalTheorems
+pub mod Clocks
 pub mod Shifts
 pub mod Jumps
 pub mod SameDay

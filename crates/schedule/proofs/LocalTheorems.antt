@@ -19,7 +19,7 @@ use Rattle.schedule.specs.Next.{canFire, firingAfter, nextAfter, byThen}
 use Rattle.schedule.specs.Gap.{gap}
 use Rattle.schedule.specs.Local.{localOf, matchesMinute, matchesIn, firingFromIn, firingAfterIn, nextAfterIn, gapIn, dateIn, localDate, matchesLocal}
 use Rattle.schedule.proofs.Search.{Least, least-from, from-least, from-none, from-past, from-same, passes-search, none-passes}
-use Rattle.schedule.proofs.Gap.{matching-fires, fires-within}
+use Rattle.schedule.proofs.Gap.{matching-fires, fires-within, fires-first}
 use Rattle.schedule.proofs.LocalMinutes.{by-place, matches-before, matches-at, matches-after}
 
 -- ---- by dates
@@ -35,7 +35,8 @@ local-date s o m = go (localOf o m)
 
 -- ---- an offset of 0
 
-utc-on : (s : Schedule) (m : ℕ) → m ≤ lastMinute → matchesIn s 720 m ≡ matches s m
+-- on the calendar the local minute is the minute itself
+pub utc-on : (s : Schedule) (m : ℕ) → m ≤ lastMinute → matchesIn s 720 m ≡ matches s m
 utc-on s m h = matches-at 720 m s m refl h
 
 pub utc-same : (s : Schedule) (m : ℕ) → matchesIn s 720 m ≡ (leb m lastMinute && matches s m)
@@ -183,18 +184,33 @@ module _ (s : Schedule) (o : ℕ) where
             matches-at o (n + 720 - o) s n (omega arith) (omega arith) ∙ w,
           )
 
-  -- a firing that is told is at most that far ahead
-  pub next-within-in : (t n : ℕ) → nextAfterIn s o t ≡ At n → n ≤ t + gapIn o t
-  next-within-in t n e = elim (decLe (t + gapIn o t + o) (lastMinute + 720)) [ yes h ↦ near h | no h ↦ far (lt-of-not-le h) ]
+  -- A firing that is told is at most `gap` minutes ahead, from before 1970 locally too: the first one there comes in 27 years.
+  pub next-within-in : (t n : ℕ) → nextAfterIn s o t ≡ At n → n ≤ t + gap
+  next-within-in t n e = elim (decLe 720 (t + o)) [ yes k ↦ elim (decLe (t + gap + o) (lastMinute + 720)) [ yes h ↦ near k h | no h ↦ far (lt-of-not-le h) ] | no k ↦ below (lt-of-not-le k) ]
     where
-      far : lastMinute + 720 < t + gapIn o t + o → n ≤ t + gapIn o t
+      -- it comes no later than any later minute that matches
+      by : (m : ℕ) → t < m → matchesIn s o m ≡ true → n ≤ m
+      by m u w =
+          let (_, _, _, none) = next-is-in t n e in
+          elim (decLe n m) [ yes j ↦ j | no j ↦ absurd (true≢false (sym w ∙ none m u (lt-of-not-le j))) ]
+
+      fires : canFire s ≡ true
+      fires = matching-fires-in n (next-is-in t n e .2)
+
+      far : lastMinute + 720 < t + gap + o → n ≤ t + gap
       far h = let (l, p, q, _) = on-locally n (next-is-in t n e .2) in omega arith
 
-      near : t + gapIn o t + o ≤ lastMinute + 720 → n ≤ t + gapIn o t
-      near h =
-          let (_, _, x, none) = next-is-in t n e in
-          let (m, u, v, w) = fires-within-in (matching-fires-in n x) t h in
-          elim (decLe n m) [
-            | yes j ↦ omega arith
-            | no j ↦ absurd (true≢false (sym w ∙ none m u (lt-of-not-le j)))
-          ]
+      near : 720 ≤ t + o → t + gap + o ≤ lastMinute + 720 → n ≤ t + gap
+      near k h =
+          let (m, u, v, w) = fires-within-in fires t (omega (arith, gap-on t k)) in
+          omega (arith, by m u w, gap-on t k)
+
+      below : t + o < 720 → n ≤ t + gap
+      below k =
+          let (l, u, w) = fires-first s fires in
+          let m = l + 720 - o in
+          omega (arith, by m (omega arith) (matches-at o m s l (omega arith) (omega arith) ∙ w))
+
+-- in UTC too
+pub next-within : (s : Schedule) (t n : ℕ) → nextAfter s t ≡ At n → n ≤ t + gap
+next-within s t n e = next-within-in s 720 t n (utc-next s t ∙ e)

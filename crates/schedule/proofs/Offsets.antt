@@ -67,6 +67,11 @@ less-past x = elim (decLe 720 x) [ yes k ↦ rw (less-on x k) (on k) | no k ↦ 
 
 -- ---- an offset that is passed on
 
+-- an offset that may be fits its bits
+pub zone-fits : (z : ℤ) → InZones z → SFits w32 z
+zone-fits (pos n) h = record { sfits = omega arith }
+zone-fits (negsuc n) h = record { sfits = omega arith }
+
 -- what a function that is called promises of its offset, which it is passed as bits, holds of the offset itself
 pub passed : {A : Type 0} (f : ℤ → A) {z : ℤ} → SFits w32 z → f (toZ w32 (ofZ w32 z)) ≡ f z
 passed f fits = ap f (toZ-ofZ fits)

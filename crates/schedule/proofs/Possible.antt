@@ -17,10 +17,9 @@ use Rattle.bytes.specs.Sets.{hasBit}
 use Rattle.schedule.specs.Match.{bothMust, byDayRule, matchesDay, matchesOn}
 use Rattle.schedule.specs.Search.{from}
 use Rattle.schedule.specs.Days.{hasDate, someDay}
-use Rattle.schedule.specs.Gap.{gapDays}
 use Rattle.schedule.proofs.Search.{from-some, some-from}
 use Rattle.schedule.proofs.Dates.{month-lengths, longest, Is}
-use Rattle.schedule.proofs.Recurrence.{Within, date-within}
+use Rattle.schedule.proofs.Recurrence.{Within, Covers, date-within}
 
 -- ---- the day rule
 
@@ -108,13 +107,13 @@ matchable s t = go (bothMust s) refl t
 first-day : (m : ℕ) → 1 ≤ m → m ≤ 12 → Is true m 1
 first-day m h k = record { monthFrom = h; monthTo = k; dayFrom = omega arith; dayTo = omega (arith, month-lengths m h k) }
 
-pub within-gap : (s : Schedule) → someDay s ≡ true → Within s gapDays
-within-gap s t = go (matchable s t)
+pub some-within : (x g : ℕ) → Covers x g → (s : Schedule) → someDay s ≡ true → Within s x g
+some-within x g all s t = go (matchable s t)
   where
-    go : Matchable s → Within s gapDays
-    go (by-date e c) = date-within s (c .m) (c .d) 0 (c .is) (omega arith) (matches-either s (c .m) (c .d) 0 e (c .month) (inl (c .day)))
-    go (by-weekday e m w a b h k i) = date-within s m 1 w (first-day m a b) k (matches-either s m 1 w e h (inr i))
-    go (by-both e c w k i) = date-within s (c .m) (c .d) w (c .is) k (matches-both s (c .m) (c .d) w e (c .month) (c .day) i)
+    go : Matchable s → Within s x g
+    go (by-date e c) = date-within x g all s (c .m) (c .d) 0 (c .is) (omega arith) (matches-either s (c .m) (c .d) 0 e (c .month) (inl (c .day)))
+    go (by-weekday e m w a b h k i) = date-within x g all s m 1 w (first-day m a b) k (matches-either s m 1 w e h (inr i))
+    go (by-both e c w k i) = date-within x g all s (c .m) (c .d) w (c .is) k (matches-both s (c .m) (c .d) w e (c .month) (c .day) i)
 
 -- ---- a day that matches is there to match
 

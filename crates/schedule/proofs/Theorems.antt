@@ -3,18 +3,19 @@
 --   can-fire: a schedule fires at some time exactly if the closed test that the code makes says so
 --   matching-fires: so does one that matches any minute of the calendar
 --   next-on-calendar: a firing that is told is on the calendar
---   fires-within, next-within: it is silent for at most `gap` minutes
+--   fires-within, next-within: it is silent for at most `gap` minutes; fires-first: and from minute 0 for 27 years
 --   gap-is, gap-reached: the number, and that it is exactly reached
 --   known-days: the next firings among paper 01's known days
---   slow-agrees: a plain clock walk, minute by minute, comes to the same at every entry and minute
 -- And under an offset from UTC:
 --   local-date: a local date serves as well as the minute
 --   utc-same, utc-next: an offset of 0 changes nothing
 --   next-at-in, next-never-in, next-past-in: the next firing, all of it in UTC; next-is-in: and what one that is told is
 --   matching-fires-in, next-on-calendar-in: as without an offset
+--   slow-agrees: a plain clock walk, minute by minute, comes to the same for every schedule, offset and minute
 --   next-by: an entry matches a minute after h, up to m, just where its next firing after h comes by m
 --   known-days-in: next firings around the ends of the local calendar
---   gap-on, gap-before, fires-within-in, next-within-in: silent for at most `gap` minutes, and 720 more from before 1970 locally
+--   gap-on, gap-before, fires-within-in: silent for at most `gap` minutes, and 720 more from before 1970 locally (the third demand's bound)
+--   next-within-in: a firing that is told is at most `gap` minutes ahead, from before 1970 locally too
 --   matches-shifts-in, next-shifts-in: 400 years later it is the same, where both minutes are on the calendar locally
 --   matches-before, matches-at, matches-after: under an offset a minute matches by its local minute, and by none off the calendar
 -- And beside a mark:
@@ -37,14 +38,14 @@ use Rattle.schedule.specs.Match.{matches}
 use Rattle.schedule.specs.Search.{from}
 use Rattle.schedule.specs.Next.{canFire, firingAfter, nextAfter}
 use Rattle.schedule.proofs.Search.{Least, least-from, from-none, from-past}
-pub use Rattle.schedule.proofs.Gap.{can-fire, matching-fires, fires-within, next-within}
+pub use Rattle.schedule.proofs.Gap.{can-fire, matching-fires, fires-within, fires-first}
 pub use Rattle.schedule.proofs.KnownDays.{known-days, gap-is, gap-reached}
 pub use Rattle.schedule.proofs.Clocks.{slow-agrees}
 pub use Rattle.schedule.proofs.KnownLocalDays.{known-days-in}
 pub use Rattle.schedule.proofs.LocalMinutes.{matches-before, matches-at, matches-after}
 pub use Rattle.schedule.proofs.Jumps.{case-above, case-below, case-after, case-held, judged-unfixed, mark-stays}
 pub use Rattle.schedule.proofs.Shifts.{matches-shifts, matches-shifts-in, next-shifts-in}
-pub use Rattle.schedule.proofs.LocalTheorems.{local-date, utc-same, utc-next, next-at-in, next-never-in, next-past-in, next-is-in, matching-fires-in, next-on-calendar-in, next-by, gap-on, gap-before, fires-within-in, next-within-in}
+pub use Rattle.schedule.proofs.LocalTheorems.{local-date, utc-same, utc-next, next-at-in, next-never-in, next-past-in, next-is-in, matching-fires-in, next-on-calendar-in, next-by, gap-on, gap-before, fires-within-in, next-within-in, next-within}
 
 -- the least matching minute after m, up to the calendar's last
 pub next-at : (s : Schedule) (m n : ℕ) → m < n → n ≤ lastMinute → matches s n ≡ true

@@ -1,5 +1,5 @@
--- Ticket 2026-07: the next firing by a plain clock walk, which asks "does this match?" minute by minute. That it is the next firing of Next, at
--- every entry and minute, is `slow-agrees` of proofs/Theorems.
+-- Ticket 2026-07: the next firing under an offset by a plain clock walk, which asks "does this match?" minute by minute. That it is the next
+-- firing of Local, for every schedule, offset and minute, is `slow-agrees` of proofs/Theorems.
 -- Assumes nothing.
 use Prim.Native.Nat.{ℕ, zero, suc, _+_, _-_}
 use mathlib.Core.Bool.{cond}
@@ -7,19 +7,19 @@ use Rattle.calendar.specs.Dates.{lastMinute, cycleMinutes}
 use Rattle.schedule.specs.declared.Schedule.{Schedule}
 use Rattle.schedule.specs.declared.Next.{Next}
 use Rattle.schedule.specs.declared.Next.the-variants.{At, Never, PastEnd}
-use Rattle.schedule.specs.Match.{matches}
+use Rattle.schedule.specs.Local.{matchesIn}
 
--- n minutes from m on, one by one, up to the first that matches
-unfoldable pub clock : Schedule → ℕ → ℕ → Next
-clock s zero m = PastEnd
-clock s (suc n) m = let later = clock s n (m + 1) in cond (matches s m) (At m) later
+-- n UTC minutes from m on, one by one, up to the first that matches under the offset
+unfoldable pub clock : Schedule → ℕ → ℕ → ℕ → Next
+clock s o zero m = PastEnd
+clock s o (suc n) m = let later = clock s o n (m + 1) in cond (matchesIn s o m) (At m) later
 
--- what is said where a walk over the whole cycle has found a minute, and where it hasn't
-unfoldable pub ifStruck : Next → Next → Next
-ifStruck (At m) later = later
-ifStruck PastEnd later = Never
-ifStruck Never later = Never
+-- the answer where a walk over the whole cycle has found a minute, and where it hasn't
+unfoldable pub ifFound : Next → Next → Next
+ifFound (At m) later = later
+ifFound PastEnd later = Never
+ifFound Never later = Never
 
--- never, if none of the whole cycle matches; else the minutes after m to the calendar's end
-unfoldable pub clockAfter : Schedule → ℕ → Next
-clockAfter s m = ifStruck (clock s cycleMinutes 0) (clock s (lastMinute - m) (m + 1))
+-- never, if no minute of the whole cycle matches, in UTC; else the minutes after m to the calendar's end
+unfoldable pub clockAfterIn : Schedule → ℕ → ℕ → Next
+clockAfterIn s o m = ifFound (clock s 720 cycleMinutes 0) (clock s o (lastMinute - m) (m + 1))

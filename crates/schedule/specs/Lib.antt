@@ -2,10 +2,10 @@ pub mod Match
 pub mod Search
 pub mod Refusals
 pub mod Next
-pub mod Clocks
 pub mod Days
 pub mod Gap
 pub mod Local
+pub mod Clocks
 pub mod Jumps
 pub mod Computing
 pub mod Examples

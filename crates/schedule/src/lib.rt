@@ -12,14 +12,13 @@ ghost use Prim.Native.Nat.{_+_, _≤_, _<_};
 ghost use Rattle.calendar.specs.Dates.{calendarDays, lastMinute};
 ghost use Rattle.schedule.specs.Match.{matchesDate, matches, isDue, matchesOn};
 ghost use Rattle.schedule.specs.Search.{from};
-ghost use Rattle.schedule.specs.Next.{firingAfter, nextAfter, refusalOf, minuteIn};
+ghost use Rattle.schedule.specs.Next.{refusalOf, minuteIn};
 use calendar::CALENDAR_DAYS;
 use calendar::DAY_MINUTES;
 use calendar::Date;
 use calendar::LAST_MINUTE;
 use day::day_from;
 use day::matches_day;
-use never::can_fire;
 use time::time_from;
 
 // The refusals, by their numbers in paper 01.
@@ -125,28 +124,4 @@ pub(crate) fn minute_from(s: Schedule, start: u64) -> u64
         return later * DAY_MINUTES + first;
     }
     LAST_MINUTE + 1
-}
-
-// The least matching minute after a minute.
-fn firing_after(s: Schedule, minute: u64) -> Next
-    ensures { λ r. ⌜ r ≡ firingAfter s minute ⌝ }
-{
-    if LAST_MINUTE <= minute {
-        return Next::PastEnd;
-    }
-    let found = minute_from(s, minute + 1);
-    if found <= LAST_MINUTE {
-        return Next::At(found);
-    }
-    Next::PastEnd
-}
-
-// When an entry fires next, strictly after a minute.
-pub fn next_firing(s: Schedule, minute: u64) -> Next
-    ensures { λ r. ⌜ r ≡ nextAfter s minute ⌝ }
-{
-    if can_fire(s) {
-        return firing_after(s, minute);
-    }
-    Next::Never
 }

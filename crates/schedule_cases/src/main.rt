@@ -4,7 +4,6 @@
 ghost use Prim.Native.Nat.{_+_, _<_, _^_};
 use libc::STDIN_FILENO;
 use libc::STDOUT_FILENO;
-use schedule::Next;
 use schedule::Schedule;
 use schedule::Stars;
 
@@ -46,27 +45,25 @@ fn schedule_in(case: &[u8; 32]) -> Schedule {
     }
 }
 
-// The number of the refusal, 0 where there is a firing: that of the minute comes first.
-fn refusal_of(next: Next, minute: u64) -> u8 {
+// The next firing after a minute, in UTC, or 4,294,967,296 and the refusal's number: that of the minute comes first.
+fn number_after(s: Schedule, minute: u64) -> u64 {
     if calendar::LAST_MINUTE < minute {
-        return calendar::NOT_ON_CALENDAR;
+        return 4_294_967_296 + calendar::NOT_ON_CALENDAR as u64;
     }
-    next.refusal()
+    let next = schedule::local::next_firing_in(s, 0, minute);
+    let refusal = next.refusal();
+    if refusal == 0 {
+        return next.minute();
+    }
+    4_294_967_296 + refusal as u64
 }
 
 fn print(case: &[u8; 32]) {
     let s = schedule_in(case);
     let minute = quad(case, 24) + 4_294_967_296 * quad(case, 28);
-    let matched = schedule::matches(s, minute);
-    let next = schedule::next_firing(s, minute);
-    let refusal = refusal_of(next, minute);
-    io::print_decimal(STDOUT_FILENO, matched as u64);
+    io::print_decimal(STDOUT_FILENO, schedule::matches(s, minute) as u64);
     io::write_all(STDOUT_FILENO, b" ");
-    if refusal == 0 {
-        io::print_decimal(STDOUT_FILENO, next.minute());
-    } else {
-        io::print_decimal(STDOUT_FILENO, 4_294_967_296 + refusal as u64);
-    }
+    io::print_decimal(STDOUT_FILENO, number_after(s, minute));
     io::write_all(STDOUT_FILENO, b"\n");
 }
 

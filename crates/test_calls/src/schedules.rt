@@ -1,6 +1,7 @@
 // A schedule's functions, with no text to read.
 ghost use mathlib.Core.Path.{_≡_};
-ghost use Rattle.test_calls.specs.Schedules.{scheduleOf, numberOf, nextNumber, clockNumber, matchNumber};
+ghost use Rattle.schedule.specs.Local.{InZones};
+ghost use Rattle.test_calls.specs.Schedules.{scheduleOf, offsetOf, numberOf, nextNumber, clockNumber, matchNumber};
 use schedule::Next;
 use schedule::Schedule;
 use schedule::Stars;
@@ -33,13 +34,21 @@ fn schedule_of(
     }
 }
 
-// The next firing after a minute, or its refusal, as a number.
-fn number_of(next: Next, minute: u64) -> u64
-    ensures { λ r. ⌜ r ≡ numberOf next minute ⌝ }
+// An offset from -720 to 840 is itself, any other is 0.
+fn offset_of(offset: i32) -> i32
+    ensures { λ r. ⌜ r ≡ offsetOf offset ⌝ }
+    ensures zone { λ r. ⌜ InZones r ⌝ }
 {
-    if calendar::LAST_MINUTE < minute {
-        return 4_294_967_296 + calendar::NOT_ON_CALENDAR as u64;
+    if (offset < -720) | (840 < offset) {
+        return 0;
     }
+    offset
+}
+
+// The next firing as a number, or 4,294,967,296 and the refusal's number.
+fn number_of(next: Next) -> u64
+    ensures { λ r. ⌜ r ≡ numberOf next ⌝ }
+{
     let refusal = next.refusal();
     if refusal == 0 {
         return next.minute();
@@ -47,7 +56,7 @@ fn number_of(next: Next, minute: u64) -> u64
     4_294_967_296 + refusal as u64
 }
 
-// The next firing after a minute.
+// The next firing after a minute, under an offset, by the search that answers a table's entries.
 #[no_mangle]
 pub extern "C" fn schedule_next(
     minutes: u64,
@@ -56,12 +65,16 @@ pub extern "C" fn schedule_next(
     months: u64,
     weekdays: u64,
     stars: u64,
+    offset: i32,
     minute: u64,
 ) -> u64
-    ensures { λ r. ⌜ r ≡ nextNumber (scheduleOf minutes hours days months weekdays stars) minute ⌝ }
+    ensures { λ r. ⌜ r ≡ nextNumber (scheduleOf minutes hours days months weekdays stars) offset minute ⌝ }
 {
+    if calendar::LAST_MINUTE < minute {
+        return 4_294_967_296 + calendar::NOT_ON_CALENDAR as u64;
+    }
     let s = schedule_of(minutes, hours, days, months, weekdays, stars);
-    number_of(schedule::next_firing(s, minute), minute)
+    number_of(schedule::local::next_firing_in(s, offset_of(offset), minute))
 }
 
 // The same by the clock, minute by minute. An entry that never fires takes seconds.
@@ -73,12 +86,16 @@ pub extern "C" fn schedule_next_by_clock(
     months: u64,
     weekdays: u64,
     stars: u64,
+    offset: i32,
     minute: u64,
 ) -> u64
-    ensures { λ r. ⌜ r ≡ clockNumber (scheduleOf minutes hours days months weekdays stars) minute ⌝ }
+    ensures { λ r. ⌜ r ≡ clockNumber (scheduleOf minutes hours days months weekdays stars) offset minute ⌝ }
 {
+    if calendar::LAST_MINUTE < minute {
+        return 4_294_967_296 + calendar::NOT_ON_CALENDAR as u64;
+    }
     let s = schedule_of(minutes, hours, days, months, weekdays, stars);
-    number_of(schedule::clock::next_by_clock(s, minute), minute)
+    number_of(schedule::clock::next_by_clock(s, offset_of(offset), minute))
 }
 
 // 1 if the minute matches, otherwise 0.

@@ -5,6 +5,8 @@ use second::calendar::{Clock, Date, LAST_MINUTE};
 use second::random::Random;
 use second::schedule::{samples, Schedule};
 use second::table::documents;
+use second::table::offset::samples::offset;
+use second::table::offset::{EAST, WEST};
 use second::table::samples::schedule_of;
 use std::iter;
 use test_calls::schedules;
@@ -203,26 +205,54 @@ fn a_firing_is_at_most_the_gap_ahead() {
     for _ in 0..SAMPLES {
         let schedule = samples::schedule(&mut random);
         let minute = samples::start(&mut random);
-        let ahead = match schedules::next_after(schedule.numbers(), minute) {
+        let offset = offset(&mut random);
+        let ahead = match schedules::next_under(schedule.numbers(), offset, minute) {
             Ok(firing) => firing - minute,
             // No firing up to the calendar's end.
             Err(17) => LAST_MINUTE - minute,
             Err(_) => continue,
         };
-        assert!(ahead <= GAP, "{schedule:x?} after {minute}: {ahead} ahead");
+        assert!(
+            ahead <= GAP,
+            "{schedule:x?} {offset:+} after {minute}: {ahead} ahead"
+        );
     }
     // It is reached.
     let leap_sunday = schedules::next_after(schedule_of("0 0 29 2 */7").numbers(), 62_147_520);
     assert_eq!(leap_sunday, Ok(62_147_520 + GAP));
 }
 
-/// The slow engine of ticket 2026-07, compared with the quick one and with the second program.
-fn by_clock(schedule: &Schedule, minute: u64) -> Answer {
-    let clock = schedules::next_by_clock(schedule.numbers(), minute);
+/// Before 1970 locally nothing is further ahead than 1996: each day of a leap year has come on each weekday by then.
+#[test]
+fn before_1970_locally_a_firing_comes_by_1996() {
+    const END_OF_1996: u64 = 9_862 * DAY;
+    for month in 0..12 {
+        for day in 1..=31 {
+            for weekday in 0..7 {
+                let last = Schedule {
+                    days: 1 << day,
+                    months: 1 << (month + 1),
+                    weekdays: 1 << weekday,
+                    ..schedule_of("59 23 * * *")
+                };
+                match schedules::next_under(last.numbers(), WEST, 0) {
+                    Ok(firing) => assert!(firing < END_OF_1996 + 720, "{last:x?}: {firing}"),
+                    why => assert_eq!(why, Err(16), "{last:x?}"),
+                }
+            }
+        }
+    }
+}
+
+/// The slow engine of ticket 2026-07, compared with the quick one and with the second program, by a local clock.
+fn by_clock(schedule: &Schedule, offset: i64, minute: u64) -> Answer {
+    let clock = schedules::next_by_clock(schedule.numbers(), offset, minute);
+    let search = schedules::next_under(schedule.numbers(), offset, minute);
+    let second = schedule.next_under(offset, minute);
     assert_eq!(
-        clock,
-        next_after(schedule, minute),
-        "{schedule:x?} after {minute}"
+        [clock, search],
+        [second; 2],
+        "{schedule:x?} {offset:+} after {minute}: clock and search, second program"
     );
     clock
 }
@@ -236,34 +266,42 @@ fn the_clock_and_the_search_agree() {
     while asked < 2_000 {
         let schedule = samples::schedule(&mut random);
         let minute = samples::start(&mut random);
+        let offset = offset(&mut random);
         let early = schedule.next_after(0).is_ok_and(|first| first <= NEAR);
         let near = schedule
-            .next_after(minute)
+            .next_under(offset, minute)
             .map_or(LAST_MINUTE - NEAR <= minute, |firing| {
                 firing - minute <= NEAR
             });
         if early && near {
-            let _ = by_clock(&schedule, minute);
+            let _ = by_clock(&schedule, offset, minute);
             asked += 1;
         }
     }
+}
+
+/// Every offset at its ends: before the first local minute and past the last one, and past the calendar in UTC.
+#[test]
+fn the_clock_and_the_search_agree_at_the_ends() {
     let every_minute = schedule_of("* * * * *");
-    for minute in [
-        0,
-        1,
-        LAST_MINUTE - 1,
-        LAST_MINUTE,
-        LAST_MINUTE + 1,
-        u64::MAX,
-    ] {
-        let _ = by_clock(&every_minute, minute);
+    for offset in WEST..=EAST {
+        let far = offset.unsigned_abs();
+        for near in [0, 1, 2, far.saturating_sub(1), far, far + 1] {
+            let _ = by_clock(&every_minute, offset, near);
+            let _ = by_clock(&every_minute, offset, LAST_MINUTE - near);
+        }
+        assert_eq!(by_clock(&every_minute, offset, LAST_MINUTE), Err(17));
+        for off in [LAST_MINUTE + 1, 1 << 32, u64::MAX] {
+            assert_eq!(by_clock(&every_minute, offset, off), Err(14));
+        }
     }
-    assert_eq!(by_clock(&every_minute, LAST_MINUTE), Err(17));
-    assert_eq!(by_clock(&every_minute, LAST_MINUTE + 1), Err(14));
 }
 
 /// The whole cycle is walked.
 #[test]
 fn the_clock_says_never_after_the_whole_cycle() {
-    assert_eq!(by_clock(&schedule_of("0 0 30 2 *"), 0), Err(16));
+    let february_30 = schedule_of("0 0 30 2 *");
+    for offset in [0, WEST, EAST] {
+        assert_eq!(by_clock(&february_30, offset, 0), Err(16));
+    }
 }

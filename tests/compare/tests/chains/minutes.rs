@@ -6,6 +6,7 @@ use second::calendar::LAST_MINUTE;
 use second::random::Random;
 use second::schedule::Schedule;
 use second::table::{read, When};
+use std::iter;
 use test_calls::schedules;
 
 #[test]
@@ -29,28 +30,21 @@ fn chains_are_the_minutes_that_are_due() {
     }
 }
 
-/// The chain of a schedule by the slow engine, on a local clock: its minutes from the start on, and back in UTC.
+/// The chain of a schedule by the slow engine, by a local clock.
 fn by_clock(schedule: &Schedule, offset: i64, [start, last]: [u64; 2]) -> Vec<u64> {
-    let mut local = start.checked_add_signed(offset).expect("a local minute");
-    let mut chain = Vec::new();
-    while let Ok(next) = schedules::next_by_clock(schedule.numbers(), local) {
-        let minute = next.checked_add_signed(-offset);
-        let Some(minute) = minute.filter(|&minute| minute <= last) else {
-            break;
-        };
-        chain.push(minute);
-        local = next;
-    }
-    chain
+    let next = |&minute: &u64| schedules::next_by_clock(schedule.numbers(), offset, minute).ok();
+    iter::successors(next(&start), next)
+        .take_while(|&minute| minute <= last)
+        .collect()
 }
 
 /// Whether the slow engine has short ways: from minute 0 to the first firing, from the start on to each next one.
-fn is_frequent(schedule: &Schedule, span: [u64; 2]) -> bool {
-    let near = |minute: u64| {
-        let next = schedule.next_after(minute);
-        next.is_ok_and(|next| next < minute + DAY)
+fn is_frequent(schedule: &Schedule, offset: i64, span: [u64; 2]) -> bool {
+    let near = |offset: i64, minute: u64| match schedule.next_under(offset, minute) {
+        Ok(next) => next < minute + DAY,
+        Err(_) => LAST_MINUTE < minute + DAY,
     };
-    near(0) && span.into_iter().all(near)
+    near(0, 0) && span.into_iter().all(|minute| near(offset, minute))
 }
 
 #[test]
@@ -62,14 +56,12 @@ fn chains_are_the_slow_engines() {
         println!("{} {numbers:?}", bytes.escape_ascii());
         let table = Table::of(&bytes).under(numbers);
         let second = read(&bytes, numbers.rules()).expect("a good table");
-        // Where every clock shows a minute of the calendar.
-        let start = DAY + random.below(LAST_MINUTE - 5 * DAY);
-        let span = [start, start + random.below(2 * DAY)];
+        let span = days(&mut random, 2);
         for (entry, by_second) in (0..).zip(&second.entries) {
             let When::Times(schedule) = by_second.when else {
                 continue;
             };
-            if is_frequent(&schedule, span) {
+            if is_frequent(&schedule, by_second.offset, span) {
                 let slow = by_clock(&schedule, by_second.offset, span);
                 assert_eq!(minutes_of(table, entry, span), slow, "{entry}, {span:?}");
                 compared += 1;

@@ -11,6 +11,7 @@ use second::table::offset::known::{DUE, NEXT, SEVERAL, SEVERAL_NEXT};
 use second::table::offset::samples::{line, offset, OFFSETS};
 use second::table::offset::{text, EAST, WEST};
 use second::table::{samples, Kind, Rules};
+use test_calls::schedules;
 
 /// Runs a test with a table of either kind: `~` is a system table's user.
 fn in_both_kinds(table: &str, test: impl Fn(&Compared)) {
@@ -137,6 +138,33 @@ fn a_clock_moves_firings() {
         if let (Some(Ok(utc)), Some(Ok(local))) = (utc, local) {
             assert_eq!(Some(utc), local.checked_add_signed(offset), "{fields}");
             assert_eq!(table.due(1, local), Ok(1));
+        }
+    }
+}
+
+/// The slow engine of ticket 2026-07 answers the same as a table's entry, refusals included. It walks from minute 0 to the first
+/// match, and then from the minute to the firing: of both only short ways are asked for.
+#[test]
+fn entries_fire_as_by_the_slow_engine() {
+    const NEAR: u64 = 100_000;
+    let mut random = Random::seeded();
+    let mut asked = 0;
+    while asked < 500 {
+        let fields = samples::fields(&mut random).join(" ");
+        let schedule = samples::schedule_of(&fields);
+        let offset = offset(&mut random);
+        let minute = start(&mut random);
+        let early = schedule.next_after(0).is_ok_and(|first| first <= NEAR);
+        let near = match schedule.next_under(offset, minute) {
+            Ok(firing) => firing - minute <= NEAR,
+            Err(_) => LAST_MINUTE - NEAR <= minute,
+        };
+        if early && near {
+            let table = format!("CRON_TZ={}\n{fields} a\n", text(offset));
+            let found = Compared::of(table.as_bytes()).next(0, minute);
+            let slow = schedules::next_by_clock(schedule.numbers(), offset, minute);
+            assert_eq!(found, slow, "{table} after {minute}");
+            asked += 1;
         }
     }
 }
