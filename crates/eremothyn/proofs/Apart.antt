@@ -2,18 +2,19 @@
 -- refused changes nothing.
 -- Assumes nothing.
 use mathlib.Core.Path.{_≡_, refl}
-use mathlib.Core.Bool.{Bool, true, false, cond}
-use Prim.Native.Nat.{ℕ, zero, suc, _+_, _-_, _≤_}
+use mathlib.Core.Bool.{Bool, true, false, cond, _&&_}
+use Prim.Native.Nat.{ℕ, zero, suc, _+_, _-_, _%_, _≤_, _<_}
 use mathlib.Core.List.{List}
 use native.Mathlib.Omega.{arith}
 use lib.Dec.{eqb, leb}
 use lib.ListN.{length, drop, length-drop}
 use lib.Seq.{length-take-le}
-use borrow.Author.Tests.{ne-eqb, leb-true}
+use borrow.Author.Tests.{ne-eqb, leb-true, lt-ltb, le-ltb}
 use Rattle.bytes.specs.Runs.{between}
 use Rattle.bytes.specs.Laid.{laid}
 use Rattle.calendar.specs.declared.DateAnswer.{DateAnswer}
-use Rattle.calendar.specs.Dates.{lastMinute, dateAt, noDate, dateOf, minuteOf}
+use Rattle.calendar.specs.declared.MinuteAnswer.{MinuteAnswer}
+use Rattle.calendar.specs.Dates.{firstYear, lastYear, lastMinute, dateAt, noDate, dateOf, exists, minuteAt, minuteOf}
 use Rattle.calendar.proofs.Theorems.{parts-within, date-minute-date}
 use Rattle.crontab.specs.declared.Rules.{Rules}
 use Rattle.crontab.specs.declared.entry.Entry.{Entry}
@@ -35,7 +36,7 @@ use Rattle.crontab.specs.Owners.{ownerIn}
 use Rattle.eremothyn.specs.declared.owners.Owned.{Owned}
 use Rattle.eremothyn.specs.declared.owners.Owned.the-variants.{UserOffset, UserLength, GroupOffset, GroupLength, ClassOffset, ClassLength}
 use Rattle.eremothyn.specs.Owners.{ownedIn, ownerNumber}
-use Rattle.crontab.proofs.Theorems.{OwnerInside, owner-inside, owner-short, EntryTold, LineTold, DueTold, NextTold, table-sound, entry-told, entry-on-line, setting-inside, setting-short}
+use Rattle.crontab.proofs.Theorems.{OwnerInside, owner-inside, owner-short, owner-number, setting-number, EntryTold, LineTold, DueTold, NextTold, table-sound, entry-told, entry-on-line, setting-inside, setting-short}
 use Rattle.command.specs.declared.SplitAnswer.the-variants as split
 use Rattle.command.specs.Parts.{Stdin, absent, given, shellLine, inputOf, textOf, inputLength}
 use Rattle.command.specs.Buffers.{Split, haveRoom, splitStep}
@@ -56,7 +57,8 @@ use Rattle.eremothyn.specs.declared.dates.DatePart.{DatePart}
 use Rattle.eremothyn.specs.declared.dates.DatePart.the-variants.{Year, Month, Day, Hour, Minute, Weekday}
 use Rattle.eremothyn.specs.declared.settings.Shown.{Shown}
 use Rattle.eremothyn.specs.declared.settings.Shown.the-variants.{NameOffset, NameLength, ValueOffset, ValueLength}
-use Rattle.eremothyn.specs.Answer.{refusedFrom, answerOf}
+use Rattle.bytes.specs.Refusals.{IsRefusal}
+use Rattle.eremothyn.specs.Answer.{refusedFrom, moreFrom, answerOf, isRefused}
 use Rattle.eremothyn.specs.Dates.{partIn, datePart, dateMinute, partsOf, dateRefusal, dateAnswer, dateRun}
 use Rattle.eremothyn.specs.Tables.{checkNumber}
 use Rattle.eremothyn.specs.declared.entries.Place.{Place}
@@ -67,13 +69,29 @@ use Rattle.eremothyn.specs.Commands.{splitNumber, inputNumber, splitIn, 
 use Rattle.eremothyn.specs.NormalForms.{normalNumber}
 use Rattle.eremothyn.specs.Queue.{tickNumber, popNumber}
 use Rattle.eremothyn.specs.Lists.{filledNumber}
-use Rattle.eremothyn.specs.Apart.{Tells, TellsFilled, byRefusal, byEntry, byLine, byDue, byNext, bySplit, byForm, byTick, byPop, Stays}
+use Rattle.eremothyn.specs.Apart.{granted, TellsRefused, Tells, TellsFilled, byRefusal, byEntry, byLine, byDue, byNext, bySplit, byForm, byTick, byPop, Stays}
 
--- a record's answer, where its value is small unless it is refused
-answer-tells : (refusal value : ℕ) → (refusal ≡ 0 → value ≤ refusedFrom) → Tells (byRefusal refusal) (answerOf refusal value)
+-- ---- the macro
+
+-- of an answer that isn't above 4,294,967,296, of one where more remain, and of a refusal
+pub small-granted : (number : ℕ) → number ≤ refusedFrom → Tells granted number
+unfolding isRefused
+small-granted number h = (le-ltb refusedFrom (number % moreFrom) (omega arith), h)
+
+more-granted : (n : ℕ) → n < refusedFrom → isRefused (moreFrom + n) ≡ false
+unfolding isRefused
+more-granted n h =
+    le-ltb refusedFrom ((moreFrom + n) % moreFrom) (omega arith)
+
+refused-told : (n : ℕ) → IsRefusal n → TellsRefused n (refusedFrom + n)
+unfolding isRefused
+refused-told n h = (lt-ltb refusedFrom ((refusedFrom + n) % moreFrom) (omega (arith, h .0, h .1)), refl, h)
+
+-- a record's answer, where its value is small unless it is refused, and its refusal has eight bits
+answer-tells : (refusal value : ℕ) → refusal ≤ 255 → (refusal ≡ 0 → value ≤ refusedFrom) → Tells (byRefusal refusal) (answerOf refusal value)
 unfolding answerOf
-answer-tells zero value h = h refl
-answer-tells (suc n) value h = (omega arith, refl)
+answer-tells zero value s h = small-granted value (h refl)
+answer-tells (suc n) value s h = refused-told (suc n) (omega arith, s)
 
 -- ---- dates
 
@@ -85,9 +103,17 @@ part-small m Hour h = omega (arith, parts-within m h .3)
 part-small m Minute h = omega (arith, parts-within m h .4)
 part-small m Weekday h = omega (arith, parts-within m h .5)
 
+of-few : (minute : ℕ) → dateOf minute .refusal ≤ 255
+unfolding dateOf
+of-few minute = go (leb minute lastMinute)
+  where
+    go : (b : Bool) → cond {A = DateAnswer} b (record { refusal = 0; date = dateAt minute }) (record { refusal = 14; date = noDate }) .refusal ≤ 255
+    go true = omega arith
+    go false = omega arith
+
 pub part-tells : (minute : ℕ) (part : DatePart) → Tells (byRefusal (dateOf minute .refusal)) (datePart minute part)
 unfolding datePart dateOf
-part-tells minute part = answer-tells (dateOf minute .refusal) (partIn (dateOf minute .date) part) (go (leb minute lastMinute) refl)
+part-tells minute part = answer-tells (dateOf minute .refusal) (partIn (dateOf minute .date) part) (of-few minute) (go (leb minute lastMinute) refl)
   where
     go : (b : Bool) → leb minute lastMinute ≡ b
         → let a = cond {A = DateAnswer} b (record { refusal = 0; date = dateAt minute }) (record { refusal = 14; date = noDate }) in
@@ -95,29 +121,47 @@ part-tells minute part = answer-tells (dateOf minute .refusal) (partIn (dateOf m
     go true e z = part-small minute part (leb-true minute lastMinute e)
     go false e z = absurd (omega arith)
 
+minute-few : (year month day hour minute : ℕ) → minuteOf year month day hour minute .refusal ≤ 255
+unfolding minuteOf
+minute-few year month day hour minute = go (exists year month day hour minute && leb firstYear year && leb year lastYear)
+  where
+    go : (b : Bool)
+        → cond {A = MinuteAnswer} b (record { refusal = 0; minute = minuteAt year month day hour minute }) (record { refusal = 14; minute = 0 }) .refusal ≤ 255
+    go true = omega arith
+    go false = omega arith
+
 pub minute-tells : (year month day hour minute : ℕ)
     → Tells (byRefusal (minuteOf year month day hour minute .refusal)) (dateMinute year month day hour minute)
 unfolding dateMinute
 minute-tells year month day hour minute =
-    answer-tells (minuteOf year month day hour minute .refusal) (minuteOf year month day hour minute .minute)
+    answer-tells (minuteOf year month day hour minute .refusal) (minuteOf year month day hour minute .minute) (minute-few year month day hour minute)
     (λ z. omega (arith, date-minute-date year month day hour minute z .0))
+
+date-few : (minute : ℕ) (run : List ℕ) → dateRefusal minute run ≤ 255
+unfolding dateRefusal
+date-few minute run = go (eqb (dateOf minute .refusal) 0) (leb 6 (length run))
+  where
+    go : (a b : Bool) → cond a (cond b 0 18) (dateOf minute .refusal) ≤ 255
+    go true true = omega arith
+    go true false = omega arith
+    go false b = of-few minute
 
 pub date-tells : (minute : ℕ) (run : List ℕ) → Tells (byRefusal (dateRefusal minute run)) (dateAnswer minute run)
 unfolding dateAnswer
-date-tells minute run = answer-tells (dateRefusal minute run) 6 (λ z. omega arith)
+date-tells minute run = answer-tells (dateRefusal minute run) 6 (date-few minute run) (λ z. omega arith)
 
 -- ---- tables and settings
 
 pub check-tells : (rules : Rules) (table : List ℕ) → Tells (byRefusal (tableOf rules table .refusal)) (checkNumber (tableOf rules table))
 unfolding checkNumber
-check-tells rules table = answer-tells (tableOf rules table .refusal) (tableOf rules table .count) (λ z. omega (arith, table-sound rules table .few))
+check-tells rules table = answer-tells (tableOf rules table .refusal) (tableOf rules table .count) (omega (arith, table-sound rules table .number)) (λ z. omega (arith, table-sound rules table .few))
 
 pub setting-tells : (rules : Rules) (table : List ℕ) (line : ℕ) (what : Shown)
     → let a = settingIn (itemsOf rules table) line in Tells (byRefusal (a .refusal)) (settingNumber a what)
 unfolding settingNumber
 setting-tells rules table line what =
     answer-tells (settingIn (itemsOf rules table) line .refusal) (shownIn (settingIn (itemsOf rules table) line) what)
-    (λ z. small what (setting-short rules table line z))
+    (setting-number rules table line) (λ z. small what (setting-short rules table line z))
   where
     small : (what : Shown) → length table ≤ maxTable → shownIn (settingIn (itemsOf rules table) line) what ≤ refusedFrom
     small NameOffset h = let i = setting-inside rules table line .name in omega (arith, i .order, i .within)
@@ -127,8 +171,8 @@ setting-tells rules table line what =
 
 pub line-tells : (a : LineAnswer) → LineTold a → Tells (byLine a) (lineNumber a)
 unfolding lineNumber
-line-tells (line.At k) h = omega arith
-line-tells (line.Refused number) h = (h, refl)
+line-tells (line.At k) h = small-granted k (omega arith)
+line-tells (line.Refused number) h = refused-told number h
 
 -- ---- owners
 
@@ -136,7 +180,7 @@ pub owner-tells : (rules : Rules) (table : List ℕ) (i : ℕ) (what : Owned)
     → let a = ownerIn rules table i in Tells (byRefusal (a .refusal)) (ownerNumber a what)
 unfolding ownerNumber
 owner-tells rules table i what =
-    answer-tells (a .refusal) (ownedIn (a .owner) what) (λ z. small what (owner-short rules table i z) (owner-inside rules table i))
+    answer-tells (a .refusal) (ownedIn (a .owner) what) (owner-number rules table i) (λ z. small what (owner-short rules table i z) (owner-inside rules table i))
   where
     a : OwnerAnswer
     a = ownerIn rules table i
@@ -153,14 +197,14 @@ owner-tells rules table i what =
 
 pub due-tells : (a : DueAnswer) → DueTold a → Tells (byDue a) (dueNumber a)
 unfolding dueNumber
-due-tells due.Yes h = omega arith
-due-tells due.No h = omega arith
-due-tells (due.Refused number) h = (h, refl)
+due-tells due.Yes h = small-granted 1 (omega arith)
+due-tells due.No h = small-granted 0 (omega arith)
+due-tells (due.Refused number) h = refused-told number h
 
 pub next-tells : (a : NextAnswer) → NextTold a → Tells (byNext a) (nextNumber a)
 unfolding nextNumber
-next-tells (next.At m) h = omega arith
-next-tells (next.Refused number) h = (h, refl)
+next-tells (next.At m) h = small-granted m (omega arith)
+next-tells (next.Refused number) h = refused-told number h
 
 pub place-tells : (rules : Rules) (table : List ℕ) (i : ℕ) (what : Place)
     → let a = entryIn (tableOf rules table) i in Tells (byEntry a) (placeNumber a what)
@@ -174,8 +218,8 @@ place-tells rules table i what = go (entryIn (tableOf rules table) i) (entry-tol
 
     go : (a : EntryAnswer) → EntryTold (length table) a → ((e : Entry) → a ≡ entry.Found e → (1 ≤ e .line) × (e .line ≤ length table + 1))
         → Tells (byEntry a) (placeNumber a what)
-    go (entry.Found e) (s, h) on = small what e s h (on e refl .1)
-    go (entry.Refused number) h on = (h, refl)
+    go (entry.Found e) (s, h) on = small-granted (placeIn e what) (small what e s h (on e refl .1))
+    go (entry.Refused number) h on = refused-told number h
 
 -- ---- commands
 
@@ -201,8 +245,8 @@ step-tells c shell input h = go (haveRoom c shell input)
         (record { answer = split.Refused 18; shell = shell; input = input })
         in
         Tells (bySplit (r .answer)) (splitNumber (r .answer))
-    go true = omega (arith, split-length c)
-    go false = (omega arith, refl)
+    go true = small-granted (length (shellLine c)) (omega (arith, split-length c))
+    go false = refused-told 18 (omega arith)
 
 pub split-tells : (rules : Rules) (table : List ℕ) (i : ℕ) (shell input : List ℕ)
     → let a = splitOf rules table i shell input .answer in Tells (bySplit a) (splitNumber a)
@@ -211,7 +255,7 @@ split-tells rules table i shell input = go (entryIn (tableOf rules table) i) (en
   where
     go : (x : EntryAnswer) → EntryTold (length table) x → let a = splitIn table x shell input .answer in Tells (bySplit a) (splitNumber a)
     go (entry.Found e) (s, h) = step-tells (between table (e .start) (e .end)) shell input (omega (arith, command-length table e s))
-    go (entry.Refused number) h = (h, refl)
+    go (entry.Refused number) h = refused-told number h
 
 input-small : (n : ℕ) (x : Stdin) → length (textOf x) ≤ n → n ≤ maxTable → inputNumber (inputLength x) ≤ refusedFrom
 unfolding inputNumber inputLength textOf
@@ -225,8 +269,8 @@ stdin-tells rules table i = go (entryIn (tableOf rules table) i) (entry-told rul
     go : (x : EntryAnswer) → EntryTold (length table) x → Tells (byEntry x) (stdinIn table x)
     go (entry.Found e) (s, h) =
         let c = between table (e .start) (e .end) in
-        input-small (length table) (inputOf c) (omega (arith, split-length c, command-length table e s)) h
-    go (entry.Refused number) h = (h, refl)
+        small-granted _ (input-small (length table) (inputOf c) (omega (arith, split-length c, command-length table e s)) h)
+    go (entry.Refused number) h = refused-told number h
 
 -- ---- normal forms
 
@@ -236,29 +280,29 @@ unfolding normalNumber
 form-tells most before f small = go (f .answer)
   where
     go : (a : NormalAnswer) → Told most before a (f .buffer) → Tells (byForm a) (normalNumber a)
-    go (normal.Written size) h = omega (arith, h .0)
-    go (normal.Refused number) h = (h .0, refl)
+    go (normal.Written size) h = small-granted size (omega (arith, h .0))
+    go (normal.Refused number) h = refused-told number (h .0)
 
 -- ---- the line of waiting jobs
 
 pub tick-tells : (n : ℕ) (a : Ticked) → n ≤ maxEntries → TickedWithin n a → Tells (byTick a) (tickNumber a)
 unfolding tickNumber
-tick-tells n (tick.Joined k) few h = omega arith
-tick-tells n (tick.Refused number) few h = (h, refl)
+tick-tells n (tick.Joined k) few h = small-granted k (omega arith)
+tick-tells n (tick.Refused number) few h = refused-told number h
 
 pub pop-tells : (n : ℕ) (a : Popped) → n ≤ maxEntries → PoppedWithin n a → Tells (byPop a) (popNumber a)
 unfolding popNumber
-pop-tells n (pop.Entry e) few h = omega arith
-pop-tells n pop.Nothing few h = omega arith
-pop-tells n (pop.Refused number) few h = (h, refl)
+pop-tells n (pop.Entry e) few h = small-granted e (omega arith)
+pop-tells n pop.Nothing few h = small-granted refusedFrom (omega arith)
+pop-tells n (pop.Refused number) few h = refused-told number h
 
 -- ---- lists
 
 pub list-tells : (r : Filled) → Few r → TellsFilled r (filledNumber r)
 unfolding filledNumber
-list-tells (list.All n) h = omega arith
-list-tells (list.More n) h = (omega arith, omega arith)
-list-tells (list.Refused n) h = (h .0, refl, omega (arith, h .1))
+list-tells (list.All n) h = (small-granted n (omega arith) .0, omega arith)
+list-tells (list.More n) h = (more-granted n (omega arith), omega arith, omega arith)
+list-tells (list.Refused n) h = refused-told n h
 
 -- ---- what is refused changes nothing
 

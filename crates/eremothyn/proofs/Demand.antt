@@ -80,6 +80,9 @@ module _ (table : List ℕ) (kind dialect : ℕ) (good : tableOf (rulesOf kind d
   abbrev jobs : Jobs
   jobs = jobsIn rules table
 
+  small : tableOf (rulesOf kind dialect) table .refusal ≤ 255
+  small = omega (arith, good)
+
   bytes-is : (c : Call) → bytesAfter table kind dialect c ≡ roomAfter jobs c
   unfolding bytesAfter roomAfter
   bytes-is (tick minute room) = ap (λ (s : Step Ticked). s .room) (table-steps-good rules table good room minute .1)
@@ -89,11 +92,11 @@ module _ (table : List ℕ) (kind dialect : ℕ) (good : tableOf (rulesOf kind d
   unfolding answerTo refusal
   above-is (tick minute room) =
       let t = tableOf rules table in
-      tick-above (t .count) (tickTable t minute room .answer) (table-sound rules table .few) (tick-told t room minute)
+      tick-above (t .count) (tickTable t minute room .answer) (table-sound rules table .few) (tick-told t room small minute)
       ∙ ap (λ (s : Step Ticked). eqb (tickRefusal (s .answer)) 0) (table-steps-good rules table good room minute .1)
   above-is (pop room) =
       let t = tableOf rules table in
-      pop-above (t .count) (popTable t room .answer) (table-sound rules table .few) (pop-told t room)
+      pop-above (t .count) (popTable t room .answer) (table-sound rules table .few) (pop-told t room small)
       ∙ ap (λ (s : Step Popped). eqb (popRefusal (s .answer)) 0) (table-steps-good rules table good room 0 .2)
 
   answered-is : (cs : List Call) → answered table kind dialect cs ≡ unrefused jobs cs

@@ -9,10 +9,12 @@
 --     with no hypothesis about calls; queue-fair-ends: up to the calendar's last minute; due-can-fire: the entries of which they speak are those that are ever due
 --   queue-waits-exactly: the entry that a look finds at place p is the answer of request p + 1, and of no earlier one; queue-waits-at-most: so by the N-th;
 --     queue-waits-every: and within k * (p + 1) - 1 minutes, where requests come every k announcements; waits-third: used at the last place of three
---   told-apart: every number tells whether the call was refused
+--   next-near: a next firing is at most 21,036,960 minutes ahead, whatever the table, the entry and the minute
+--   told-apart: EREMOTHYN_IS_REFUSED is true of an answer exactly when the call was refused, and the refusal's number is what is left
 --   refused-stays: and then no byte and no number was changed
 -- Assumes nothing.
-use mathlib.Core.Path.{_≡_, refl, ap, _∙_}
+use mathlib.Core.Path.{_≡_, refl, sym, ap, _∙_}
+use mathlib.Core.Bool.{false, true≢false}
 use mathlib.Core.List.{List}
 use Prim.Native.Nat.{ℕ, zero, suc, _+_, _-_, _≤_}
 use native.Mathlib.Omega.{arith}
@@ -33,6 +35,9 @@ use Rattle.crontab.specs.Offsets.{utc}
 use Rattle.schedule.specs.Examples.{leapDay, fridays, february30, mondays30, lastDay, leapSundays, evenings, everyMinute, schedules}
 use Rattle.schedule.proofs.KnownDays as firings
 use Rattle.field.specs.Computing as field
+use Rattle.crontab.specs.declared.table.Table.{Table}
+use Rattle.crontab.specs.declared.firing.NextAnswer.{NextAnswer}
+use Rattle.crontab.specs.declared.firing.NextAnswer.the-variants as next
 use Rattle.crontab.specs.declared.time.When.the-variants.{Timed}
 use Rattle.crontab.specs.declared.table.EntryAnswer.the-variants.{Found}
 use Rattle.crontab.specs.Limits.{maxTable, maxEntries}
@@ -40,11 +45,11 @@ use Rattle.crontab.specs.Items.{itemsOf}
 use Rattle.crontab.specs.Tables.{tableOf, entryIn, commandIn}
 use Rattle.crontab.specs.Settings.{nextLineIn}
 use Rattle.crontab.specs.Firings.{told, nextOf, nextAnswer, nextIn, dueIn}
-use Rattle.crontab.proofs.Theorems.{table-sound, entry-sound, line-told, due-told, next-told}
+use Rattle.crontab.proofs.Theorems.{table-sound, entry-sound, line-told, due-told, NextTold, next-told, next-in-gap}
 use Rattle.crontab.proofs.Theorems as tables
 use Rattle.normal.specs.NormalForms.{normalForm}
 use Rattle.normal.proofs.Theorems.{form-told}
-use Rattle.records.specs.Calls.{compiled, decompiled}
+use Rattle.records.specs.Calls.{compiled, decompiled, recordFault}
 use Rattle.records.proofs.Theorems.{mostRecords, compiled-told, decompiled-told, fault-told}
 use Rattle.runqueue.specs.Calls.{initTable, tickTable, popTable, entryTable}
 use Rattle.reload.specs.Calls.{reloadTables}
@@ -55,7 +60,8 @@ use Rattle.firings.proofs.Theorems.{firings-few, firings-kept, merged-few, merg
 use Rattle.crontab.specs.Computing.{reading}
 use Rattle.command.specs.Computing.{splitting}
 use Rattle.eremothyn.specs.Rules.{rulesOf}
-use Rattle.eremothyn.specs.Answer.{answerOf}
+use Rattle.eremothyn.specs.Answer.{answerOf, isRefused}
+use Rattle.eremothyn.specs.Calls.{nextCall}
 use Rattle.eremothyn.specs.Tables.{checkNumber}
 use Rattle.eremothyn.specs.declared.entries.Place.the-variants.{CommandOffset, CommandLength}
 use Rattle.eremothyn.specs.Entries.{nextNumber, placeNumber}
@@ -63,7 +69,7 @@ use Rattle.eremothyn.specs.KnownDays.{KnownDays}
 use Rattle.eremothyn.specs.Apart.{ToldApart, RefusedStays}
 pub use Rattle.eremothyn.proofs.DateRuns.{date-parts}
 pub use Rattle.eremothyn.proofs.Demand.{due-can-fire, queue-fair, queue-fair-every, queue-fair-steady, queue-fair-ends, queue-waits-exactly, queue-waits-at-most, queue-waits-every, waits-third}
-use Rattle.eremothyn.proofs.Apart.{part-tells, minute-tells, date-tells, check-tells, place-tells, setting-tells, line-tells, owner-tells, due-tells, next-tells}
+use Rattle.eremothyn.proofs.Apart.{small-granted, part-tells, minute-tells, date-tells, check-tells, place-tells, setting-tells, line-tells, owner-tells, due-tells, next-tells}
 use Rattle.eremothyn.proofs.Apart.{split-tells, stdin-tells, form-tells, tick-tells, pop-tells, list-tells, date-stays, split-stays, form-stays, tick-keeps, pop-keeps}
 
 -- the table's first entry is timed, and its command ends a byte behind its start
@@ -155,6 +161,19 @@ pub february-30 : (m : ℕ) → m ≤ lastMinute → nextNumber (nextIn (tableOf
 unfolding nextNumber told schedules firings.ever
 february-30 m h = ap nextNumber (firing _ february30 11 12 m (entries .2) h ∙ ap told (firings.never february30 m refl))
 
+-- "a firing that is found is at most 21,036,960 minutes ahead", before 1970 locally too
+pub next-near : (table : List ℕ) (kind dialect entry minute : ℕ)
+    → let answer = nextCall table kind dialect entry minute in isRefused answer ≡ false → answer ≤ minute + 21036960
+unfolding nextNumber
+next-near table kind dialect entry minute = go (nextIn t entry minute) refl (next-told (rulesOf kind dialect) table entry minute)
+  where
+    t : Table
+    t = tableOf (rulesOf kind dialect) table
+
+    go : (a : NextAnswer) → nextIn t entry minute ≡ a → NextTold a → isRefused (nextNumber a) ≡ false → nextNumber a ≤ minute + 21036960
+    go (next.At n) e h q = next-in-gap t entry minute n e
+    go (next.Refused number) e h q = absurd (true≢false (sym (next-tells (next.Refused number) h .0) ∙ q))
+
 answer-other : (refusal count : ℕ) → (refusal ≡ 7 → ⊥) → count ≤ maxEntries → answerOf refusal count ≡ 4294967303 → ⊥
 unfolding answerOf
 answer-other zero count h few e = omega (arith, few, e)
@@ -178,7 +197,10 @@ command-placed rules table i e found =
     let p : e .start + (e .end - e .start) ≡ e .end = omega (arith, s .some) in
     rw (found, p)
 
--- a refusal is 4,294,967,296 plus its number, and no other answer is above 4,294,967,296
+few : (rules : Rules) (table : List ℕ) → tableOf rules table .refusal ≤ 255
+few rules table = omega (arith, table-sound rules table .number)
+
+-- a refusal is 4,294,967,296 plus its number, and EREMOTHYN_IS_REFUSED is true of it and of no other answer
 pub told-apart : ToldApart
 told-apart =
     record {
@@ -186,8 +208,8 @@ told-apart =
       minute-of-date = minute-tells;
       date = date-tells;
       check = check-tells;
-      fault-line = λ rules table. omega (arith, table-sound rules table .line-few);
-      fault-column = λ rules table. omega (arith, table-sound rules table .column-few);
+      fault-line = λ rules table. small-granted (tableOf rules table .line) (omega (arith, table-sound rules table .line-few));
+      fault-column = λ rules table. small-granted (tableOf rules table .column) (omega (arith, table-sound rules table .column-few));
       due = λ rules table i minute. due-tells (dueIn (tableOf rules table) i minute) (due-told rules table i minute);
       next = λ rules table i minute. next-tells (nextIn (tableOf rules table) i minute) (next-told rules table i minute);
       line-to-command = place-tells;
@@ -199,22 +221,22 @@ told-apart =
       normal-form = λ d table text. form-tells maxTable text (normalForm d table text) (omega arith) (form-told d table text);
       compile = λ d table records. form-tells mostRecords records (compiled d table records) (omega arith) (compiled-told d table records);
       decompile = λ records text. form-tells maxTable text (decompiled records text) (omega arith) (decompiled-told records text);
-      record-fault = λ records h. omega (arith, fault-told records);
+      record-fault = λ records h. small-granted (recordFault records) (omega (arith, fault-told records));
       queue-init =
           λ rules table room. let t = tableOf rules table in
-          tick-tells (t .count) (initTable t room .answer) (table-sound rules table .few) (init-told t room);
+          tick-tells (t .count) (initTable t room .answer) (table-sound rules table .few) (init-told t room (few rules table));
       queue-reload =
           λ rules old new room.
           tick-tells (tableOf rules new .count) (reloadTables rules old new room .answer) (table-sound rules new .few) (reload-told rules old new room);
       queue-tick =
           λ rules table room minute. let t = tableOf rules table in
-          tick-tells (t .count) (tickTable t minute room .answer) (table-sound rules table .few) (tick-told t room minute);
+          tick-tells (t .count) (tickTable t minute room .answer) (table-sound rules table .few) (tick-told t room (few rules table) minute);
       queue-pop =
           λ rules table room. let t = tableOf rules table in
-          pop-tells (t .count) (popTable t room .answer) (table-sound rules table .few) (pop-told t room);
+          pop-tells (t .count) (popTable t room .answer) (table-sound rules table .few) (pop-told t room (few rules table));
       queue-entry =
           λ rules table room place. let t = tableOf rules table in
-          pop-tells (t .count) (entryTable t place room) (table-sound rules table .few) (entry-told t room place);
+          pop-tells (t .count) (entryTable t place room) (table-sound rules table .few) (entry-told t room (few rules table) place);
       firings = λ rules table i a b run. list-tells (firingsIn (tableOf rules table) i a b run .answer) (firings-few rules table i a b run);
       merged-firings = λ rules table a b minutes entries. list-tells (mergedIn (tableOf rules table) a b minutes entries .answer) (merged-few rules table a b minutes entries);
     }

@@ -1,10 +1,11 @@
--- Two sentences of the C header. "A refusal is EREMOTHYN_REFUSED plus its number; no other answer is above EREMOTHYN_REFUSED": one
--- comparison tells a caller whether a call was refused, whatever it was lent. "A refused call changes no byte." Both are proved in
+-- Two sentences of the C header. "A refusal is EREMOTHYN_REFUSED plus its number; EREMOTHYN_IS_REFUSED tells it from every other answer": the macro is
+-- true of an answer exactly when the call is refused, whatever it was lent. "A refused call changes nothing that it is lent." Both are proved in
 -- proofs/Theorems.
 -- Assumes nothing.
 use mathlib.Core.Path.{_≡_}
 use Prim.Native.Nat.{ℕ, zero, suc, _+_, _≤_, _<_}
 use mathlib.Core.List.{List}
+use mathlib.Core.Bool.{true, false}
 use lib.ListN.{length}
 use Rattle.calendar.specs.Dates.{dateOf, minuteOf}
 use Rattle.field.specs.declared.Dialect.{Dialect}
@@ -39,7 +40,8 @@ use Rattle.firings.specs.Calls.{firingsIn, mergedIn}
 use Rattle.firings.specs.Rising.{Kept}
 use Rattle.eremothyn.specs.declared.dates.DatePart.{DatePart}
 use Rattle.eremothyn.specs.declared.settings.Shown.{Shown}
-use Rattle.eremothyn.specs.Answer.{refusedFrom}
+use Rattle.bytes.specs.Refusals.{IsRefusal}
+use Rattle.eremothyn.specs.Answer.{refusedFrom, moreFrom, isRefused}
 use Rattle.eremothyn.specs.Dates.{datePart, dateMinute, dateRefusal, dateAnswer, dateRun}
 use Rattle.eremothyn.specs.Tables.{checkNumber}
 use Rattle.eremothyn.specs.declared.entries.Place.{Place}
@@ -51,7 +53,7 @@ use Rattle.eremothyn.specs.Owners.{ownerNumber}
 use Rattle.eremothyn.specs.Commands.{splitNumber, splitOf, stdinLength}
 use Rattle.eremothyn.specs.NormalForms.{normalNumber}
 use Rattle.eremothyn.specs.Queue.{tickNumber, popNumber}
-use Rattle.eremothyn.specs.Lists.{moreFrom, filledNumber}
+use Rattle.eremothyn.specs.Lists.{filledNumber}
 
 -- ---- whether an answer is a refusal, and which
 
@@ -101,15 +103,20 @@ byPop (pop.Refused number) = refused number
 
 -- ---- the number that a C caller gets tells it
 
+-- a refusal: the macro is true of it, and its number is what is left
+abbrev pub TellsRefused : ℕ → ℕ → Type 0
+TellsRefused n number = (isRefused number ≡ true) × (number ≡ refusedFrom + n) × IsRefusal n
+
+-- the macro is false of any other answer; paper 01: "no other answer is above" 4,294,967,296
 abbrev pub Tells : Outcome → ℕ → Type 0
-Tells granted number = number ≤ refusedFrom
-Tells (refused n) number = (1 ≤ n) × (number ≡ refusedFrom + n)
+Tells granted number = (isRefused number ≡ false) × (number ≤ refusedFrom)
+Tells (refused n) number = TellsRefused n number
 
 -- ticket 2026-12: a list's number tells three things apart: a count, a count where more remain, a refusal
 abbrev pub TellsFilled : Filled → ℕ → Type 0
-TellsFilled (list.All n) number = number < refusedFrom
-TellsFilled (list.More n) number = (moreFrom ≤ number) × (number < moreFrom + refusedFrom)
-TellsFilled (list.Refused n) number = (1 ≤ n) × (number ≡ refusedFrom + n) × (number < moreFrom)
+TellsFilled (list.All n) number = (isRefused number ≡ false) × (number < refusedFrom)
+TellsFilled (list.More n) number = (isRefused number ≡ false) × (moreFrom ≤ number) × (number < moreFrom + refusedFrom)
+TellsFilled (list.Refused n) number = TellsRefused n number
 
 -- for every call, whatever is asked and lent
 pub record ToldApart : Type 0 where

@@ -3,6 +3,7 @@
 -- Assumes nothing.
 use mathlib.Core.Path.{_≡_, refl}
 use mathlib.Core.List.{List, [], _∷_, _++_}
+use mathlib.Core.Bool.{true, false}
 use Prim.Native.Nat.{ℕ, zero, suc, _+_, _-_}
 use lib.ListN.{replicate}
 use Rattle.bytes.specs.Texts.{text}
@@ -12,10 +13,27 @@ use Rattle.records.specs.Calls.{recordFault}
 use Rattle.reload.specs.Computing.{reloading}
 use Rattle.firings.specs.declared.Filled.the-variants.{All, More}
 use Rattle.eremothyn.specs.declared.dates.DatePart.the-variants.{Year, Month, Day, Hour, Minute, Weekday}
+use Rattle.eremothyn.specs.Answer.{isRefused}
 use Rattle.eremothyn.specs.Dates.{datePart, dateMinute, dateAnswer, dateRun}
 use Rattle.eremothyn.specs.Calls.{checkCall, faultLineCall, faultColumnCall, dueCall, nextCall, entryLineCall, commandOffsetCall, commandLengthCall, firingsCall, firingsRun, mergedFiringsCall, mergedFiringsMinutes, mergedFiringsEntries, splitCommandCall, splitCommandShell, splitCommandInput, stdinLengthCall, userOffsetCall, userLengthCall, groupOffsetCall, groupLengthCall, classOffsetCall, classLengthCall, settingNameOffsetCall, settingNameLengthCall, settingValueOffsetCall, settingValueLengthCall, nextSettingCall, normalFormCall, normalFormText, compileCall, compileRecords, decompileCall, decompileText, queueInitCall, queueInitRoom, queueTickCall, queueTickRoom, queuePopCall, queuePopRoom, queueEntryCall, queueReloadCall, queueReloadRoom}
 use Rattle.eremothyn.specs.Lists.{filledNumber}
 use Rattle.eremothyn.specs.Computing.{answering}
+
+-- ---- which answers are refusals
+
+-- "nothing waits" and counts are none, and neither are counts where more remain
+refusals : Hold isRefused
+    ((0, false)
+    ∷ (4294967295, false)
+    ∷ (4294967296, false)
+    ∷ (4294967297, true)
+    ∷ (4294967324, true)
+    ∷ (4294967551, true)
+    ∷ (8589934592, false)
+    ∷ (12884901887, false)
+    ∷ [])
+unfolding isRefused
+refusals = refl
 
 -- ---- dates
 

@@ -3,10 +3,7 @@
 use Prim.Native.Nat.{ℕ, _+_}
 use Rattle.firings.specs.declared.Filled.{Filled}
 use Rattle.firings.specs.declared.Filled.the-variants.{All, More, Refused}
-use Rattle.eremothyn.specs.Answer.{refusedFrom}
-
-abbrev pub moreFrom : ℕ
-moreFrom = 8589934592
+use Rattle.eremothyn.specs.Answer.{refusedFrom, moreFrom}
 
 unfoldable pub filledNumber : Filled → ℕ
 filledNumber (All n) = n

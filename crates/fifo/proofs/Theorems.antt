@@ -9,6 +9,7 @@ use native.Mathlib.Omega.{arith}
 use lib.Dec.{leb}
 use lib.ListN.{length, drop}
 use borrow.Author.Tests.{le-leb}
+use Rattle.bytes.specs.Refusals.{IsRefusal}
 use Rattle.fifo.specs.declared.Ticked.{Ticked}
 use Rattle.fifo.specs.declared.Popped.{Popped}
 use Rattle.fifo.specs.declared.Ticked.the-variants.{Joined, Refused as NotTicked}
@@ -57,12 +58,12 @@ room-enough n s h = le-leb (lineSize n) (length s) (omega arith)
 
 abbrev pub TickedWithin : ℕ → Ticked → Type 0
 TickedWithin n (Joined k) = k ≤ n
-TickedWithin n (NotTicked number) = 1 ≤ number
+TickedWithin n (NotTicked number) = IsRefusal number
 
 abbrev pub PoppedWithin : ℕ → Popped → Type 0
 PoppedWithin n (Entry e) = e < n
 PoppedWithin n Nothing = Unit {0}
-PoppedWithin n (NotPopped number) = 1 ≤ number
+PoppedWithin n (NotPopped number) = IsRefusal number
 
 pub init-within : (jobs : Jobs) (room : List ℕ) → TickedWithin (jobs .count) (initStep jobs room .answer)
 unfolding initStep fresh

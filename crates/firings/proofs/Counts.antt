@@ -87,15 +87,15 @@ module _ (a b : ℕ) (run : List ℕ) where
       go true true e Reboot = refused-fine 15 (omega arith, omega arith)
       go true true e (Timed s) = listed (leb-true b lastMinute e)
 
-  answer-fine : {n : ℕ} (e : EntryAnswer) → EntryTold n e → EntryFine (firingsAnswer e a b run)
+  answer-fine : (n : ℕ) (e : EntryAnswer) → EntryTold n e → EntryFine (firingsAnswer e a b run)
   unfolding firingsAnswer
-  answer-fine (answer.Found e) h = found-fine e
-  answer-fine (answer.Refused number) h = refused-fine number h
+  answer-fine n (answer.Found e) h = found-fine e
+  answer-fine n (answer.Refused number) h = refused-fine number h
 
 module _ (rules : Rules) (s : List ℕ) (i a b : ℕ) (run : List ℕ) where
   fine : EntryFine a b run (firingsIn (tableOf rules s) i a b run)
   unfolding firingsIn
-  fine = answer-fine a b run (entryIn (tableOf rules s) i) (entry-told rules s i)
+  fine = answer-fine a b run (length s) (entryIn (tableOf rules s) i) (entry-told rules s i)
 
   pub firings-few : Few (firingsIn (tableOf rules s) i a b run .answer)
   firings-few = fine .0

@@ -16,6 +16,7 @@ use native.Mathlib.Omega.{arith}
 use lib.ListN.{length}
 use lib.Dec.{eqb}
 use borrow.Author.Tests.{eqb-false}
+use Rattle.crontab.proofs.Theorems.{table-sound}
 use Rattle.schedule.specs.Local.{InZones}
 use Rattle.crontab.specs.declared.Rules.{Rules}
 use Rattle.crontab.specs.Tables.{tableOf}
@@ -67,8 +68,8 @@ module _ (rules : Rules) (old new room : List ℕ) where
           → TickedWithin (tableOf rules new .count)
           (cond {A = Step Ticked} b (cond d (reloadStep rules old new room) (refusedReload (tableOf rules new .refusal) room)) (refusedReload (tableOf rules old .refusal) room) .answer)
       go true e true f = step-told
-      go true e false f = omega (arith, eqb-false (tableOf rules new .refusal) 0 f)
-      go false e d f = omega (arith, eqb-false (tableOf rules old .refusal) 0 e)
+      go true e false f = omega (arith, eqb-false (tableOf rules new .refusal) 0 f, table-sound rules new .number)
+      go false e d f = omega (arith, eqb-false (tableOf rules old .refusal) 0 e, table-sound rules old .number)
 
   -- a refused call leaves the room as it was
   step-stays : (n : ℕ) → reloadStep rules old new room .answer ≡ Refused n → reloadStep rules old new room .room ≡ room

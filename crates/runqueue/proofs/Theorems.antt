@@ -28,7 +28,7 @@ use Rattle.fifo.specs.declared.Popped.the-variants.{Refused as NotPopped}
 use mathlib.Core.Path.{_≡_, refl}
 use mathlib.Core.Bool.{Bool, true, false, cond}
 use mathlib.Core.List.{List}
-use Prim.Native.Nat.{ℕ, suc, _<_}
+use Prim.Native.Nat.{ℕ, suc, _≤_, _<_}
 use native.Mathlib.Decide.{decLe}
 use native.Mathlib.Omega.{arith}
 use lib.Dec.{eqb}
@@ -81,7 +81,7 @@ table-due rules table e minute h on =
     rw (eq-eqb (tableOf rules table .refusal) 0 (entry-good rules table e h), lt-ltb e (tableOf rules table .count) h, le-leb minute lastMinute on)
 
 -- no more than the table's entries join, and an entry that is named is one of them
-module _ (t : Table) (room : List ℕ) where
+module _ (t : Table) (room : List ℕ) (small : t .refusal ≤ 255) where
   pub init-told : TickedWithin (t .count) (initTable t room .answer)
   unfolding initTable jobsOf
   init-told = go (eqb (t .refusal) 0) refl
@@ -89,7 +89,7 @@ module _ (t : Table) (room : List ℕ) where
       go : (b : Bool) → eqb (t .refusal) 0 ≡ b
           → TickedWithin (t .count) (cond {A = Step Ticked} b (initStep (jobsOf t) room) (record { answer = NotTicked (t .refusal); room = room }) .answer)
       go true e = init-within (jobsOf t) room
-      go false e = omega (arith, eqb-false (t .refusal) 0 e)
+      go false e = omega (arith, eqb-false (t .refusal) 0 e, small)
 
   pub tick-told : (minute : ℕ) → TickedWithin (t .count) (tickTable t minute room .answer)
   unfolding tickTable jobsOf
@@ -98,7 +98,7 @@ module _ (t : Table) (room : List ℕ) where
       go : (b : Bool) → eqb (t .refusal) 0 ≡ b
           → TickedWithin (t .count) (cond {A = Step Ticked} b (tickStep (jobsOf t) minute room) (record { answer = NotTicked (t .refusal); room = room }) .answer)
       go true e = tick-within (jobsOf t) minute room
-      go false e = omega (arith, eqb-false (t .refusal) 0 e)
+      go false e = omega (arith, eqb-false (t .refusal) 0 e, small)
 
   pub pop-told : PoppedWithin (t .count) (popTable t room .answer)
   unfolding popTable
@@ -107,7 +107,7 @@ module _ (t : Table) (room : List ℕ) where
       go : (b : Bool) → eqb (t .refusal) 0 ≡ b
           → PoppedWithin (t .count) (cond {A = Step Popped} b (popStep (t .count) room) (record { answer = NotPopped (t .refusal); room = room }) .answer)
       go true e = pop-within (t .count) room
-      go false e = omega (arith, eqb-false (t .refusal) 0 e)
+      go false e = omega (arith, eqb-false (t .refusal) 0 e, small)
 
   pub entry-told : (place : ℕ) → PoppedWithin (t .count) (entryTable t place room)
   unfolding entryTable
@@ -115,8 +115,9 @@ module _ (t : Table) (room : List ℕ) where
     where
       go : (b : Bool) → eqb (t .refusal) 0 ≡ b → PoppedWithin (t .count) (cond b (entryStep (t .count) place room) (NotPopped (t .refusal)))
       go true e = entry-within (t .count) place room
-      go false e = omega (arith, eqb-false (t .refusal) 0 e)
+      go false e = omega (arith, eqb-false (t .refusal) 0 e, small)
 
+module _ (t : Table) (room : List ℕ) where
   -- a look at the line: the front is who a request names
   pub front-stands : entryTable t 0 room ≡ popTable t room .answer
   unfolding entryTable popTable
