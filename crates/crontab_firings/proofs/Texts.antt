@@ -8,7 +8,7 @@ use native.Mathlib.Nat.{lt-of-not-le, zero-lt-suc, pow-le-pow-right}
 use native.Mathlib.Decide.{decLe}
 use native.Mathlib.Omega.{arith}
 use lib.ListN.{length, getD, take, drop, length-append, List·getD-eq-default}
-use lib.Seq.{take-append-seam}
+use lib.Seq.{take-append-seam, drop-append-seam}
 use Rattle.bytes.specs.Laid as front
 use Rattle.bytes.specs.Laid.{Wrote}
 use Rattle.bytes.proofs.Written.{written-none, written-front, wrote-next}
@@ -62,14 +62,22 @@ module _ (minutes entries before : List ℕ) where
         wrote = wrote-next (w .wrote) more;
       })
 
+  whole : {i at : ℕ} {text : List ℕ} (w : Written minutes entries i before at text) → (at ≡ length (w .so-far)) × (text ≡ w .so-far ++ drop (length (w .so-far)) before)
+  unfolding front.laid
+  whole w = (omega (arith, w .wrote .place), w .wrote .bytes ∙ written-front (w .so-far) before)
+
+  -- the bytes after them stay
+  pub written-rest : {i at : ℕ} {text : List ℕ} → Written minutes entries i before at text → drop at text ≡ drop at before
+  written-rest {i} {at} {text} w =
+      let (place, is) = whole w in
+      rw place (ap (drop (length (w .so-far))) is ∙ drop-append-seam (w .so-far) (drop (length (w .so-far)) before))
+
   -- so many bytes are just the lines
   pub written-text : {i at : ℕ} {text : List ℕ} → Written minutes entries i before at text → Lines minutes entries i (take at text)
-  unfolding front.laid
   written-text {i} {at} {text} w =
-      let whole : text ≡ w .so-far ++ drop (length (w .so-far)) before = w .wrote .bytes ∙ written-front (w .so-far) before in
-      let place : at ≡ length (w .so-far) = omega (arith, w .wrote .place) in
+      let (place, is) = whole w in
       let e : take at text ≡ w .so-far =
-      ap (λ (n : ℕ). take n text) place ∙ ap (take (length (w .so-far))) whole ∙ take-append-seam (w .so-far) (drop (length (w .so-far)) before) in
+      ap (λ (n : ℕ). take n text) place ∙ ap (take (length (w .so-far))) is ∙ take-append-seam (w .so-far) (drop (length (w .so-far)) before) in
       rw e (w .lines)
 
 -- ---- minutes of firings

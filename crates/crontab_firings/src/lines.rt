@@ -2,7 +2,7 @@
 ghost use mathlib.Core.Path.{_≡_};
 ghost use mathlib.Core.List.{List, _∷_};
 ghost use Prim.Native.Nat.{ℕ, _+_, _/_, _≤_, min};
-ghost use lib.ListN.{length, take, getD};
+ghost use lib.ListN.{length, take, drop, getD};
 ghost use Rattle.bytes.specs.Laid.{Wrote};
 ghost use Rattle.io.specs.Counts.{Counts};
 ghost use Rattle.crontab_firings.specs.Lines.{Decimal, Line, Lines, Before};
@@ -12,7 +12,7 @@ use bytes::write;
 // The room of the longest line, whatever the numbers.
 pub const LINE: usize = 42;
 
-// A number at a place; the place behind it is answered.
+// A number at a place; the place after it is answered.
 fn decimal(text: &mut [u8], at: usize, n: u64) -> usize
     requires { ⌜ at + 20 ≤ length (now text) ⌝ }
     ensures { λ r. ⌜ ((t : List ℕ) × Decimal n t × (length t ≤ 20) × Wrote at t (now (text .entry)) r (now (text .exit))) ⌝ }
@@ -26,16 +26,17 @@ fn line(text: &mut [u8], at: usize, minute: u32, entry: u16) -> usize
     requires { ⌜ at + 42 ≤ length (now text) ⌝ }
     ensures { λ r. ⌜ ((t : List ℕ) × Line minute entry t × (length t ≤ 42) × Wrote at t (now (text .entry)) r (now (text .exit))) ⌝ }
 {
-    let behind = decimal(text, at, minute as u64);
-    let next = write::byte(text, behind, b' ');
+    let space = decimal(text, at, minute as u64);
+    let next = write::byte(text, space, b' ');
     let end = decimal(text, next, entry as u64);
     write::byte(text, end, b'\n')
 }
 
-// The first n firings, or as many as there are and have room; how many bytes they take is answered.
+// The first n firings, or as many as there are and have room; how many bytes they take is answered. The bytes after them stay.
 pub fn write(minutes: &[u32], entries: &[u16], n: usize, text: &mut [u8]) -> usize
-    ensures { λ r. ⌜ Counts r (now (text .exit)) ⌝ }
-    ensures { λ r. ⌜ Lines (now (minutes .entry)) (now (entries .entry)) (min (min n (length (now (text .entry)) / 42)) (min (length (now (minutes .entry))) (length (now (entries .entry))))) (take r (now (text .exit))) ⌝ }
+    ensures counts { λ r. ⌜ Counts r (now (text .exit)) ⌝ }
+    ensures lines { λ r. ⌜ Lines (now (minutes .entry)) (now (entries .entry)) (min (min n (length (now (text .entry)) / 42)) (min (length (now (minutes .entry))) (length (now (entries .entry))))) (take r (now (text .exit))) ⌝ }
+    ensures rest { λ r. ⌜ (drop r (now (text .exit)) ≡ drop r (now (text .entry))) × (length (now (text .exit)) ≡ length (now (text .entry))) ⌝ }
 {
     let most = lesser(
         lesser(n, text.len() / LINE),

@@ -26,9 +26,9 @@ use Rattle.firings.specs.declared.Filled.the-variants.{All, More}
 use Rattle.bytes.specs.Passing.{passing, passingUpTo}
 use Rattle.firings.specs.Lists.{firingsOf, mergedOf}
 use Rattle.firings.specs.Calls.{EntryStep, MergedStep, maxPlaces, filled, fitted, minutesOf, entriesOf, refusedEntry, listedEntry, firingsFound, firingsAnswer, firingsIn, roomIn, refusedMerged, listedMerged, mergedIn}
-use Rattle.firings.specs.Rising.{Few, Fits, Kept}
+use Rattle.firings.specs.Rising.{Few, Kept}
 
-passing-short : (p : ℕ → Bool) (n a : ℕ) → length (passing p n a) ≤ n
+pub passing-short : (p : ℕ → Bool) (n a : ℕ) → length (passing p n a) ≤ n
 unfolding passing
 passing-short p zero a = omega arith
 passing-short p (suc n) a = go (p a) (passing-short p n (suc a))
@@ -144,18 +144,6 @@ module _ (rules : Rules) (s : List ℕ) (a b : ℕ) (minutes entries : List ℕ)
   pub merged-kept : Kept (mergedIn t a b minutes entries .answer) minutes (mergedIn t a b minutes entries .minutes)
       × Kept (mergedIn t a b minutes entries .answer) entries (mergedIn t a b minutes entries .entries)
   merged-kept = (merged-fine .1, merged-fine .2)
-
-  pub merged-fits : Fits (roomIn minutes entries) (mergedIn t a b minutes entries .answer)
-  unfolding mergedIn refusedMerged listedMerged filled
-  merged-fits = go (eqb (t .refusal) 0) (leb a lastMinute) (leb b lastMinute) (leb (length (mergedOf t a b)) (roomIn minutes entries)) refl
-    where
-      go : (r x y z : Bool) → leb (length (mergedOf t a b)) (roomIn minutes entries) ≡ z
-          → Fits (roomIn minutes entries) ((cond {A = MergedStep} r (cond x (cond y (record { answer = cond z (All (length (mergedOf t a b))) (More (roomIn minutes entries)); minutes = fitted (minutesOf (mergedOf t a b)) (roomIn minutes entries) minutes; entries = fitted (entriesOf (mergedOf t a b)) (roomIn minutes entries) entries }) (refusedMerged 14 minutes entries)) (refusedMerged 14 minutes entries)) (refusedMerged (t .refusal) minutes entries)) .answer)
-      go false x y z e = tt
-      go true false y z e = tt
-      go true true false z e = tt
-      go true true true true e = leb-true (length (mergedOf t a b)) (roomIn minutes entries) e
-      go true true true false e = refl
 
 -- "the shorter counts", with all its places, as long as a 32-bit number counts them
 pub merged-room : (minutes entries : List ℕ) → min (length minutes) (length entries) ≤ 4294967295

@@ -6,4 +6,6 @@ pub mod Waiting
 pub mod Keys
 pub mod Merging
 pub mod Counts
+pub mod Runs
+pub mod Pieces
 pub mod Theorems

@@ -5,7 +5,11 @@
 --   merged-rise: the list rises by minute and then entry, so each pair stands there once
 --   merged-split: a list may be made in two pieces, up to a minute and after it
 --   firings-few, merged-few: a count is a 32-bit number
---   merged-fits: a count is within the room, and is all of it where more remain
+--   merged-runs: the first numbers of both runs, as many as are answered, are the minutes and entries of the list's first firings; that is all of
+--     them, or as many as there is room for where more remain
+--   merged-lengths: the runs keep their lengths
+--   minute-few: a minute has at most as many firings as the table has entries
+--   piece-ends: where more remain, those before the last minute are just the firings up to the minute before it
 --   merged-room: the room is the shorter run, as long as a 32-bit number counts its places
 --   firings-kept, merged-kept: a refused call changes no number of a run
 -- Assumes nothing.
@@ -35,7 +39,9 @@ use Rattle.firings.specs.Keys.{firingOf, isFiring}
 use Rattle.firings.specs.Rising.{Among, Rises, Earlier, Exactly}
 use Rattle.firings.proofs.Waiting.{firing-is, firing-entry}
 use Rattle.firings.proofs.Keys.{merged-keys}
-pub use Rattle.firings.proofs.Counts.{firings-few, firings-kept, merged-few, merged-fits, merged-kept, merged-room}
+pub use Rattle.firings.proofs.Counts.{firings-few, firings-kept, merged-few, merged-kept, merged-room}
+pub use Rattle.firings.proofs.Runs.{merged-runs, merged-lengths}
+pub use Rattle.firings.proofs.Pieces.{merged-split, minute-few, PieceEnds, piece-ends, minutes-left, entries-left, minutes-right, entries-right}
 
 -- ---- numbers that pass
 
@@ -167,21 +173,6 @@ due-in t i m good h = rw (eq-eqb (t .refusal) 0 good) (go (ltb i (t .count)) ref
         → Exactly ((i < t .count) × (firesAt e m ≡ true)) (dueAnswer (cond b (Found e) (Refused 13)) m ≡ due.Yes)
     go true l = ((λ (_, w). due-yes e m h .0 w), (λ z. (ltb-true i (t .count) l, due-yes e m h .1 z)))
     go false l = ((λ (k, _). absurd (true≢false (sym (lt-ltb i (t .count) k) ∙ l))), (λ z. absurd (let y : _≡_ {A = ℕ} 0 1 = cc in omega arith)))
-
-over-append : (fires : ℕ → ℕ → Bool) (count n k m : ℕ) → mergedOver fires count (n + k) m ≡ mergedOver fires count n m ++ mergedOver fires count k (m + n)
-unfolding mergedOver
-over-append fires count zero k m = let e : zero + k ≡ k = omega arith in let f : m + zero ≡ m = omega arith in rw (e, f)
-over-append fires count (suc n) k m =
-    let e : suc n + k ≡ suc (n + k) = omega arith in
-    let f : m + suc n ≡ suc m + n = omega arith in
-    rw (e, f, over-append fires count n k (suc m)) (sym (append-assoc (atMinute m (entriesFrom fires count m 0)) (mergedOver fires count n (suc m)) (mergedOver fires count k (suc m + n))))
-
-pub merged-split : (t : Table) (a m b : ℕ) → a ≤ m → m ≤ b → mergedOf t a b ≡ mergedOf t a m ++ mergedOf t m b
-unfolding mergedOf mergedUpTo
-merged-split t a m b h k =
-    let e : b + 1 - (a + 1) ≡ (m + 1 - (a + 1)) + (b + 1 - (m + 1)) = omega arith in
-    let f : a + 1 + (m + 1 - (a + 1)) ≡ m + 1 = omega arith in
-    rw e (over-append (firesIn (t .entries)) (t .count) (m + 1 - (a + 1)) (b + 1 - (m + 1)) (a + 1) ∙ rw f)
 
 module _ (rules : Rules) (s : List ℕ) (a b : ℕ) where
   pub merged-exact : tableOf rules s .refusal ≡ 0 → (m i : ℕ) → b ≤ lastMinute

@@ -4,11 +4,14 @@ use mathlib.Core.Path.{_≡_}
 use mathlib.Core.Logic.{_⊎_}
 use mathlib.Core.List.{List, [], _∷_}
 use Prim.Native.Nat.{ℕ, _≤_, _<_}
+use lib.ListN.{length, take}
+use Rattle.calendar.specs.Dates.{lastMinute}
+use Rattle.crontab.specs.declared.table.Table.{Table}
 use Rattle.bytes.specs.Refusals.{IsRefusal}
 use Rattle.firings.specs.declared.Filled.{Filled}
 use Rattle.firings.specs.declared.Filled.the-variants.{All, More, Refused}
-use Rattle.firings.specs.Lists.{Firing}
-use Rattle.firings.specs.Calls.{maxPlaces}
+use Rattle.firings.specs.Lists.{Firing, mergedOf}
+use Rattle.firings.specs.Calls.{maxPlaces, minutesOf, entriesOf}
 
 abbrev pub Among : {A : Type 0} → A → List A → Type 0
 Among x [] = ⊥
@@ -39,8 +42,21 @@ Kept (All n) before after = Unit {0}
 Kept (More n) before after = Unit {0}
 Kept (Refused number) before after = after ≡ before
 
--- a count that is all fits; one where more remain is the room itself
-abbrev pub Fits : ℕ → Filled → Type 0
-Fits room (All n) = n ≤ room
-Fits room (More n) = n ≡ room
-Fits room (Refused number) = Unit {0}
+-- a list is given where the table is good and both minutes are on the calendar
+pub record Given (t : Table) (a b : ℕ) : Type 0 where
+  pub good : t .refusal ≡ 0
+  pub from : a ≤ lastMinute
+  pub to : b ≤ lastMinute
+
+-- the first n numbers of two runs are the minutes and the entries of the first n firings of a list
+pub record FirstOf (list : List Firing) (n : ℕ) (minutes entries : List ℕ) : Type 0 where
+  pub few : n ≤ length list
+  pub minutes-are : take n minutes ≡ take n (minutesOf list)
+  pub entries-are : take n entries ≡ take n (entriesOf list)
+
+-- What an answer says of two runs with room for so many, as the call leaves them. A count that is all is the list's; one where more remain is the
+-- room itself, and the list is longer.
+abbrev pub Runs : Table → ℕ → ℕ → ℕ → Filled → List ℕ → List ℕ → Type 0
+Runs t a b room (All n) minutes entries = Given t a b × FirstOf (mergedOf t a b) n minutes entries × (n ≡ length (mergedOf t a b)) × (n ≤ room)
+Runs t a b room (More n) minutes entries = Given t a b × FirstOf (mergedOf t a b) n minutes entries × (n < length (mergedOf t a b)) × (n ≡ room)
+Runs t a b room (Refused number) minutes entries = Unit {0}

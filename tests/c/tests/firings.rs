@@ -1,6 +1,6 @@
 //! `crontab_firings`: the whole list of a user table, against the second program, and what it refuses.
 
-use c::{all, is, make, root, scratch};
+use c::{all, compile, is, make, root, scratch, word};
 use second::calendar::{minute_of, LAST_MINUTE};
 use second::random::Random;
 use second::schedule::samples::start;
@@ -119,7 +119,8 @@ fn the_stored_output_is_the_second_program_s() {
     };
     let file = fs::read(stored.join("data").join(name)).ok();
     let text = printed(file.as_deref(), a.as_bytes(), b.as_bytes());
-    assert!(text.lines().count() > 3, "{text}");
+    // More lines than a piece has.
+    assert!(text.lines().count() > 4_096, "{text}");
     assert_eq!(read("stdout"), text);
 }
 
@@ -307,6 +308,51 @@ fn files() {
         let _ = lister.list_as(file, OsStr::new(&name), b"0", b"1");
     }
 }
+
+/// A read that fails after the first line: a table cut there would be a good one, so it must not be listed.
+#[test]
+fn a_failed_read_is_refused() {
+    let lister = Lister::new("firings-failed-read");
+    let first = "* * * * * a\n";
+    lister.write("table", first.to_string() + "*/2 * * * * b\n");
+    let source = lister.folder.join("read.c");
+    fs::write(&source, FAILING_READ).expect("the source is written");
+    let shim = lister.folder.join("read.so");
+    compile("cc", "-std=c11", &["-shared", "-fPIC", "-o", word(&shim), word(&source)]);
+    for (failing, text) in [("0", "1 0\n2 0\n2 1\n"), ("1", REFUSED_0), ("2", REFUSED_0), ("3", REFUSED_0)] {
+        let output = Command::new(&lister.program)
+            .current_dir(&lister.folder)
+            .env("LD_PRELOAD", &shim)
+            .env("FIRST_BYTES", first.len().to_string())
+            .env("FAILING_READ", failing)
+            .args(["table", "0", "2"])
+            .output()
+            .expect("the program runs");
+        assert_eq!(all(&output), is(text, "", 0), "read {failing} fails");
+    }
+}
+
+/// Reads at most `FIRST_BYTES` bytes at a time, and fails at the read of that number, counted from 1, once.
+const FAILING_READ: &str = r#"
+#define _GNU_SOURCE
+#include <dlfcn.h>
+#include <errno.h>
+#include <stdlib.h>
+#include <sys/types.h>
+
+ssize_t read(int fd, void *bytes, size_t size)
+{
+    static int number;
+    ssize_t (*real)(int, void *, size_t);
+    *(void **)&real = dlsym(RTLD_NEXT, "read");
+    size_t most = strtoul(getenv("FIRST_BYTES"), NULL, 10);
+    if (++number == atoi(getenv("FAILING_READ"))) {
+        errno = EIO;
+        return -1;
+    }
+    return real(fd, bytes, size < most ? size : most);
+}
+"#;
 
 /// A file may have as many bytes as a table; an endless one is refused, too, and not before an argument.
 #[test]

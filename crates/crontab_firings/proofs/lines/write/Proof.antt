@@ -6,7 +6,7 @@ use native.Mathlib.Omega.{arith}
 use borrow.Author.Needs.{needs}
 use lib.ListN.{length}
 use lib.Seq.{length-take-le}
-use Rattle.crontab_firings.proofs.Texts.{Written, written-start, written-more, written-text}
+use Rattle.crontab_firings.proofs.Texts.{Written, written-start, written-more, written-text, written-rest}
 use Rattle.crontab_firings.proofs.lines.write.Statement.{statement}
 use Rattle.crontab_firings.proofs.lines.write.Tie as tie
 
@@ -47,7 +47,7 @@ returns c =
     let w = l .inv .0 in
     let all : l .i ≡ c .before .before .lesser3 .result = omega (arith, l .inv .1) in
     let h : l .at ≤ length (l .text) = omega (arith, w .wrote .room, w .wrote .size, w .wrote .place) in
-    ((h, sym (length-take-le _ _ h)), rw (← most-is (c .before .before), ← all) (written-text _ _ _ w))
+    ((h, sym (length-take-le _ _ h)), (rw (← most-is (c .before .before), ← all) (written-text _ _ _ w), (written-rest _ _ _ w, w .wrote .size)))
 
 pub write-spec : {M : Type 1} → statement M
 write-spec =
