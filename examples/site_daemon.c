@@ -36,7 +36,7 @@
 /* If it wakes late, so many of the minutes that passed have requests, the last ones: no job starts more often than so. */
 enum { LATE_MOST = 15 };
 
-/* A clock that nobody sets, and that goes on while the machine is suspended. On Linux CLOCK_MONOTONIC wouldn't go on. */
+/* A clock that nobody sets. The first goes on while the machine is suspended, which on Linux the second doesn't. */
 #ifdef CLOCK_BOOTTIME
 #define STEADY CLOCK_BOOTTIME
 #else
