@@ -11,20 +11,18 @@
  * UTC.
  *
  * A real daemon has the minute from the clock, time(NULL) / 60, which is UTC. It sleeps until the clock shows another one,
- * announces that, and starts what this one only shows. What it announces is the minute that the clock shows now, wherever the
- * clock went; the queue knows what to make of it:
+ * announces that, and starts what this one only shows. If it is late, it first announces each minute that passed, in their
+ * order, and no job is missed. If somebody set the clock, it announces the minute that the clock shows after those that really
+ * passed, wherever the clock went. The queue knows what to make of it, by its mark: the minute up to which fixed jobs, those
+ * with set times of the day, have been judged.
  *
- *   - Up to 180 minutes on, slept through or jumped over: fixed jobs, those with set times of the day, are caught up, once.
- *     The others come at their next time.
+ *   - Up to 180 minutes after the mark: fixed jobs are caught up, once. The others come at their next time.
  *   - Further on, as from 1970: nothing is caught up.
- *   - Back by less than 180 minutes: fixed jobs have run, and don't run again until the clock is past where it was. The others
- *     go by the clock, and so it goes on announcing all that while.
- *   - Back by 180 minutes or more: all jobs go by the clock.
+ *   - Less than 180 minutes before the mark: fixed jobs have run, and don't run again until the clock is past the mark. The
+ *     others go by the clock, and so it goes on announcing all that while.
+ *   - 180 minutes or more before the mark: all jobs go by the clock.
  *
- * If it is only a few minutes late, it first announces each of those that it slept through, in their order, and no job is
- * missed. After a longer sleep or a jump it doesn't, or a job of every minute could run again and again for minutes long gone.
- *
- * site_daemon.c, beside this one, has that clock, and goes on with the same queue when its crontab changes.
+ * site_daemon.c, beside this one, does all that, and goes on with the same queue when its crontab changes.
  */
 
 #include <inttypes.h>

@@ -7,7 +7,13 @@
  * SIGHUP reads FILE again: who waits goes on waiting, and a table that has become bad is told, and the old one stays in
  * force. SIGTERM and SIGINT end it. The log is standard output. What is left to the site is one function, start_job.
  *
- * -c is for tests: CLOCK is a file or a pipe of minutes, one on each line, instead of the clock; at its end the daemon ends.
+ * It wakes every minute and announces every minute that passed, by a clock that nobody sets. Where the clock was set meanwhile,
+ * it announces what that shows after them: so no job with a set time of the day is lost by a step of up to 2:59 hours, at
+ * whatever moment it comes.
+ *
+ * -c is for tests: CLOCK is a file or a pipe instead of the two clocks, and at its end the daemon ends. A line has the seconds
+ * that both show, as 1794777600 5000; the daemon sleeps over those before it would wake. Or it has a minute alone, which wakes
+ * it: the clock went there by itself if that is up to 15 minutes on, and was set if not.
  */
 
 #define _POSIX_C_SOURCE 200809L
@@ -27,12 +33,20 @@
 #include "log.h"
 #include "table_file.h"
 
-/*
- * How many minutes it sleeps at most, so that it soon sees when somebody sets the clock; and how late it may wake and still
- * announce every minute that it slept through. Further off is a jump: the minute that the clock shows is announced alone,
- * and the queue's mark makes up for jobs with set times of the day.
- */
-enum { SLEEP_MOST = 5, LATE_MOST = 15 };
+/* If it wakes late, so many of the minutes that passed have requests, the last ones: no job starts more often than so. */
+enum { LATE_MOST = 15 };
+
+/* A clock that nobody sets. The first goes on while the machine is suspended, which on Linux the second doesn't. */
+#ifdef CLOCK_BOOTTIME
+#define STEADY CLOCK_BOOTTIME
+#else
+#define STEADY CLOCK_MONOTONIC
+#endif
+
+/* What the clock shows, in seconds, and what the steady one does. */
+struct moment {
+    int64_t wall, steady;
+};
 
 struct site {
     const char *name;
@@ -42,6 +56,7 @@ struct site {
     uint64_t waiting;                      /* how many stand in the queue */
     uint64_t since[EREMOTHYN_MAX_ENTRIES]; /* and since which minute, the front first */
     uint64_t minute;                       /* the last that was announced */
+    struct moment then, now;               /* when it was, and the last look at the clocks */
     int clock;                             /* -1 is the real one */
 };
 
@@ -97,47 +112,59 @@ static void start_job(const struct site *site, uint64_t entry, const uint8_t *sh
 }
 
 /* Takes the job that has waited longest; whether there was one. */
-static bool take_job(struct site *site, uint64_t minute)
+static bool take_job(struct site *site)
 {
     uint8_t shell[EREMOTHYN_MAX_LINE], input[EREMOTHYN_MAX_LINE];
     uint64_t entry = eremothyn_queue_pop(TABLE(site), site->queue, sizeof site->queue);
     if (entry == EREMOTHYN_NOTHING_WAITS || is_refused(site, "queue_pop", entry))
         return false;
-    print_date(minute);
-    printf("  line %" PRIu64 " after %" PRIu64 " min: ", eremothyn_entry_line(TABLE(site), entry), minute - site->since[0]);
+    print_date(site->minute);
+    printf("  line %" PRIu64 " after ", eremothyn_entry_line(TABLE(site), entry));
+    printf("%" PRIu64 " min: ", site->minute - site->since[0]);
     memmove(site->since, site->since + 1, --site->waiting * sizeof site->since[0]);
     uint64_t length = eremothyn_split_command(TABLE(site), entry, shell, sizeof shell, input, sizeof input);
     start_job(site, entry, shell, length, input, eremothyn_stdin_length(TABLE(site), entry));
     return true;
 }
 
-/* One minute: whoever is due joins, then whoever has waited longest is taken, as often as the pace allows. */
-static void live(struct site *site, uint64_t minute)
+/* One minute: the jobs that are called join, then those that have waited longest are taken, as many as the pace allows. */
+static void live(struct site *site, uint64_t minute, uint64_t pace)
 {
+    site->minute = minute;
     uint64_t joined = eremothyn_queue_tick(TABLE(site), site->queue, sizeof site->queue, minute);
     if (!is_refused(site, "queue_tick", joined))
         while (joined-- > 0)
             site->since[site->waiting++] = minute;
-    for (uint64_t taken = 0; taken < site->pace && take_job(site, minute); taken++)
+    for (uint64_t taken = 0; taken < pace && take_job(site); taken++)
         ;
 }
 
-/* All minutes up to the one that the clock shows; after a jump, which counts as no time waited, that one alone. */
-static void live_up_to(struct site *site, uint64_t now)
+/* The clock was set: the minute that it shows is announced alone. For the jobs that wait no time passed. */
+static void live_after_step(struct site *site, uint64_t minute)
 {
-    uint64_t first = site->minute + 1;
-    if (now == site->minute)
+    print_date(minute);
+    printf("  the clock jumped by %" PRId64 " min\n", (int64_t)(minute - site->minute));
+    for (uint64_t i = 0; i < site->waiting; i++)
+        site->since[i] += minute - site->minute;
+    live(site, minute, site->pace);
+}
+
+/*
+ * Announces each minute that really passed. Only then, if the clock was set by a minute or more, what it shows: so the queue's
+ * mark is where the clock would be, and the step alone is measured from it. By less it is no step, and no minute comes twice.
+ */
+static void live_up_to_now(struct site *site)
+{
+    int64_t unset = site->then.wall + (site->now.steady - site->then.steady), step = site->now.wall - unset;
+    bool was_set = step <= -60 || step >= 60;
+    uint64_t shown = (uint64_t)site->now.wall / 60, last = was_set ? (uint64_t)unset / 60 : shown;
+    if (!was_set && last <= site->minute)
         return;
-    if (now < first || now - site->minute > LATE_MOST) {
-        print_date(now);
-        printf("  the clock jumped by %" PRId64 " min\n", (int64_t)(now - site->minute));
-        for (uint64_t i = 0; i < site->waiting; i++)
-            site->since[i] += now - first;
-        first = now;
-    }
-    for (uint64_t minute = first; minute <= now; minute++)
-        live(site, minute);
-    site->minute = now;
+    while (site->minute < last)
+        live(site, site->minute + 1, last - site->minute <= LATE_MOST ? site->pace : 0);
+    if (was_set)
+        live_after_step(site, shown);
+    site->then = site->now;
 }
 
 static uint64_t reloaded(const struct site *site, const struct table_file *table, uint8_t *queue)
@@ -177,75 +204,82 @@ static void reload(struct site *site, struct table_file *tables)
     site->table = other;
 }
 
-/* The minute to sleep to: the next one while jobs wait, for it has its requests; else the first at which an entry fires. */
-static uint64_t wake_minute(const struct site *site)
+/* When it wakes by the steady clock: every minute, when the clock shows the next one; at once if that has come. */
+static int64_t wake_time(const struct site *site)
 {
-    uint32_t minute;
-    uint16_t entry;
-    uint64_t last = site->minute + SLEEP_MOST, b = last < EREMOTHYN_LAST_MINUTE ? last : EREMOTHYN_LAST_MINUTE;
-    if (site->waiting > 0)
-        return site->minute + 1;
-    uint64_t answer = eremothyn_merged_firings(TABLE(site), site->minute, b, &minute, 1, &entry, 1);
-    return EREMOTHYN_FILLED(answer) == 1 ? minute : last;
+    int64_t rest = 60 * ((int64_t)site->minute + 1) - site->now.wall;
+    return site->now.steady + (rest < 0 ? 0 : rest > 60 ? 60 : rest);
 }
 
-/* Reads a byte of a clock that is handed in; whether a minute's line has ended with it. */
-static bool read_minute(const struct site *site, uint64_t *minute)
+static void look(struct site *site)
 {
-    static uint64_t number;
-    char byte;
-    if (read(site->clock, &byte, 1) != 1)
+    struct timespec wall, steady;
+    clock_gettime(CLOCK_REALTIME, &wall);
+    clock_gettime(STEADY, &steady);
+    site->now = (struct moment){ wall.tv_sec, steady.tv_sec };
+}
+
+/* Reads a byte of a clock that is handed in; whether a line has ended with it that wakes the daemon. */
+static bool read_clock(struct site *site, int64_t wake)
+{
+    static char line[64];
+    static size_t length;
+    int64_t first, second;
+    if (read(site->clock, line + length, 1) != 1)
         shall_end = 1;
-    else if (byte != '\n')
-        number = 10 * number + (uint64_t)(byte - '0');
-    else {
-        *minute = number;
-        number = 0;
-        return true;
+    if (shall_end || line[length] != '\n') {
+        length += length < sizeof line - 1;
+        return false;
     }
-    return false;
+    line[length] = '\0';
+    length = 0;
+    if (sscanf(line, "%" SCNd64 "%" SCNd64, &first, &second) == 2) {
+        site->now = (struct moment){ first, second };
+        return second >= wake;
+    }
+    int64_t by = 60 * first - site->now.wall;
+    site->now.wall += by;
+    site->now.steady += by >= 0 && by <= 60 * LATE_MOST ? by : 0;
+    return true;
 }
 
-/* Sleeps to a minute or a signal, which is let in here alone, and answers what minute the clock shows then. */
-static uint64_t sleep_until(const struct site *site, uint64_t wake, const sigset_t *let_in)
+/* Sleeps to a time of the steady clock or a signal, which is let in here alone, and looks at the clocks. */
+static void sleep_until(struct site *site, int64_t wake, const sigset_t *let_in)
 {
-    uint64_t minute;
     fd_set files;
     if (site->clock < 0) {
-        time_t now = time(NULL), then = (time_t)(60 * wake);
-        struct timespec rest = { then > now ? then - now : 0, 0 };
+        look(site);
+        struct timespec rest = { wake > site->now.steady ? (time_t)(wake - site->now.steady) : 0, 0 };
         pselect(0, NULL, NULL, NULL, &rest, let_in);
-        return (uint64_t)time(NULL) / 60;
+        look(site);
     }
-    while (!shall_end) {
+    while (site->clock >= 0 && !shall_end) {
         FD_ZERO(&files);
         FD_SET(site->clock, &files);
-        if (pselect(site->clock + 1, &files, NULL, NULL, NULL, let_in) < 0)
+        if (pselect(site->clock + 1, &files, NULL, NULL, NULL, let_in) < 0 || read_clock(site, wake))
             break;
-        /* What the clock shows while it sleeps is passed over, but not that it was set back. */
-        if (read_minute(site, &minute) && (minute >= wake || minute < site->minute))
-            return minute;
     }
-    return site->minute;
 }
 
 /* The loop, from the first minute, with the @reboot jobs, to the signal that ends it. */
 static void run(struct site *site, struct table_file *tables, const sigset_t *let_in)
 {
-    site->minute = sleep_until(site, 0, let_in);
+    sleep_until(site, 0, let_in);
+    site->then = site->now;
+    site->minute = (uint64_t)site->now.wall / 60;
     site->waiting = eremothyn_queue_init(TABLE(site), site->queue, sizeof site->queue);
     for (uint64_t i = 0; i < site->waiting; i++)
         site->since[i] = site->minute;
     print_date(site->minute);
     printf("  start: %" PRIu64 " wait\n", site->waiting);
-    live(site, site->minute);
+    live(site, site->minute, site->pace);
     while (!shall_end) {
-        uint64_t now = sleep_until(site, wake_minute(site), let_in);
+        sleep_until(site, wake_time(site), let_in);
         if (shall_reload)
             reload(site, tables);
         shall_reload = 0;
         if (!shall_end)
-            live_up_to(site, now);
+            live_up_to_now(site);
     }
     print_date(site->minute);
     printf("  end: %" PRIu64 " wait", site->waiting);

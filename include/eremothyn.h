@@ -256,8 +256,7 @@ uint64_t eremothyn_firings(const uint8_t *table, uint64_t table_length, uint64_t
  * to the front of one run, and the numbers of the entries to the same places of the other. If the two differ in length, the
  * shorter counts. All else is as in eremothyn_firings. @reboot entries never appear.
  *
- * How long may a daemon sleep? With one place the call says which entry fires first after a, and when. If a was announced, and
- * no minute after a before it, nothing has to be announced before that minute. Where nothing fires up to b, the answer is 0.
+ * With one place the call says which entry fires first after a, and when. Where nothing fires up to b, the answer is 0.
  *
  *     uint32_t minute;
  *     uint16_t entry;
@@ -265,6 +264,10 @@ uint64_t eremothyn_firings(const uint8_t *table, uint64_t table_length, uint64_t
  *                                                EREMOTHYN_LAST_MINUTE, &minute, 1, &entry, 1);
  *     if (!EREMOTHYN_IS_REFUSED(answer) && EREMOTHYN_FILLED(answer) == 1)
  *         printf("%lu minutes\n", (unsigned long)(minute - now));
+ *
+ * How long may a daemon sleep? Waking once a minute costs nothing, and by announcing every minute it keeps the mark of its
+ * queue (see below) where its clock is. If now was announced, it may also sleep up to that firing. Then it must announce the
+ * minute of the firing itself, even if it wakes late: a later one may be more than 180 above the mark, and the job is missed.
  *
  * For a whole list, lend at least one place more than the table has entries; EREMOTHYN_MAX_ENTRIES + 1 will do for any. Where
  * more remain, the last minute that was filled in may lack some of its entries: leave its places out, and call again with the
@@ -414,8 +417,13 @@ uint64_t eremothyn_record_fault(const uint8_t *records, uint64_t records_length)
  *
  * The mark is the minute up to which fixed entries have been judged; a fresh queue has none. An entry is fixed if neither its
  * minute nor its hour field begins with a star: it has its set times of the day. @daily is fixed, @hourly and @reboot aren't.
- * By the mark a fixed entry isn't missed where the clock jumps forward by up to three hours, nor doubled where it falls back by
- * less. All other entries go by the minute that is announced, and by nothing else.
+ * By the mark a fixed entry isn't missed where the next minute that is announced is up to 180 above the mark, nor doubled where
+ * it is less than 180 below. All other entries go by the minute that is announced, and by nothing else.
+ *
+ * The minutes are counted from the mark, and not from where the clock was when somebody set it: a daemon that last announced
+ * five minutes ago misses jobs by a step of 2:56 hours. Announce every minute. After a step, first announce the minutes that
+ * really passed, by a clock that nobody sets, and then the minute that the clock shows: then no fixed entry is missed by a step
+ * of up to 180 minutes. examples/site_daemon.c does so.
  */
 #define EREMOTHYN_ROOM(entries) (8 * (entries) + 64)
 

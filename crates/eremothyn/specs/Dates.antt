@@ -8,6 +8,7 @@ use lib.ListN.{length}
 use Rattle.bytes.specs.Laid.{laid}
 use Rattle.calendar.specs.declared.Date.{Date}
 use Rattle.calendar.specs.Dates.{dateOf, minuteOf}
+use Rattle.command.specs.Refusals.{tooShort}
 use Rattle.eremothyn.specs.declared.dates.DatePart.{DatePart}
 use Rattle.eremothyn.specs.declared.dates.DatePart.the-variants.{Year, Month, Day, Hour, Minute, Weekday}
 use Rattle.eremothyn.specs.Answer.{answerOf}
@@ -37,7 +38,7 @@ partsOf d = d .year ∷ d .month ∷ d .day ∷ d .hour ∷ d .minute ∷ d .wee
 
 -- 14 comes before 18, which a run gets that is shorter than six
 unfoldable pub dateRefusal : ℕ → List ℕ → ℕ
-dateRefusal minute run = let refusal = dateOf minute .refusal in cond (eqb refusal 0) (cond (leb 6 (length run)) 0 18) refusal
+dateRefusal minute run = let refusal = dateOf minute .refusal in cond (eqb refusal 0) (cond (leb 6 (length run)) 0 tooShort) refusal
 
 -- how many numbers were put
 unfoldable pub dateAnswer : ℕ → List ℕ → ℕ

@@ -9,7 +9,7 @@ use Rattle.schedule.specs.declared.jump.Mark.{Mark}
 use Rattle.schedule.specs.Jumps.{isMark}
 
 pub record Line : Type 0 where
-  -- the minute that was announced last, as ticket 2026-10 has it, or none
+  -- the minute up to which fixed entries have been judged (ticket 2026-10), or none
   pub mark : Mark
   pub waiting : List ℕ
 

@@ -1,18 +1,19 @@
-// When the clock jumps (ticket 2026-10): a mark is the minute that was announced last, and an announced minute is judged beside it.
+// When the clock jumps (ticket 2026-10): a mark is the minute up to which fixed entries have been judged, and an announced minute is judged beside it.
+// It is the minute that was announced last, unless the clock fell back by less than 180 minutes: then the mark stays.
 ghost use mathlib.Core.Path.{_≡_};
 ghost use Rattle.schedule.specs.Jumps.{caseOf, markAfter};
 
-// The mark of a line.
+// The mark of a queue.
 pub enum Mark {
-    // No minute was announced yet.
+    // No minute has been announced.
     None,
-    // This one.
+    // This minute.
     At(u64),
 }
 
 // What an announced minute is, beside the mark.
 pub enum Case {
-    // There is no mark, or the clock jumped too far: all entries are judged by the minute.
+    // There is no mark, or it is too far away: all entries are judged by the minute.
     Anew,
     // It is at most 180 after this mark: fixed entries catch up.
     After(u64),
@@ -20,7 +21,7 @@ pub enum Case {
     Held,
 }
 
-// A clock that jumps further than so many minutes starts anew.
+// A minute that is further above the mark than so many minutes, or as far below it, starts anew.
 const REACH: u64 = 180;
 
 // The case of a minute.

@@ -1,9 +1,7 @@
-//! What the documents and the manual show is what the commands print, and what PROMISES.md names is there.
+//! What the documents and the manual show is what the commands print.
 
 use c::{make, root, run, scratch, told, word};
-use std::collections::HashSet;
 use std::fs;
-use std::path::Path;
 
 /// The indented blocks of a document, without their indentation. Blank lines within one are of it.
 fn blocks(document: &str) -> Vec<String> {
@@ -228,56 +226,4 @@ fn the_page_of_records_shows_what_is_written() {
     assert_eq!(script(&same), (String::new(), Some(0)));
     let back = format!("eremothyn decompile {folder}/records");
     assert_eq!(script(&back), (text.to_string(), Some(0)));
-}
-
-/// Every word of the code, the definitions and the proofs in a folder, and the names of the edits.
-fn words(folder: &Path, found: &mut HashSet<String>) {
-    for entry in fs::read_dir(folder).expect("a folder") {
-        let path = entry.expect("an entry").path();
-        let kind = path.extension().unwrap_or_default();
-        if path.is_dir() {
-            words(&path, found);
-        } else if kind == "edit" {
-            let name = path.file_stem().unwrap_or_default();
-            found.insert(name.to_string_lossy().into_owned());
-        } else if kind == "rt" || kind == "antt" || kind == "rs" {
-            let text = fs::read_to_string(&path).expect("a text");
-            let is_word = |letter: char| letter.is_alphanumeric() || "_-'".contains(letter);
-            found.extend(text.split(|letter| !is_word(letter)).map(str::to_string));
-        }
-    }
-}
-
-/// Where a name with a slash in it should be: a definition's or a law's file, or an edit's.
-fn is_file(name: &str) -> bool {
-    let crates = root().join("crates").join(name);
-    crates.with_extension("antt").is_file() || crates.with_extension("edit").is_file()
-}
-
-/// What stands between backticks: a word is a name in the crates or a test, `NAME/specs/FILE` and the like are files.
-#[test]
-fn promises_names_what_is_there() {
-    let mut known = HashSet::new();
-    words(&root().join("crates"), &mut known);
-    words(&root().join("tests/compare"), &mut known);
-    let promises = fs::read_to_string(root().join("docs/PROMISES.md")).expect("the promises");
-    let quoted = promises.split('`').skip(1).step_by(2);
-    let is_name = |name: &&str| {
-        name.chars()
-            .all(|letter| letter.is_ascii_alphanumeric() || "_-/".contains(letter))
-    };
-    let mut names = 0;
-    for name in quoted
-        .filter(is_name)
-        .filter(|name| name.starts_with(|first: char| first.is_ascii_alphabetic()))
-    {
-        let folders = ["/specs/", "/proofs/", "/must-fail/"];
-        match folders.iter().any(|folder| name.contains(folder)) {
-            true => assert!(is_file(name), "no file {name}"),
-            false if name.contains('/') => continue,
-            false => assert!(known.contains(name), "no {name}"),
-        }
-        names += 1;
-    }
-    assert!(names > 300, "only {names} names were found");
 }

@@ -1,7 +1,7 @@
-//! Clocks from a file: every minute, sleep, waking late, and jumps each way.
+//! Clocks from a file: every minute, waking late, and jumps each way.
 
-use crate::log::Daemon;
-use crate::{clock_lines, write, Site};
+use crate::log::{Daemon, Shown};
+use crate::{log_of, write, Site};
 use c::{complaint, root, run, told, word};
 use second::calendar::{minute_of, LAST_MINUTE};
 use second::random::Random;
@@ -13,23 +13,23 @@ fn evening() -> u64 {
 }
 
 /// Runs the daemon over a clock, and compares its log.
-fn compare(site: &Site, table: &[u8], rules: Rules, pace: u64, minutes: &[u64]) {
-    let clock = site.path("clock");
-    write(&clock, &clock_lines(minutes));
+fn compare(site: &Site, table: &[u8], rules: Rules, pace: u64, clock: &[Shown]) {
     let (file, pace_word) = (site.table(table), pace.to_string());
-    let mut arguments = vec!["-c", word(&clock), "-j", &pace_word];
-    arguments.extend((rules.kind == Kind::System).then_some("-s"));
-    arguments.extend((rules.dialect == Dialect::Wrapping).then_some("-w"));
-    arguments.push(&file);
-    let output = run(&site.program, &arguments);
-    let (text, status) = told(&output);
-    assert_eq!((status, complaint(&output)), (Some(0), String::new()));
-    let mut daemon = Daemon::start(read(table, rules).expect("good"), pace, minutes[0]);
-    for &minute in &minutes[1..] {
-        daemon.shown(minute);
+    let mut options = vec!["-j", &pace_word];
+    options.extend((rules.kind == Kind::System).then_some("-s"));
+    options.extend((rules.dialect == Dialect::Wrapping).then_some("-w"));
+    let text = log_of(site, &options, &file, clock);
+    let mut daemon = Daemon::start(read(table, rules).expect("good"), pace, clock[0]);
+    for &shown in &clock[1..] {
+        daemon.shown(shown);
     }
     let shown = table.escape_ascii();
     assert_eq!(text.lines().collect::<Vec<&str>>(), daemon.end(), "{shown}");
+}
+
+/// Minutes alone.
+fn minutes(minutes: impl IntoIterator<Item = u64>) -> Vec<Shown> {
+    minutes.into_iter().map(Shown::Minute).collect()
 }
 
 const TABLE: &[u8] =
@@ -37,9 +37,9 @@ const TABLE: &[u8] =
 const RARE: &[u8] = b"# rare\n30 21 * * * fixed\n12,13,50 * * * * some\n@reboot boot\n";
 
 #[test]
-fn every_minute_and_sleep() {
+fn every_minute() {
     let site = Site::new("site-minutes");
-    let minutes: Vec<u64> = (evening()..evening() + 100).collect();
+    let minutes = minutes(evening()..evening() + 100);
     for table in [TABLE, RARE, b"", b"A=b\n", b"0 0 30 2 * never\n"] {
         for pace in [1, 2, 600] {
             compare(&site, table, Kind::User.into(), pace, &minutes);
@@ -65,39 +65,35 @@ fn waking_late_and_jumps() {
         &[0, 0, 0, 1, 1, 5, 5],
     ];
     for row in rows {
-        let minutes: Vec<u64> = row.iter().map(|minute| evening() + minute).collect();
+        let clock = minutes(row.iter().map(|minute| evening() + minute));
         for table in [TABLE, RARE] {
             for pace in [1, 3] {
-                compare(&site, table, Kind::User.into(), pace, &minutes);
+                compare(&site, table, Kind::User.into(), pace, &clock);
             }
         }
     }
     let woken = [0, 1, 2, 3, evening(), evening() + 1, evening() + 2, 7, 8];
-    compare(&site, TABLE, Kind::User.into(), 1, &woken);
+    compare(&site, TABLE, Kind::User.into(), 1, &minutes(woken));
 }
 
 /// A clock off the calendar is told, and once it is right again all goes on.
 #[test]
 fn the_end_of_the_calendar() {
     let site = Site::new("site-calendar");
-    let minutes = [LAST_MINUTE - 1, LAST_MINUTE, LAST_MINUTE + 1, 1 << 40, 7];
-    let clock = site.path("clock");
-    write(&clock, &clock_lines(&minutes));
-    let file = site.table("* * * * * a\n");
-    let (text, status) = told(&run(&site.program, &["-c", word(&clock), &file]));
-    assert_eq!(status, Some(0));
+    let clock = minutes([LAST_MINUTE - 1, LAST_MINUTE, LAST_MINUTE + 1, 1 << 40, 7]);
+    let text = log_of(&site, &[], &site.table("* * * * * a\n"), &clock);
     let refused =
         "queue_tick: refused 14: no such minute or date from 1970-01-01 00:00 to 9999-12-31 23:59";
     let lines = [
         "9999-12-31 Fri 23:58  start: 0 wait".to_string(),
         "9999-12-31 Fri 23:58  line 1 after 0 min: |a|".to_string(),
         "9999-12-31 Fri 23:59  line 1 after 0 min: |a|".to_string(),
-        // It slept past the first minute behind the end. A refusal is told with the last minute that was announced.
+        format!("off the calendar  {refused}"),
         format!(
             "off the calendar  the clock jumped by {} min",
-            (1 << 40) - LAST_MINUTE
+            (1 << 40) - LAST_MINUTE - 1
         ),
-        format!("9999-12-31 Fri 23:59  {refused}"),
+        format!("off the calendar  {refused}"),
         format!(
             "1970-01-01 Thu 00:07  the clock jumped by {} min",
             7 - (1i64 << 40)
@@ -112,7 +108,7 @@ fn the_end_of_the_calendar() {
 #[test]
 fn the_examples_tables() {
     let site = Site::new("site-examples");
-    let minutes: Vec<u64> = (evening()..evening() + 60).collect();
+    let minutes = minutes(evening()..evening() + 60);
     for (name, rules) in [
         ("observatory", Rules::of(Kind::User, Dialect::Rising)),
         ("system", Rules::of(Kind::System, Dialect::Rising)),
@@ -125,14 +121,14 @@ fn the_examples_tables() {
     }
 }
 
-/// Any clock at all.
+/// Any clock at all, by minutes.
 #[test]
-fn random_clocks() {
+fn random_minutes() {
     let site = Site::new("site-random");
     let mut random = Random::seeded();
     for _ in 0..60 {
         let mut minute = evening() + random.below(1_440);
-        let mut minutes = vec![minute];
+        let mut clock = vec![Shown::Minute(minute)];
         for _ in 0..80 {
             let far = random.pick(&[1, 1, 1, 2, 4, 5, 6, 14, 15, 16, 120, 180, 181, 2_000]);
             minute = match random.below(6) {
@@ -140,16 +136,36 @@ fn random_clocks() {
                 1 => minute,
                 _ => minute + far,
             };
-            minutes.push(minute);
+            clock.push(Shown::Minute(minute));
         }
-        let table = random.pick(&[TABLE, RARE]);
-        compare(
-            &site,
-            table,
-            Kind::User.into(),
-            1 + random.below(3),
-            &minutes,
-        );
+        let (table, pace) = (random.pick(&[TABLE, RARE]), 1 + random.below(3));
+        compare(&site, table, Kind::User.into(), pace, &clock);
+    }
+}
+
+/// Any two clocks: the steady one goes on by some seconds, and the other with it, or it is set.
+#[test]
+fn random_seconds() {
+    let site = Site::new("site-seconds");
+    let mut random = Random::seeded();
+    for _ in 0..60 {
+        let (mut wall, mut steady) = (60 * evening() + random.below(86_400), random.below(9_999));
+        let mut clock = vec![Shown::Seconds(wall, steady)];
+        for _ in 0..200 {
+            let passed = random.pick(&[0, 1, 7, 29, 30, 31, 59, 60, 61, 200, 899, 960, 12_345]);
+            let far = random.pick(&[
+                1, 10, 59, 60, 61, 119, 3_600, 10_740, 10_800, 10_860, 99_999,
+            ]);
+            (wall, steady) = (wall + passed, steady + passed);
+            wall = match random.below(12) {
+                0 => wall - far,
+                1 => wall + far,
+                _ => wall,
+            };
+            clock.push(Shown::Seconds(wall, steady));
+        }
+        let (table, pace) = (random.pick(&[TABLE, RARE]), 1 + random.below(3));
+        compare(&site, table, Kind::User.into(), pace, &clock);
     }
 }
 

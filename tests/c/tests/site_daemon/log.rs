@@ -5,8 +5,7 @@ use second::command::split;
 use second::queue::Queue;
 use second::table::Table;
 
-/// As `site_daemon.c` has them.
-const SLEEP_MOST: u64 = 5;
+/// As `site_daemon.c` has it.
 const LATE_MOST: u64 = 15;
 
 const WEEKDAYS: [&str; 7] = ["Sun", "Mon", "Tue", "Wed", "Thu", "Fri", "Sat"];
@@ -17,19 +16,62 @@ pub fn date(minute: u64) -> String {
     format!("{year:04}-{month:02}-{day:02} {weekday} {hour:02}:{minute:02}")
 }
 
-/// A daemon's state: who waits, each with the minute since which it does, and the last minute that was announced.
+/// A line of a clock that is handed in: a minute alone, or the seconds of the clock and of the steady one.
+#[derive(Clone, Copy)]
+pub enum Shown {
+    Minute(u64),
+    Seconds(u64, u64),
+}
+
+impl Shown {
+    pub fn line(self) -> String {
+        match self {
+            Shown::Minute(minute) => format!("{minute}\n"),
+            Shown::Seconds(wall, steady) => format!("{wall} {steady}\n"),
+        }
+    }
+
+    /// What both clocks show. A minute alone: the clock went there by itself, or was set at once.
+    fn after(self, now: Clocks) -> Clocks {
+        match self {
+            Shown::Seconds(wall, steady) => Clocks { wall, steady },
+            Shown::Minute(minute) => {
+                let by = (60 * minute).checked_sub(now.wall);
+                let passed = by.filter(|&by| by <= 60 * LATE_MOST);
+                Clocks {
+                    wall: 60 * minute,
+                    steady: now.steady + passed.unwrap_or(0),
+                }
+            }
+        }
+    }
+}
+
+#[derive(Clone, Copy, Default)]
+struct Clocks {
+    wall: u64,
+    steady: u64,
+}
+
+/// A daemon's state: who waits, each with the minute since which it does; the last minute that was announced, and what the
+/// clocks showed then; when it wakes, by the steady clock, and what they showed at last.
 pub struct Daemon<'a> {
     table: Table<'a>,
     queue: Queue,
     since: Vec<u64>,
     minute: u64,
+    then: Clocks,
+    now: Clocks,
+    wake: u64,
     pace: u64,
     pub lines: Vec<String>,
 }
 
 impl<'a> Daemon<'a> {
-    pub fn start(table: Table<'a>, pace: u64, minute: u64) -> Daemon<'a> {
+    pub fn start(table: Table<'a>, pace: u64, first: Shown) -> Daemon<'a> {
         let queue = Queue::fresh(&table);
+        let now = first.after(Clocks::default());
+        let minute = now.wall / 60;
         let since = vec![minute; queue.waiting.len()];
         let lines = vec![format!("{}  start: {} wait", date(minute), since.len())];
         let mut daemon = Daemon {
@@ -37,37 +79,59 @@ impl<'a> Daemon<'a> {
             queue,
             since,
             minute,
+            then: now,
+            now,
+            wake: 0,
             pace,
             lines,
         };
-        daemon.live(minute);
+        daemon.live(minute, pace);
+        daemon.sleep();
         daemon
     }
 
-    /// The clock shows a minute.
-    pub fn shown(&mut self, now: u64) {
-        let asleep = self.minute <= now && now < self.wake();
-        if asleep || now == self.minute {
-            return;
+    /// The clocks show something. Before it wakes, the daemon doesn't look.
+    pub fn shown(&mut self, shown: Shown) {
+        self.now = shown.after(self.now);
+        if matches!(shown, Shown::Minute(_)) || self.now.steady >= self.wake {
+            self.look();
+            self.sleep();
         }
-        if now < self.minute || now > self.minute + LATE_MOST {
-            let by = now as i64 - self.minute as i64;
-            self.lines
-                .push(format!("{}  the clock jumped by {by} min", date(now)));
-            // Who has waited n minutes has waited n and one more.
-            let waited = |since: &u64| self.minute + 1 - since;
-            self.since = self
-                .since
-                .iter()
-                .map(|since| now.wrapping_sub(waited(since)))
-                .collect();
-            self.live(now);
-        } else {
-            for minute in self.minute + 1..=now {
-                self.live(minute);
-            }
+    }
+
+    fn look(&mut self) {
+        let Clocks { wall, steady } = self.now;
+        // What the clock would show if nobody had set it.
+        let unset = self.then.wall + steady - self.then.steady;
+        let was_set = wall.abs_diff(unset) >= 60;
+        let passed = if was_set { unset } else { wall } / 60;
+        let announced = self.minute;
+        for minute in announced + 1..=passed {
+            let is_late = passed - minute >= LATE_MOST;
+            self.live(minute, if is_late { 0 } else { self.pace });
         }
-        self.minute = now;
+        if was_set {
+            self.jump(wall / 60);
+        }
+        if was_set || passed > announced {
+            self.then = self.now;
+        }
+    }
+
+    /// Who has waited for some minutes has waited for as many after the jump.
+    fn jump(&mut self, to: u64) {
+        let by = to as i64 - self.minute as i64;
+        self.lines
+            .push(format!("{}  the clock jumped by {by} min", date(to)));
+        let waited = |since: &u64| to.wrapping_sub(self.minute.wrapping_sub(*since));
+        self.since = self.since.iter().map(waited).collect();
+        self.live(to, self.pace);
+    }
+
+    /// It sleeps until the clock would show another minute.
+    fn sleep(&mut self) {
+        let next = 60 * (self.minute + 1);
+        self.wake = self.now.steady + next.saturating_sub(self.now.wall).min(60);
     }
 
     /// Goes on with a new table. Who stays is found out for each by itself.
@@ -107,24 +171,11 @@ impl<'a> Daemon<'a> {
         self.lines
     }
 
-    fn wake(&self) -> u64 {
-        let last = self.minute + SLEEP_MOST;
-        let fires = |minute: &u64| {
-            self.table
-                .entries
-                .iter()
-                .any(|entry| entry.matches(*minute))
-        };
-        match self.queue.waiting.is_empty() {
-            true => (self.minute + 1..last).find(fires).unwrap_or(last),
-            false => self.minute + 1,
-        }
-    }
-
-    fn live(&mut self, minute: u64) {
+    fn live(&mut self, minute: u64, requests: u64) {
+        self.minute = minute;
         let joined = self.queue.tick(&self.table, minute).expect("a line");
         self.since.extend((0..joined).map(|_| minute));
-        for _ in 0..self.pace {
+        for _ in 0..requests {
             let Some(entry) = self.queue.pop(&self.table).expect("a line") else {
                 return;
             };

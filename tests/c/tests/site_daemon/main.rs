@@ -3,8 +3,10 @@
 mod clocks;
 mod log;
 mod signals;
+mod steps;
 
-use c::{build, scratch, word};
+use c::{build, complaint, run, scratch, told, word};
+use log::Shown;
 use std::path::{Path, PathBuf};
 
 /// The program and a crontab, in a folder of the test's own.
@@ -32,9 +34,18 @@ impl Site {
     }
 }
 
-/// Minutes as the clock's lines.
-fn clock_lines(minutes: &[u64]) -> String {
-    minutes.iter().map(|minute| format!("{minute}\n")).collect()
+/// Runs the daemon over a clock, and answers its log.
+fn log_of(site: &Site, options: &[&str], table: &str, clock: &[Shown]) -> String {
+    let file = site.path("clock");
+    let lines: String = clock.iter().map(|shown| shown.line()).collect();
+    write(&file, &lines);
+    let output = run(
+        &site.program,
+        &[&["-c", word(&file)], options, &[table]].concat(),
+    );
+    let (text, status) = told(&output);
+    assert_eq!((status, complaint(&output)), (Some(0), String::new()));
+    text
 }
 
 fn write(path: &Path, text: &str) {

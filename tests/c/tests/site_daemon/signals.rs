@@ -1,6 +1,6 @@
 //! A clock by a pipe, and signals while the daemon sleeps: reloads with jobs that wait, a bad table, a clean end.
 
-use crate::log::{date, Daemon};
+use crate::log::{date, Daemon, Shown};
 use crate::Site;
 use c::{root, run, word};
 use second::calendar::minute_of;
@@ -56,11 +56,15 @@ impl Running {
 
     /// The clock shows a minute, and the log says so much.
     fn minute(&mut self, minute: u64, lines: &[&str]) {
+        self.clock(Shown::Minute(minute));
+        self.says(minute, lines);
+    }
+
+    fn clock(&mut self, shown: Shown) {
         let clock = self.clock.as_mut().expect("a clock");
         clock
-            .write_all(format!("{minute}\n").as_bytes())
+            .write_all(shown.line().as_bytes())
             .expect("the clock is read");
-        self.says(minute, lines);
     }
 
     /// The next lines of the log. All but those that begin with a blank have the minute's date in front.
@@ -232,16 +236,22 @@ fn the_night_of_the_page() {
         .map(|name| fs::read(root().join(format!("examples/{name}.crontab"))).expect("a table"));
     let [old, new] = [&before, &after].map(|table| read(table, Kind::User).expect("good"));
     let mut daemon = Running::start(&site, &[], &site.table(&before));
-    let mut model = Daemon::start(old, 1, evening() + 19);
-    daemon.minute(evening() + 19, &[]);
+    // From 21:25 on, minute by minute: for two of them the clock is two hours ahead.
+    let ahead = [0, 0, 0, 120, 120, 0, 0];
+    let clock = (0..).zip(ahead).map(|(minute, ahead)| {
+        let wall = evening() + 25 + minute + ahead;
+        Shown::Seconds(60 * wall, 60 * minute)
+    });
+    let clock: Vec<Shown> = clock.collect();
+    let mut model = Daemon::start(old, 1, clock[0]);
+    daemon.clock(clock[0]);
     daemon.shows(&model.lines);
-    let minutes = [20, 140, 141, 142, 30, 31];
-    for minute in minutes.map(|minute| evening() + minute) {
-        let shown = model.lines.len();
-        model.shown(minute);
-        daemon.minute(minute, &[]);
-        daemon.shows(&model.lines[shown..]);
-        if minute == evening() + 140 {
+    for (minute, &shown) in (0..).zip(&clock).skip(1) {
+        let before = model.lines.len();
+        model.shown(shown);
+        daemon.clock(shown);
+        daemon.shows(&model.lines[before..]);
+        if minute == 3 {
             site.table(&after);
             daemon.signal("-HUP");
             model.reload(new.clone());
