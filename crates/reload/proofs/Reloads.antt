@@ -21,39 +21,36 @@ use Rattle.crontab.proofs.Theorems.{table-sound}
 use Rattle.fifo.specs.WaitingLine.{standsIn, entriesOf}
 use Rattle.fifo.proofs.Theorems.{entries-cons, entries-length, take-next}
 use Rattle.fifo.proofs.WaitingLines.{stands-append, entries-snoc}
-use Rattle.reload.specs.Targets.{sameIn, targetIn, joined, reloadedFrom, reloaded}
+use Rattle.reload.specs.Targets.{sameIn, targetIn, joins, joined, reloadedFrom, reloaded}
 use Rattle.reload.proofs.Targets.{target-there, target-same, target-self}
 
 -- ---- one entry more
 
 module _ (n : ℕ) (queue : List ℕ) (j : ℕ) where
-  abbrev joins : Bool
-  joins = ltb j n && not (standsIn j queue)
-
-  joined-out : joins ≡ false → joined n queue j ≡ queue
+  joined-out : joins n queue j ≡ false → joined n queue j ≡ queue
   unfolding joined
   joined-out e = rw e
 
-  joined-in : joins ≡ true → joined n queue j ≡ queue ++ j ∷ []
+  joined-in : joins n queue j ≡ true → joined n queue j ≡ queue ++ j ∷ []
   unfolding joined
   joined-in e = rw e
 
   -- an entry joins that isn't queued
-  joins-is : joins ≡ true → (j < n) × (standsIn j queue ≡ false)
+  joins-is : joins n queue j ≡ true → (j < n) × (standsIn j queue ≡ false)
   joins-is e = let t = and-eq-true-iff (ltb j n) (not (standsIn j queue)) .0 e in (ltb-true j n (t .0), not-true (standsIn j queue) (t .1))
 
   joined-entries : entriesOf n queue ≡ true → entriesOf n (joined n queue j) ≡ true
-  joined-entries g = go joins refl
+  joined-entries g = go (joins n queue j) refl
     where
-      go : (b : Bool) → joins ≡ b → entriesOf n (joined n queue j) ≡ true
+      go : (b : Bool) → joins n queue j ≡ b → entriesOf n (joined n queue j) ≡ true
       go false e = rw (joined-out e) g
       go true e = rw (joined-in e) (entries-snoc n queue j g (joins-is e .0) (joins-is e .1))
 
   -- the queue and more after it
   joined-front : (rest : List ℕ) × (joined n queue j ≡ queue ++ rest)
-  joined-front = go joins refl
+  joined-front = go (joins n queue j) refl
     where
-      go : (b : Bool) → joins ≡ b → (rest : List ℕ) × (joined n queue j ≡ queue ++ rest)
+      go : (b : Bool) → joins n queue j ≡ b → (rest : List ℕ) × (joined n queue j ≡ queue ++ rest)
       go false e = ([], joined-out e ∙ sym (append-nil queue))
       go true e = (j ∷ [], joined-in e)
 
@@ -69,14 +66,14 @@ module _ (n : ℕ) (queue : List ℕ) (j : ℕ) where
   -- and no other than before
   joined-from : (x : ℕ) → standsIn x (joined n queue j) ≡ true → (standsIn x queue ≡ true) ⊎ ((j ≡ x) × (j < n))
   unfolding standsIn
-  joined-from x = go joins refl
+  joined-from x = go (joins n queue j) refl
     where
       pick : (a b : Bool) → standsIn x queue ≡ a → eqb j x ≡ b → (a || (b || false)) ≡ true → j < n → (standsIn x queue ≡ true) ⊎ ((j ≡ x) × (j < n))
       pick true b p q t h = inl p
       pick false true p q t h = inr (eqb-true j x q, h)
       pick false false p q t h = absurd (true≢false (sym t))
 
-      go : (b : Bool) → joins ≡ b → standsIn x (joined n queue j) ≡ true → (standsIn x queue ≡ true) ⊎ ((j ≡ x) × (j < n))
+      go : (b : Bool) → joins n queue j ≡ b → standsIn x (joined n queue j) ≡ true → (standsIn x queue ≡ true) ⊎ ((j ≡ x) × (j < n))
       go false e t = inl (rw (joined-out e) at t)
       go true e t = pick (standsIn x queue) (eqb j x) refl refl (sym (stands-append x queue (j ∷ [])) ∙ rw (joined-in e) at t) (joins-is e .0)
 
@@ -214,7 +211,7 @@ module _ (rules : Rules) (old new l : List ℕ) where
     before = reloaded rules old new (take place l)
 
     -- the test, as code makes it
-    test : {c : Bool} → (ltb t n && not b) ≡ c → (ltb (targetIn rules old new e) (tableOf rules new .count) && not (standsIn (targetIn rules old new e) before)) ≡ c
+    test : {c : Bool} → (ltb t n && not b) ≡ c → joins (tableOf rules new .count) before (targetIn rules old new e) ≡ c
     test c = rw (← (k .queued (targetIn rules old new e)), ← target, ← all, ← has) c
 
     pub keeps-out : (ltb t n && not b) ≡ false → Keeps rules old new l es bits count (place + 1)

@@ -36,9 +36,12 @@ rankedOrLast p n rank =
 unfoldable pub targetIn : Rules → List ℕ → List ℕ → ℕ → ℕ
 targetIn rules old new i = rankedOrLast (sameIn rules old i new) (tableOf rules new .count) (rankIn rules old i)
 
--- the queue so far, and an entry of the new table that comes next; it is dropped if the table has no such entry, or it is queued already
+-- the next one joins the queue so far if it is an entry of the new table, which has n, and isn't queued already; else it is dropped
+abbrev pub joins : ℕ → List ℕ → ℕ → Bool
+joins n queue j = ltb j n && not (standsIn j queue)
+
 unfoldable pub joined : ℕ → List ℕ → ℕ → List ℕ
-joined n queue j = cond (ltb j n && not (standsIn j queue)) (queue ++ j ∷ []) queue
+joined n queue j = cond (joins n queue j) (queue ++ j ∷ []) queue
 
 -- the old queue from its front on, each entry as its target
 unfoldable pub reloadedFrom : Rules → List ℕ → List ℕ → List ℕ → List ℕ → List ℕ
