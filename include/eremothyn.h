@@ -462,11 +462,13 @@ uint64_t eremothyn_queue_entry(const uint8_t *table, uint64_t table_length, uint
                                const uint8_t *room, uint64_t room_length, uint64_t place);
 
 /*
- * Goes on with a changed table, of the same kind and dialect. Each waiting entry keeps its place as the entry of the new
- * table that means the same: the same values in its time, with the same fields that begin with a star, or @reboot; the same
- * offset from UTC, the same user column, and the same command, byte by byte. Where several mean the same, the first waits on
- * as the first, the second as the second, and so on. One that isn't there any more leaves. Nobody joins, a new @reboot entry
- * neither, and the mark stays. Answers how many wait. The bytes behind the queue stay, and the same table changes no byte.
+ * Goes on with a changed table, of the same kind and dialect. A queued entry keeps its place as the entry of the new table
+ * that means the same: the same values in its time, with the same fields that begin with a star, and the same offset from UTC,
+ * or @reboot, under any offset; the same user column, and the same command, byte by byte. So a queued job stays as long as any
+ * entry means the same. Where several do, the first becomes the first, the second the second, and so on; if the new table has
+ * fewer, the rest become the last. An entry is queued once: of two that become the same one, the one nearer to the front stays.
+ * An entry is dropped if none of the new table means the same. None joins, not even a new @reboot entry, and the mark stays.
+ * Answers how many are queued. The bytes after the queue stay, and the same table changes no byte.
  *
  * The room must be a queue of the old table, and hold all entries of the new one; EREMOTHYN_ROOM(EREMOTHYN_MAX_ENTRIES)
  * bytes do for any two. Refused for the old table, then for the new one, then with EREMOTHYN_NOT_A_QUEUE; go on with the old

@@ -704,7 +704,7 @@ reload-bytes :
 unfolding answering reloading
 reload-bytes = refl
 
--- how many wait: each part of what an entry asks for tells it from another, and its spelling doesn't
+-- how many are queued: each part of what an entry asks for tells it from another, and its spelling doesn't
 reloads : Hold kept
     (((1, text "@reboot u:g/c a\n", text "@reboot u:g/d a\n", 12), 0)
     ∷ ((1, text "@reboot u:g/c a\n", text "@reboot u:h/c a\n", 12), 0)
@@ -712,7 +712,10 @@ reloads : Hold kept
     ∷ ((1, text "@reboot u:c a\n", text "@reboot u/c a\n", 12), 0)
     ∷ ((1, text "@reboot u a\n", text "@reboot  u  a\n", 12), 1)
     ∷ ((0, text "@reboot a\n", text "@reboot b\n", 12), 0)
-    ∷ ((0, text "@reboot a\n", text "CRON_TZ=+01:00\n@reboot a\n", 12), 0)
+    -- an offset is a part of a time, and no part of `@reboot`
+    ∷ ((0, text "* * * * * a\n", text "CRON_TZ=+01:00\n* * * * * a\n", 12), 0)
+    ∷ ((0, text "@reboot a\n", text "CRON_TZ=+01:00\n@reboot a\n", 12), 1)
+    ∷ ((0, text "CRON_TZ=-05:00\n@reboot a\n", text "CRON_TZ=+01:00\n@reboot a\n", 12), 1)
     ∷ ((0, text "0 0 * * * a\n", text "0 0 1-31 * * a\n", 12), 0)
     ∷ ((0, text "@daily a\n", text "A=b\n 0\t0 * * * a\n", 12), 1)
     -- each of the five sets and of the five stars, and `@reboot`
@@ -728,7 +731,7 @@ reloads : Hold kept
     ∷ ((0, text "0 0 * * * a\n", text "0 0 * * 0-6 a\n", 12), 0)
     ∷ ((0, text "@daily a\n", text "@reboot a\n", 12), 0)
     ∷ ((0, text "@reboot a\n", text "@daily a\n", 12), 0)
-    -- one of two that mean the same is left, and room for all of the new table
+    -- two become one, and room for all of the new table
     ∷ ((0, text "@reboot a\n@reboot a\n", text "@reboot a\n", 14), 1)
     ∷ ((0, text "@reboot a\n", text "@reboot a\n@reboot b\n", 12), 4294967324)
     ∷ ((0, text "@reboot a\n", text "@reboot a\n@reboot b\n", 14), 1)
@@ -740,13 +743,43 @@ reloads : Hold kept
 unfolding answering reloading
 reloads = refl
 
--- of two that mean the same the second waits: with one of them left, it isn't that one
-rank-kept :
-    (let old = text "@reboot a\n@reboot a\n" in
-    queueReloadCall old (text "@reboot a\n") 0 0 (queuePopRoom old 0 0 (queueInitRoom old 0 0 (replicate 20 7))))
-    ≡ 0
+-- how many are queued, and which entries are the first three, after a reload of all entries that minute 0 and the boot call
+abbrev queuedIn : List ℕ → List ℕ → List ℕ → List ℕ
+queuedIn old new room =
+    let after = queueReloadRoom old new 0 0 room in
+    queueReloadCall old new 0 0 room ∷ queueEntryCall new 0 0 after 0 ∷ queueEntryCall new 0 0 after 1 ∷ queueEntryCall new 0 0 after 2 ∷ []
+
+abbrev allQueued : List ℕ × List ℕ → List ℕ
+allQueued (old, new) = queuedIn old new (queueTickRoom old 0 0 (queueInitRoom old 0 0 (replicate 20 7)) 0)
+
+-- and of all but the front
+abbrev othersQueued : List ℕ × List ℕ → List ℕ
+othersQueued (old, new) = queuedIn old new (queuePopRoom old 0 0 (queueTickRoom old 0 0 (queueInitRoom old 0 0 (replicate 20 7)) 0))
+
+-- several that mean the same: each becomes the one of its rank, or the last, and the places stay
+ranks : Hold allQueued
+    (((text "* * * * * a\n* * * * * a\n", text "* * * * * a\n* * * * * b\n* * * * * a\n* * * * * a\n"), 2 ∷ 0 ∷ 2 ∷ 4294967296 ∷ [])
+    -- three are queued, and there are two: the third is dropped
+    ∷ ((text "* * * * * a\n* * * * * a\n* * * * * a\n", text "* * * * * a\n* * * * * a\n"), 2 ∷ 0 ∷ 1 ∷ 4294967296 ∷ [])
+    ∷ ((text "* * * * * a\n* * * * * b\n* * * * * a\n", text "* * * * * b\n* * * * * a\n"), 2 ∷ 1 ∷ 0 ∷ 4294967296 ∷ [])
+    -- boot entries under other offsets, and entries with a time
+    ∷ ((text "@reboot a\nCRON_TZ=+01:00\n@reboot a\n", text "CRON_TZ=-05:00\n@reboot a\n@reboot a\n"), 2 ∷ 0 ∷ 1 ∷ 4294967296 ∷ [])
+    ∷ ((text "* * * * * a\nCRON_TZ=+01:00\n* * * * * a\n", text "CRON_TZ=+01:00\n* * * * * a\n"), 1 ∷ 0 ∷ 4294967296 ∷ 4294967296 ∷ [])
+    ∷ [])
 unfolding answering reloading
-rank-kept = refl
+ranks = refl
+
+other-ranks : Hold othersQueued
+    -- the second is queued: with one of them left, it is that one; with more, the second
+    (((text "* * * * * a\n* * * * * a\n", text "* * * * * a\n"), 1 ∷ 0 ∷ 4294967296 ∷ 4294967296 ∷ [])
+    ∷ ((text "* * * * * a\n* * * * * a\n", text "* * * * * b\n* * * * * a\n* * * * * a\n* * * * * a\n"), 1 ∷ 2 ∷ 4294967296 ∷ 4294967296 ∷ [])
+    ∷ ((text "* * * * * a\n* * * * * a\n", text "* * * * * b\n"), 0 ∷ 4294967296 ∷ 4294967296 ∷ 4294967296 ∷ [])
+    -- the second and the third: the third becomes the second as well, which is the last
+    ∷ ((text "* * * * * a\n* * * * * a\n* * * * * a\n", text "* * * * * a\n* * * * * a\n"), 1 ∷ 1 ∷ 4294967296 ∷ 4294967296 ∷ [])
+    ∷ ((text "* * * * * a\n* * * * * a\n* * * * * a\n", text "* * * * * a\n"), 1 ∷ 0 ∷ 4294967296 ∷ 4294967296 ∷ [])
+    ∷ [])
+unfolding answering reloading
+other-ranks = refl
 
 -- ---- ticket 2026-10, when the clock jumps: a fixed entry, at 04:30, and two whose hour or minute begins with `*`
 

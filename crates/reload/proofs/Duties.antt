@@ -24,7 +24,7 @@ use Rattle.crontab.specs.Owners.{ownerOf}
 use Rattle.crontab.specs.Steps.{Sound}
 use Rattle.crontab.proofs.Offsets.{kept}
 use Rattle.crontab.proofs.Theorems.{of-inside}
-use Rattle.reload.specs.Duties.{Duty, sameFlag, sameStars, sameTimes, sameWhen, sameOwner, dutyOf, alike}
+use Rattle.reload.specs.Duties.{Duty, sameFlag, sameStars, sameTimes, sameWhen, sameOwner, clockOf, dutyOf, alike}
 use Rattle.reload.specs.Steps.{OwnerInside}
 
 -- ---- offsets
@@ -41,22 +41,37 @@ pub offset-kept : (y z : ℤ) {b : Bool} → InZones y → InZones z → b ≡ e
     → b ≡ eqb (ahead y) (ahead z)
 offset-kept y z h k e = e ∙ ap (λ (x : ℤ). eqb (ahead x) (ahead (toZ w32 (ofZ w32 z)))) (kept {z = y} h) ∙ ap (λ (x : ℤ). eqb (ahead y) (ahead x)) (kept {z = z} k)
 
+-- what a time is read by may be, too
+pub clock-zone : (a : When) (z : ℤ) → InZones z → InZones (clockOf a z)
+unfolding clockOf
+clock-zone Reboot z h = omega arith
+clock-zone (Timed times) z h = h
+
+-- two times with their offsets
+abbrev pub sameTime : When → ℤ → When → ℤ → Bool
+sameTime a y b z = sameWhen a b && eqb (ahead (clockOf a y)) (ahead (clockOf b z))
+
+-- the same of two times
+pub time-kept : (a : When) (y : ℤ) (b : When) (z : ℤ) {r : Bool} → InZones y → InZones z → r ≡ sameTime a (toZ w32 (ofZ w32 y)) b (toZ w32 (ofZ w32 z))
+    → r ≡ sameTime a y b z
+time-kept a y b z h k e = e ∙ ap (λ (x : ℤ). sameTime a x b (toZ w32 (ofZ w32 z))) (kept {z = y} h) ∙ ap (λ (x : ℤ). sameTime a y b x) (kept {z = z} k)
+
 -- ---- the test, as code makes it
 
-module _ (rules : Rules) (s : List ℕ) (x : Entry) (t : List ℕ) (y : Entry) {w o : Bool}
-    (when : w ≡ sameWhen (x .when) (y .when)) (offset : o ≡ eqb (ahead (x .offset)) (ahead (y .offset))) where
-  pub alike-not : (w && o) ≡ false → false ≡ alike (dutyOf rules s x) (dutyOf rules t y)
+module _ (rules : Rules) (s : List ℕ) (x : Entry) (t : List ℕ) (y : Entry) {w : Bool}
+    (when : w ≡ sameTime (x .when) (x .offset) (y .when) (y .offset)) where
+  pub alike-not : w ≡ false → false ≡ alike (dutyOf rules s x) (dutyOf rules t y)
   unfolding alike dutyOf
-  alike-not e = rw (← when, ← offset, e)
+  alike-not e = rw (← when, e)
 
-  module _ {p : Bool} (command : p ≡ same (between s (x .start) (x .end)) (between t (y .start) (y .end))) (both : (w && o) ≡ true) where
+  module _ {p : Bool} (command : p ≡ same (between s (x .start) (x .end)) (between t (y .start) (y .end))) (both : w ≡ true) where
     pub alike-other : p ≡ false → false ≡ alike (dutyOf rules s x) (dutyOf rules t y)
     unfolding alike dutyOf
-    alike-other e = rw (← when, ← offset, both, ← command, e)
+    alike-other e = rw (← when, both, ← command, e)
 
     pub alike-owner : {r : Bool} → p ≡ true → r ≡ sameOwner s (ownerOf rules s x) t (ownerOf rules t y) → r ≡ alike (dutyOf rules s x) (dutyOf rules t y)
     unfolding alike dutyOf sameOwner
-    alike-owner e owner = rw (← when, ← offset, both, ← command, e) owner
+    alike-owner e owner = rw (← when, both, ← command, e) owner
 
 -- ---- an owner's parts stand in the table
 

@@ -1,8 +1,9 @@
 -- What a caller may rely on of a reload.
---   alike-is: two entries pass the test exactly if they ask for the same
---   reloaded-entries: the new line names entries of the new table, none twice; reloaded-append: in the old order
---   still-waits: whoever waits and has such an entry in the new table still waits
---   was-waiting: and whoever waits then waited before, as such an entry: nobody joins
+--   alike-is: two entries pass the test exactly if they ask for the same; same-is: said of the entries of two tables
+--   target-rank, target-last: an entry becomes the one of its rank among those that mean the same, or the last of them if there are fewer
+--   reloaded-entries: the new queue names entries of the new table, none twice; reloaded-append: in the old order
+--   still-waits: a queued entry stays queued as long as any entry of the new table means the same
+--   was-waiting: and an entry that is queued then was queued before, as one that means the same: none joins
 --   same-table: reloading the same table changes no byte
 --   reload-leaves, reload-fair: what it leaves is a line of the new table, and demand 3 goes on from there
 --   reload-told, reload-stays: what it can answer, and that a refused call leaves the room as it was
@@ -35,6 +36,7 @@ use Rattle.reload.specs.Duties.{Duty, alike}
 use Rattle.reload.specs.Calls.{refusedReload, lineIn, reloadStep, reloadTables}
 use Rattle.reload.proofs.Duties.{alike-eq, alike-same}
 use Rattle.reload.proofs.Reloads.{reloaded-entries, reloaded-self}
+pub use Rattle.reload.proofs.Targets.{same-is, target-rank, target-last}
 pub use Rattle.reload.proofs.Reloads.{reloaded-append, reloaded-entries, still-waits, was-waiting}
 
 -- the test is equality, for offsets that may be
@@ -55,9 +57,7 @@ module _ (rules : Rules) (old new room : List ℕ) where
           → TickedWithin (tableOf rules new .count)
           (cond {A = Step Ticked} b (record { answer = Joined (length (lineIn rules old new room)); room = refilled (lineIn rules old new room) room }) (refusedReload 28 room) .answer)
       go true e =
-          let line = and-eq-true-iff (isLine (tableOf rules old .count) room) (roomy (tableOf rules new .count) room) .0 e .0 in
-          entries-length (tableOf rules new .count) (lineIn rules old new room)
-          (reloaded-entries rules old new (lineOf room .waiting) (is-line (tableOf rules old .count) room line .1))
+          entries-length (tableOf rules new .count) (lineIn rules old new room) (reloaded-entries rules old new (lineOf room .waiting))
       go false e = omega arith
 
   pub reload-told : TickedWithin (tableOf rules new .count) (reloadTables rules old new room .answer)
@@ -112,7 +112,7 @@ module _ (rules : Rules) (old new room : List ℕ) where
       go true f e =
           let line = and-eq-true-iff (isLine (tableOf rules old .count) room) (roomy (tableOf rules new .count) room) .0 f .0 in
           let is = is-line (tableOf rules old .count) room line in
-          (make-proper (tableOf rules new .count) lineAfter (is .0) (reloaded-entries rules old new (lineOf room .waiting) (is .1)), holds-laid lineAfter room)
+          (make-proper (tableOf rules new .count) lineAfter (is .0) (reloaded-entries rules old new (lineOf room .waiting)), holds-laid lineAfter room)
 
   pub reload-leaves : (k : ℕ) → reloadTables rules old new room .answer ≡ Joined k
       → (proper (tableOf rules new .count) lineAfter ≡ true) × (Holds lineAfter (reloadTables rules old new room .room))

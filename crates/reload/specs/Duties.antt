@@ -1,9 +1,10 @@
--- When two entries mean the same, each in a table of its own: "the same meaning (time or `@reboot`, offset, user column, command)".
+-- When two entries mean the same, each in a table of its own: "the same meaning (time or `@reboot`, offset, user column, command)". A
+-- boot entry has no offset.
 -- Assumes nothing.
 use Prim.Native.Nat.{ℕ}
 use mathlib.Core.Bool.{Bool, true, false, not, _&&_}
 use mathlib.Core.List.{List}
-use lib.IntN.{ℤ}
+use lib.IntN.{ℤ, pos}
 use lib.Dec.{eqb}
 use Rattle.bytes.specs.Runs.{between}
 use Rattle.schedule.specs.declared.Schedule.{Schedule}
@@ -27,12 +28,17 @@ pub record Duty : Type 0 where
   pub group : List ℕ
   pub class : List ℕ
 
+-- the offset that an entry's time is read by; a boot entry has no time of the day, so each offset means the same as UTC
+unfoldable pub clockOf : When → ℤ → ℤ
+clockOf Reboot offset = pos 0
+clockOf (Timed times) offset = offset
+
 unfoldable pub dutyOf : Rules → List ℕ → Entry → Duty
 dutyOf rules s e =
     let o = ownerOf rules s e in
     record {
       when = e .when;
-      offset = e .offset;
+      offset = clockOf (e .when) (e .offset);
       command = between s (e .start) (e .end);
       user = partBytes s (o .user);
       group = partBytes s (o .group);

@@ -1,4 +1,4 @@
--- What the functions inside ask of each other. What a reader must believe is in Duties and Calls.
+-- What the functions inside ask of each other. What a reader must believe is in Duties, Targets and Calls.
 -- Assumes nothing.
 use Prim.Native.Nat.{ℕ, _≤_}
 use Rattle.crontab.specs.declared.Part.{Part}

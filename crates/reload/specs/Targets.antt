@@ -1,14 +1,16 @@
--- Which entry of a new table an entry of the old one becomes: "the entry of the new table with the same meaning .. and, where several mean
--- the same, the same rank among them". Entries are told by the bytes of their tables and their numbers.
+-- Which entry of a new table an entry of the old one becomes, its target: the entry with the same meaning and the same rank, or the last
+-- one with that meaning if there are fewer. "A queued job stays as long as any entry has the same meaning." Entries are told by the bytes
+-- of their tables and their numbers.
 -- Assumes nothing.
-use Prim.Native.Nat.{ℕ}
-use mathlib.Core.Bool.{Bool, cond, _&&_}
-use mathlib.Core.List.{List, [], _∷_}
-use lib.Dec.{eqb, ltb}
+use Prim.Native.Nat.{ℕ, _-_}
+use mathlib.Core.Bool.{Bool, cond, not, _&&_}
+use mathlib.Core.List.{List, [], _∷_, _++_}
+use lib.Dec.{ltb}
 use Rattle.bytes.specs.Search.{from}
-use Rattle.bytes.specs.Passing.{countBelow}
+use Rattle.bytes.specs.Passing.{countBelow, isRanked}
 use Rattle.crontab.specs.declared.Rules.{Rules}
 use Rattle.crontab.specs.Tables.{tableOf}
+use Rattle.fifo.specs.WaitingLine.{standsIn}
 use Rattle.runqueue.specs.Jobs.{jobAt}
 use Rattle.reload.specs.Duties.{Duty, dutyOf, alike}
 
@@ -24,17 +26,27 @@ sameIn rules s i t j = alike (dutyIn rules s i) (dutyIn rules t j)
 unfoldable pub rankIn : Rules → List ℕ → ℕ → ℕ
 rankIn rules s i = countBelow (sameIn rules s i s) i
 
-unfoldable pub becomes : Rules → List ℕ → List ℕ → ℕ → ℕ → Bool
-becomes rules old new i j = sameIn rules old i new j && eqb (rankIn rules new j) (rankIn rules old i)
+-- of the numbers below n that pass a test, the one of a rank, or the last one if there are fewer; n where none passes
+unfoldable pub rankedOrLast : (ℕ → Bool) → ℕ → ℕ → ℕ
+rankedOrLast p n rank =
+    let total = countBelow p n in
+    from (isRanked p (cond (ltb rank total) rank (total - 1))) n 0
 
 -- the entry that entry i becomes, and the count of the new table where there is none
 unfoldable pub targetIn : Rules → List ℕ → List ℕ → ℕ → ℕ
-targetIn rules old new i = from (becomes rules old new i) (tableOf rules new .count) 0
+targetIn rules old new i = rankedOrLast (sameIn rules old i new) (tableOf rules new .count) (rankIn rules old i)
 
--- each keeps its place; "one that isn't there any more leaves"
-unfoldable pub reloaded : Rules → List ℕ → List ℕ → List ℕ → List ℕ
-reloaded rules old new [] = []
-reloaded rules old new (e ∷ l) =
-    let j = targetIn rules old new e in
-    let later = reloaded rules old new l in
-    cond (ltb j (tableOf rules new .count)) (j ∷ later) later
+-- the next one joins the queue so far if it is an entry of the new table, which has n, and isn't queued already; else it is dropped
+abbrev pub joins : ℕ → List ℕ → ℕ → Bool
+joins n queue j = ltb j n && not (standsIn j queue)
+
+unfoldable pub joined : ℕ → List ℕ → ℕ → List ℕ
+joined n queue j = cond (joins n queue j) (queue ++ j ∷ []) queue
+
+-- the old queue from its front on, each entry as its target
+unfoldable pub reloadedFrom : Rules → List ℕ → List ℕ → List ℕ → List ℕ → List ℕ
+reloadedFrom rules old new queue [] = queue
+reloadedFrom rules old new queue (e ∷ l) = reloadedFrom rules old new (joined (tableOf rules new .count) queue (targetIn rules old new e)) l
+
+abbrev pub reloaded : Rules → List ℕ → List ℕ → List ℕ → List ℕ
+reloaded rules old new l = reloadedFrom rules old new [] l

@@ -1,12 +1,13 @@
-// Whether two entries, each of a table of its own, mean the same: time or `@reboot`, offset, user column and command.
+// Whether two entries, each of a table of its own, mean the same: time and offset or `@reboot`, user column and command.
 ghost use mathlib.Core.Path.{_≡_};
 ghost use lib.ListN.{length};
+ghost use mathlib.Core.Bool.{_&&_};
 ghost use lib.Dec.{eqb};
 ghost use Rattle.schedule.specs.Local.{InZones, ahead};
 ghost use Rattle.crontab.specs.Settings.{partBytes};
 ghost use Rattle.crontab.specs.Words.{same};
 ghost use Rattle.crontab.specs.Steps.{Sound};
-ghost use Rattle.reload.specs.Duties.{sameFlag, sameStars, sameTimes, sameWhen, sameOwner, dutyOf, alike};
+ghost use Rattle.reload.specs.Duties.{sameFlag, sameStars, sameTimes, sameWhen, sameOwner, clockOf, dutyOf, alike};
 ghost use Rattle.reload.specs.Steps.{Inside, OwnerInside};
 use crontab::Part;
 use crontab::Rules;
@@ -46,21 +47,6 @@ fn same_times(a: Schedule, b: Schedule) -> bool
                     & ((a.weekdays == b.weekdays) & same_stars(a.stars, b.stars)))))
 }
 
-fn same_when(a: When, b: When) -> bool
-    ensures { λ r. ⌜ r ≡ sameWhen a b ⌝ }
-{
-    match a {
-        When::Reboot => match b {
-            When::Reboot => true,
-            When::Timed(_) => false,
-        },
-        When::Timed(times) => match b {
-            When::Reboot => false,
-            When::Timed(others) => same_times(times, others),
-        },
-    }
-}
-
 fn same_offset(a: i32, b: i32) -> bool
     requires { ⌜ InZones a × InZones b ⌝ }
     ensures { λ r. ⌜ r ≡ eqb (ahead a) (ahead b) ⌝ }
@@ -69,6 +55,23 @@ fn same_offset(a: i32, b: i32) -> bool
         return true;
     }
     false
+}
+
+// Two times, each with its offset. Boot entries have none.
+fn same_when(a: When, offset: i32, b: When, other: i32) -> bool
+    requires { ⌜ InZones offset × InZones other ⌝ }
+    ensures { λ r. ⌜ r ≡ (sameWhen a b && eqb (ahead (clockOf a offset)) (ahead (clockOf b other))) ⌝ }
+{
+    match a {
+        When::Reboot => match b {
+            When::Reboot => true,
+            When::Timed(_) => false,
+        },
+        When::Timed(times) => match b {
+            When::Reboot => false,
+            When::Timed(others) => same_times(times, others) & same_offset(offset, other),
+        },
+    }
 }
 
 // The same bytes in a part of one table and a part of another.
@@ -104,7 +107,7 @@ pub(crate) fn is_alike(s: &[u8], x: Entry, t: &[u8], y: Entry, rules: Rules) -> 
 {
     let when = x.when;
     let other_when = y.when;
-    if same_when(when, other_when) & same_offset(x.offset, y.offset) {
+    if same_when(when, x.offset, other_when, y.offset) {
         let command = Part {
             start: x.start as usize,
             end: x.end as usize,

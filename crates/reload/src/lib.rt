@@ -1,4 +1,4 @@
-// A table that has changed: who waits keeps his place, as the entry of the new table that means the same.
+// A table that has changed: a queued entry keeps its place, as the entry of the new table that means the same.
 mod alike;
 mod peers;
 
@@ -6,19 +6,36 @@ ghost use mathlib.Core.Path.{_≡_};
 ghost use Prim.Native.Nat.{_≤_, _<_};
 ghost use mathlib.Core.Bool.{true};
 ghost use lib.ListN.{length, take};
+ghost use Rattle.bytes.specs.Marks.{marked};
 ghost use Rattle.crontab.specs.Tables.{tableOf};
 ghost use Rattle.fifo.specs.Layout.{lineOf, isLine};
-ghost use Rattle.reload.specs.Targets.{targetIn, reloaded};
+ghost use Rattle.reload.specs.Targets.{rankedOrLast, targetIn, reloaded};
 ghost use Rattle.reload.specs.Calls.{reloadTables};
 use bytes::mark;
 use crontab::MAX_ENTRIES;
 use crontab::Rules;
+use crontab::chosen::WORDS;
 use crontab::table::EntryAnswer;
 use crontab::table::check;
 use crontab::table::find_entry;
 use fifo::NOT_A_LINE;
 use fifo::Popped;
 use fifo::Ticked;
+
+// Of the numbers below n in a set the one of a rank, or the last one if there are fewer; n if there is none.
+fn ranked_or_last(marks: &[u64], n: usize, rank: usize) -> usize
+    ensures { λ r. ⌜ r ≡ rankedOrLast (marked (now (marks .entry))) n rank ⌝ }
+{
+    let at = mark::ranked(marks, n, rank);
+    if at < n {
+        return at;
+    }
+    let total = mark::below(marks, n);
+    if total == 0 {
+        return n;
+    }
+    mark::ranked(marks, n, total - 1)
+}
 
 // The entry of the new table that an entry of the old one becomes, or how many the new one has, where there is none.
 fn counterpart(old: &[u8], new: &[u8], rules: Rules, entry: u64) -> usize
@@ -33,21 +50,22 @@ fn counterpart(old: &[u8], new: &[u8], rules: Rules, entry: u64) -> usize
     let marks = here.marks;
     let others = there.marks;
     let rank = mark::below(&marks, entry as usize);
-    mark::ranked(&others, there.count, rank)
+    ranked_or_last(&others, there.count, rank)
 }
 
-// Who waits from now on: so many of the entries, the front first.
+// The queue from now on: so many of the entries, the front first.
 struct Kept {
     count: usize,
     entries: [u16; MAX_ENTRIES],
 }
 
-// Those who wait in the room, as entries of the new table, which has n; who isn't there leaves.
+// The entries that the room queues, as entries of the new table, which has n. One that isn't there is dropped, and one that is queued already.
 fn who_waits(old: &[u8], new: &[u8], rules: Rules, room: &[u8], n: usize) -> Kept
     requires { ⌜ (isLine (tableOf rules (now old) .count) (now room) ≡ true) × (n ≡ tableOf rules (now new) .count) ⌝ }
     ensures { λ r. ⌜ (take (r .count) (r .entries) ≡ reloaded rules (now (old .entry)) (now (new .entry)) (lineOf (now (room .entry)) .waiting)) × (r .count ≤ length (r .entries)) ⌝ }
 {
     let mut entries = [0u16; MAX_ENTRIES];
+    let mut queued = [0u64; WORDS];
     let mut count = 0;
     let mut place = 0;
     let waiting = fifo::waiting(room);
@@ -56,7 +74,8 @@ fn who_waits(old: &[u8], new: &[u8], rules: Rules, room: &[u8], n: usize) -> Kep
             return Kept { count, entries };
         };
         let to = counterpart(old, new, rules, entry as u64);
-        if to < n {
+        if (to < n) & !mark::has(&queued, to) {
+            mark::add(&mut queued, to);
             entries[count] = to as u16;
             count += 1;
         }
@@ -65,7 +84,7 @@ fn who_waits(old: &[u8], new: &[u8], rules: Rules, room: &[u8], n: usize) -> Kep
     Kept { count, entries }
 }
 
-// Who waits for the old table waits for the new one. Nobody joins, and the mark stays. Answers how many wait.
+// The queue of the old table becomes one of the new table. No entry joins, and the mark stays. Answers how many are queued.
 pub fn reload(old: &[u8], new: &[u8], rules: Rules, room: &mut [u8]) -> Ticked
     ensures answer { λ r. ⌜ r ≡ reloadTables rules (now (old .entry)) (now (new .entry)) (now (room .entry)) .answer ⌝ }
     ensures room { λ _. ⌜ now (room .exit) ≡ reloadTables rules (now (old .entry)) (now (new .entry)) (now (room .entry)) .room ⌝ }

@@ -14,7 +14,6 @@ use Rattle.crontab.specs.declared.table.Verdict.{Verdict}
 use Rattle.fifo.specs.declared.Ticked.the-variants.{Joined}
 use Rattle.fifo.specs.Layout.{lineOf}
 use Rattle.fifo.specs.Steps.{refilled}
-use Rattle.fifo.proofs.Theorems.{is-line}
 use Rattle.reload.proofs.Reloads.{reloaded-entries}
 use Rattle.reload.proofs.Exits.{reload-old, reload-new, reload-none, reload-done, both-are}
 use Rattle.reload.proofs.reload.Statement.{statement}
@@ -69,7 +68,7 @@ refill-requires c κs =
     let t = and-eq-true-iff _ _ .0 both in (
       (tableOf (a .rules) (a .old .now) .count, t .0),
       rw n (t .1),
-      rw (n, w .ensures .0) (reloaded-entries (a .rules) (a .old .now) (a .new .now) (lineOf (a .room .now) .waiting) (is-line _ (a .room .now) (t .0) .1)),
+      rw (n, w .ensures .0) (reloaded-entries (a .rules) (a .old .now) (a .new .now) (lineOf (a .room .now) .waiting)),
     )
 
 returns-3 : tie.Need-returns-3

@@ -1,4 +1,4 @@
-//! Who waits after a reload, by rows. `~` is a system table's user.
+//! What is queued after a reload, by rows. `~` is a system table's user.
 
 use crate::{enough, line};
 use compare::queue::Case;
@@ -157,14 +157,26 @@ fn several_that_mean_the_same() {
         ),
         (TWO, "@hourly ~a\n@daily ~b\n@hourly ~a\n", &[1], &[2]),
         (TWO, "@hourly ~a\n", &[1, 0], &[0]),
-        (TWO, "@hourly ~a\n", &[1], &[]),
-        (THREE, TWO, &[2, 1, 0], &[1, 0]),
+        (TWO, "@hourly ~a\n", &[0, 1], &[0]),
         (TWO, THREE, &[1], &[1]),
+        // There are fewer: the last one, and each once.
+        (TWO, "@hourly ~a\n", &[1], &[0]),
+        (TWO, "@hourly ~b\n@hourly ~a\n", &[1], &[1]),
+        (THREE, TWO, &[2, 1, 0], &[1, 0]),
+        (THREE, TWO, &[0, 1, 2], &[0, 1]),
+        (THREE, TWO, &[2], &[1]),
+        (THREE, "@hourly ~a\n", &[2, 0, 1], &[0]),
+        (
+            "@hourly ~a\n@hourly ~b\n@hourly ~a\n@hourly ~b\n",
+            "@hourly ~b\n@hourly ~a\n",
+            &[3, 2, 1, 0],
+            &[0, 1],
+        ),
         (
             THREE,
             "@reboot ~a\n@hourly ~a\n@hourly ~b\n@hourly ~a\n",
             &[2, 0, 1],
-            &[1, 3],
+            &[3, 1],
         ),
     ]);
 }
@@ -201,8 +213,20 @@ fn clocks() {
             &[0],
             &[],
         ),
-        // Boot jobs have their clock, too.
-        ("@reboot ~a\n", "CRON_TZ=+01:00\n@reboot ~a\n", &[0], &[]),
+        // Boot jobs have no clock.
+        ("@reboot ~a\n", "CRON_TZ=+01:00\n@reboot ~a\n", &[0], &[0]),
+        (
+            "CRON_TZ=-01:00\n@reboot ~a\n",
+            "CRON_TZ=+01:00\n@reboot ~a\n",
+            &[0],
+            &[0],
+        ),
+        (
+            "@reboot ~a\nCRON_TZ=-01:00\n@reboot ~a\n",
+            "@reboot ~a\n",
+            &[1, 0],
+            &[0],
+        ),
     ]);
 }
 

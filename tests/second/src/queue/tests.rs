@@ -147,10 +147,10 @@ fn rooms_without_a_line() {
     assert_eq!(Queue::in_room(&[], 0), None);
 }
 
-/// Who waits after a reload, by hand: moved, gone, of the same meaning, and of another clock.
+/// What is queued after a reload, by hand: moved, gone, of the same meaning, fewer of them, and of another clock.
 #[test]
 fn reloads() {
-    let rows: [(&str, &str, &[u64], &[u64]); 5] = [
+    let rows: [(&str, &str, &[u64], &[u64]); 10] = [
         ("@daily a\n@daily b\n", "@daily b\n@daily a\n", &[0], &[1]),
         ("@daily a\n@daily b\n", "0 0 * * * b\n", &[0, 1], &[0]),
         (
@@ -160,6 +160,21 @@ fn reloads() {
             &[2, 1],
         ),
         ("@daily a\n", "CRON_TZ=+01:00\n@daily a\n", &[0], &[]),
+        ("@reboot a\n", "CRON_TZ=+01:00\n@reboot a\n", &[0], &[0]),
+        ("@daily a\n@daily a\n", "@daily a\n", &[1], &[0]),
+        ("@daily a\n@daily a\n", "@daily a\n", &[1, 0], &[0]),
+        (
+            "@daily a\n@daily a\n@daily a\n",
+            "@daily a\n@daily a\n",
+            &[2, 0, 1],
+            &[1, 0],
+        ),
+        (
+            "@daily a\n@daily b\n@daily a\n",
+            "@daily b\n@daily a\n",
+            &[2, 1, 0],
+            &[1, 0],
+        ),
         ("* 0 * * * a\n", "0-59 0 * * * a\n", &[0], &[]),
     ];
     for (old, new, before, after) in rows {
