@@ -173,18 +173,26 @@ static uint64_t reloaded(const struct site *site, const struct table_file *table
                                   site->dialect, queue, sizeof site->queue);
 }
 
-/* Keeps the times of those who stay. Whoever stays is counted with those from its place on, and not with those behind it. */
+/*
+ * Keeps the times of the jobs that stay. The front of a queue stays if what stays is another queue without it; a job that becomes an
+ * entry which is queued already is dropped. Of two neighbours that become one entry, the later one's time is kept.
+ */
 static void keep_times(struct site *site, const struct table_file *table)
 {
     static uint8_t rest[sizeof site->queue], copy[sizeof site->queue];
-    uint64_t kept = 0, stay = 0;
+    bool queued[EREMOTHYN_MAX_ENTRIES] = { false };
+    uint64_t kept = 0, stay = 0, front = EREMOTHYN_NOTHING_WAITS;
     memcpy(rest, site->queue, sizeof rest);
     for (uint64_t place = 0; place <= site->waiting; place++) {
         memcpy(copy, rest, sizeof copy);
-        uint64_t behind = reloaded(site, table, copy);
-        if (place > 0 && behind < stay)
+        uint64_t later = reloaded(site, table, copy);
+        uint64_t next = eremothyn_queue_entry(table->bytes, table->length, site->kind, site->dialect, copy, sizeof copy, 0);
+        if (place > 0 && (later != stay || next != front) && !queued[front]) {
+            queued[front] = true;
             site->since[kept++] = site->since[place - 1];
-        stay = behind;
+        }
+        stay = later;
+        front = next;
         eremothyn_queue_pop(TABLE(site), rest, sizeof rest);
     }
 }

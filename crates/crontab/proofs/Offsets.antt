@@ -6,11 +6,12 @@ use mathlib.Core.List.{List}
 use Prim.Native.Nat.{ℕ, zero, suc, _+_, _-_, _*_, _≤_}
 use native.Mathlib.Omega.{arith}
 use lib.Dec.{leb}
-use lib.IntN.{ℤ, pos, negsuc, negℤ, _-ℤ_}
+use lib.IntN.{ℤ, pos, negℤ, _-ℤ_}
 use mir.Syntax.{w32}
 use mir.Val.{SFits, toZ, ofZ}
 use mir.Facts.{toZ-ofZ, toZ-pos}
 use borrow.Author.Tests.{leb-true, lt-ltb}
+use Rattle.schedule.proofs.Theorems.{zone-fits}
 use Rattle.schedule.specs.Local.{InZones}
 use Rattle.crontab.specs.declared.offset.Zone.{Zone}
 use Rattle.crontab.specs.declared.offset.Zone.the-variants as zone
@@ -57,10 +58,6 @@ pub minutes-in : (s : List ℕ) {z : ℤ} → readOffset s ≡ Minutes z → InZ
 minutes-in s e = rw e at (answer-in s)
 
 -- ---- in 32 bits
-
-zone-fits : (z : ℤ) → InZones z → SFits w32 z
-zone-fits (pos n) h = record { sfits = omega arith }
-zone-fits (negsuc n) h = record { sfits = omega arith }
 
 -- what is written is read back
 pub kept : {z : ℤ} → InZones z → toZ w32 (ofZ w32 z) ≡ z

@@ -45,6 +45,7 @@ pub use Rattle.schedule.proofs.KnownLocalDays.{known-days-in}
 pub use Rattle.schedule.proofs.LocalMinutes.{matches-before, matches-at, matches-after}
 pub use Rattle.schedule.proofs.Jumps.{case-above, case-below, case-after, case-held, judged-unfixed, mark-stays}
 pub use Rattle.schedule.proofs.Shifts.{matches-shifts, matches-shifts-in, next-shifts-in}
+pub use Rattle.schedule.proofs.Offsets.{zone-fits}
 pub use Rattle.schedule.proofs.LocalTheorems.{local-date, utc-same, utc-next, next-at-in, next-never-in, next-past-in, next-is-in, matching-fires-in, next-on-calendar-in, next-by, gap-on, gap-before, fires-within-in, next-within-in, next-within}
 
 -- the least matching minute after m, up to the calendar's last

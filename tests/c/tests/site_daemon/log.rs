@@ -136,15 +136,17 @@ impl<'a> Daemon<'a> {
 
     /// Goes on with a new table. Who stays is found out for each by itself.
     pub fn reload(&mut self, new: Table<'a>) {
-        let alone = |&entry: &u64| Queue {
-            waiting: vec![entry],
-            mark: None,
+        // A job stays if one more waits when it is reloaded with those before it.
+        let before = |count: usize| {
+            let mut front = Queue {
+                waiting: self.queue.waiting[..count].to_vec(),
+                mark: None,
+            };
+            front.reload(&self.table, &new).expect("a queue")
         };
-        let stays = |entry: &u64| alone(entry).reload(&self.table, &new) == Ok(1);
-        let times = self.queue.waiting.iter().zip(&self.since);
-        let kept: Vec<u64> = times
-            .filter(|(entry, _)| stays(entry))
-            .map(|(_, &since)| since)
+        let kept: Vec<u64> = (0..self.since.len())
+            .filter(|&place| before(place) < before(place + 1))
+            .map(|place| self.since[place])
             .collect();
         let waited = self.queue.waiting.len();
         let waiting = self.queue.reload(&self.table, &new).expect("a line");

@@ -156,6 +156,27 @@ fn times_of_those_who_stay() {
     daemon.ended();
 }
 
+/// Two jobs that become one entry: the one that is nearer to the front stays, with its own time.
+#[test]
+fn two_jobs_that_become_one() {
+    let site = Site::new("site-merged");
+    let old = site.table("* * * * * x\n* * * * * a\n* * * * * b\n* * * * * a\n");
+    let mut daemon = Running::start(&site, &[], &old);
+    let now = evening();
+    daemon.minute(now, &["start: 0 wait", "line 1 after 0 min: |x|"]);
+    daemon.minute(now + 1, &["line 2 after 1 min: |a|"]);
+    daemon.minute(now + 2, &["line 3 after 2 min: |b|"]);
+    // Line 4 waits since the first minute, line 1 since the second, line 2 since the third.
+    site.table("* * * * * x\n* * * * * a\n");
+    daemon.signal("-HUP");
+    daemon.says(now + 2, &["reload: 2 of 3 wait on"]);
+    daemon.minute(now + 3, &["line 2 after 3 min: |a|"]);
+    daemon.minute(now + 4, &["line 1 after 3 min: |x|"]);
+    daemon.signal("-TERM");
+    daemon.says(now + 4, &["end: 1 wait, lines 2"]);
+    daemon.ended();
+}
+
 /// Two jobs of every minute, both taken at once, with the setting that stands before them.
 const WITH: &str = "                      with |A| = |b|";
 const JOBS: [&str; 4] = [
