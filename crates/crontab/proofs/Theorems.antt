@@ -3,7 +3,7 @@
 --   cut-refused: one that isn't refused is empty, or its last byte is a newline
 --   entry-sound, entry-told: an entry that is found, and the answer to a number
 --   owner-inside, owner-short: where an owner's parts stand
---   owner-judged: in a system table the owner that is shown is the one that was judged, with a user that isn't empty
+--   owner-judged: in a system table the owner that is shown is the one that was judged, with a user that isn't empty; owner-named: used for entry 511
 --   entry-on-line, found-view: it is on a line of its table, which is the line that was read to it
 --   owner-number, setting-number: a refusal has eight bits
 --   setting-inside, setting-short: where name and value stand
@@ -73,7 +73,7 @@ use Rattle.crontab.proofs.Sound.{Sound, SoundItems, items-sound}
 pub use Rattle.crontab.proofs.Gap.{next-in-gap}
 pub use Rattle.crontab.proofs.Clocks.{next-by-clock}
 pub use Rattle.crontab.proofs.Cuts.{cut-refused}
-pub use Rattle.crontab.proofs.Owners.{OwnerJudged, owner-judged}
+pub use Rattle.crontab.proofs.Owners.{ShownAt, OwnerJudged, owner-judged, owner-named}
 pub use Rattle.crontab.proofs.Reversed.{never-reversed, verdict-never-reversed}
 pub use Rattle.crontab.proofs.FirstDialect.{first-dialect-same}
 pub use Rattle.crontab.proofs.EntryViews.{FoundEntry, FoundView, found-view, entry-sound, entry-on-line}

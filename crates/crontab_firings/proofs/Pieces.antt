@@ -169,3 +169,15 @@ pieces-whole t a b written (more {next = next} w {later = later} h i l p) =
     let second = mergedOf t next b in
     rw (merged-split t a next b (omega arith) (omega arith), length-append first second)
     (join-lines first second (length second) w later (omega arith) l (pieces-whole t next b later p))
+
+-- a piece that ends with the list is its last; another goes before the pieces that go on where it ended
+pub piece-on : (t : Table) (a b size next : ℕ) (before now later : List ℕ) → PieceLines t a b before now size next
+    → (next ≡ b → Pieces t b a (take size now)) × (next < b → Pieces t b next later → Pieces t b a (take size now ++ later))
+piece-on t a b size next before now later p = (
+  (λ e. last (take size now) (rw e at (p .lines))),
+  (λ h q. more (take size now) (onward (p .onward) h) h (p .lines) q),
+)
+  where
+    onward : (next ≡ b) ⊎ ((a < next) × (next < b)) → next < b → a < next
+    onward (inl e) h = absurd (omega arith)
+    onward (inr o) h = o .0

@@ -9,7 +9,7 @@ use Prim.Native.Nat.{ℕ, zero, suc, _+_, _-_, _*_, _≤_, _<_}
 use native.Mathlib.Omega.{arith}
 use lib.Dec.{ltb, leb, eqb}
 use lib.ListN.{length, take, drop, getD, replicate}
-use borrow.Author.Tests.{ltb-true, eqb-true, ne-eqb, le-leb, lt-leb}
+use borrow.Author.Tests.{ltb-true, leb-true, eqb-true, ne-eqb, le-leb, lt-leb}
 use Rattle.bytes.specs.Texts.{text}
 use Rattle.calendar.specs.Dates.{lastMinute}
 use Rattle.crontab.specs.declared.Rules.{Rules}
@@ -19,6 +19,7 @@ use Rattle.crontab.specs.declared.firing.DueAnswer.{DueAnswer}
 use Rattle.crontab.specs.declared.firing.DueAnswer.the-variants as due
 use Rattle.crontab.specs.Tables.{tableOf}
 use Rattle.crontab.specs.Firings.{dueIn}
+use Rattle.crontab.specs.Computing.{reading}
 use Rattle.crontab.proofs.Theorems.{table-sound}
 use Rattle.fifo.specs.declared.Ticked.{Ticked}
 use Rattle.fifo.specs.declared.Ticked.the-variants as tick
@@ -28,14 +29,14 @@ use Rattle.fifo.specs.Queue.{limit}
 use Rattle.fifo.specs.Layout.{lineOf, laid, roomy, isLine}
 use Rattle.fifo.specs.Refusals.{tickRefusal, popRefusal}
 use Rattle.fifo.specs.Steps.{Jobs, Step, fresh, initStep, standing, entryStep}
-use Rattle.fifo.specs.Fairness.{Call, tick, pop, roomAfter, refusal, isRefused, unrefused, upTo, Names}
-use Rattle.fifo.specs.FairEvery.{steadyEvery}
+use Rattle.fifo.specs.Fairness.{Call, tick, pop, roomAfter, refusal, isRefused, unrefused, Paced, upTo, Names}
+use Rattle.fifo.specs.FairEvery.{PacedEvery, steadyEvery}
 use Rattle.fifo.specs.Waits.{requests, upToRequest}
 use Rattle.fifo.specs.Buffer.{Use, tickIn, lent, callOn, bufferAfter, callsOn, bufferAfterAll, started}
 use Rattle.fifo.proofs.Theorems.{TickedWithin, PoppedWithin, buffer-follows, found-follows, standing-in, steady-every-paced}
 use Rattle.runqueue.specs.Calls.{initTable, tickTable, popTable, entryTable}
-use Rattle.runqueue.specs.Jobs.{jobsOf}
-use Rattle.runqueue.specs.Demand.{jobsIn, CanFire, boundFrom, boundEveryFrom}
+use Rattle.runqueue.specs.Jobs.{jobAt, jobsOf}
+use Rattle.runqueue.specs.Demand.{jobsIn, CanFire, boundFrom, OnCalendar, boundEveryFrom, OnCalendarEvery}
 use Rattle.runqueue.proofs.Theorems as runqueue
 use Rattle.runqueue.proofs.Theorems.{entry-good, few, table-steps-good, tick-told, pop-told, table-fair-in-buffer, table-fair-every, table-waits-exactly, table-waits-at-most, table-waits-every}
 use Rattle.eremothyn.specs.Answer.{refusedFrom, answerOf}
@@ -231,6 +232,37 @@ queue-fair-ends size buffer made =
     let can = due-can-fire table 0 0 0 0 refl in
     (refl, queue-fair-steady table 0 0 1440 0 (4223371679 - 21038579) size buffer [] can made (runqueue.every-ends .0) (omega arith))
 
+-- The last entry of a system table in the second dialect, at -12:00, where minute 0 falls before 1970 locally: after any calls, with a request each
+-- minute, and with one a day.
+abbrev west : List ℕ
+west = text "CRON_TZ=-12:00\n@reboot root a\n0 23-1 * * * root b\n"
+
+west-on : OnCalendar (rulesOf 1 1) west 1 0 × OnCalendarEvery (rulesOf 1 1) west 1440 1 0
+unfolding jobsOf jobAt reading
+west-on = (record { utc = leb-true _ _ refl; local = leb-true _ _ refl }, record { utc = leb-true _ _ refl; local = leb-true _ _ refl })
+
+west-bounds : (boundFrom (rulesOf 1 1) west 1 0 ≡ 21037861) × (boundEveryFrom (rulesOf 1 1) west 1440 1 0 ≡ 21040739)
+unfolding jobsOf jobAt reading
+west-bounds = (refl, refl)
+
+west-fires : CanFire (rulesOf 1 1) west 1
+unfolding answering
+west-fires = due-can-fire west 1 1 1 2100 refl
+
+pub queue-fair-west : (size : ℕ) (buffer : List ℕ) (first second : List Use)
+    → queueInitCall west 1 1 (take size buffer) ≤ refusedFrom
+    → let before = bufferLeftBy west 1 1 (bufferMade west 1 1 size buffer) first in
+    let calls = answered west 1 1 (callsMade west 1 1 before second) in
+    (Paced 1 21037861 true calls → Answers west 1 1 1 (upTo 21037861 calls))
+    × (PacedEvery 1440 1 21040739 0 calls → Answers west 1 1 1 (upTo 21040739 calls))
+    × Answers west 1 1 1 (upTo 21040739 (callsMade west 1 1 before (steadyEvery size 1440 1 21040739 0)))
+queue-fair-west size buffer first second made =
+    let can = west-fires in (
+      rw (west-bounds .0) at (queue-fair west 1 1 1 0 size buffer first second can made (west-on .0)),
+      rw (west-bounds .1) at (queue-fair-every west 1 1 1440 1 0 size buffer first second can made (west-on .1)),
+      rw (west-bounds .1) at (queue-fair-steady west 1 1 1440 1 0 size buffer first can made (west-on .1) (omega arith)),
+    )
+
 -- ---- how long a queued entry waits
 
 -- who is at a place: the table isn't refused, and the bytes hold a queue
@@ -310,3 +342,21 @@ unfolding answering bytesAfter bufferMade bufferLeft bufferLeftBy
 waits-third us =
     let buffer = bufferLeftBy whole 0 0 (bufferMade whole 0 0 88 (replicate 90 7)) (tickIn 60 88 ∷ []) in
     queue-waits-exactly whole 0 0 2 2 88 buffer us (are-bytes buffer refl) refl (omega arith)
+
+-- The last place of a table of 512 entries, in the second dialect of system tables: the answer of request 512, and of none before, and with a request a
+-- day within 737,279 minutes.
+pub waits-last : (table : List ℕ) (size : ℕ) (buffer : List ℕ) (us : List Use)
+    → ((i : ℕ) → getD buffer i 0 < 256)
+    → queueEntryCall table 1 1 (take size buffer) 511 ≡ 511
+    → let calls = answered table 1 1 (callsMade table 1 1 buffer us) in
+    (Answers table 1 1 511 (upToRequest 511 calls) → ⊥)
+    × (511 < requests calls → Answers table 1 1 511 (upToRequest 512 calls))
+    × (checkCall table 1 1 ≡ 512 → 512 ≤ requests calls → Answers table 1 1 511 (upToRequest 512 calls))
+    × ((m : ℕ) → PacedEvery 1440 m 737279 1 calls → Answers table 1 1 511 (upTo 737279 calls))
+waits-last table size buffer us bytes q =
+    let (before, then) = queue-waits-exactly table 1 1 511 511 size buffer us bytes q (omega arith) in (
+      before,
+      then,
+      (λ all enough. rw all at (queue-waits-at-most table 1 1 511 511 size buffer us bytes q (omega arith)) enough),
+      (λ m. queue-waits-every table 1 1 1440 511 511 m size buffer us bytes q (omega arith)),
+    )

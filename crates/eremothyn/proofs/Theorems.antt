@@ -6,9 +6,11 @@
 --   command-placed: the bytes from a command's offset on, as many as its length, are the command
 --   date-parts: the six numbers of a date are what the six calls for its parts answer
 --   queue-fair: the third demand over the calls that C makes on one buffer; queue-fair-every: where requests come every k announcements; queue-fair-steady:
---     with no hypothesis about calls; queue-fair-ends: up to the calendar's last minute; due-can-fire: the entries of which they speak are those that are ever due
+--     with no hypothesis about calls; queue-fair-ends: up to the calendar's last minute; queue-fair-west: used for a system table in the second dialect, before 1970 locally;
+--     due-can-fire: the entries of which they speak are those that are ever due
 --   queue-waits-exactly: the entry that a look finds at place p is the answer of request p + 1, and of no earlier one; queue-waits-at-most: so by the N-th;
---     queue-waits-every: and within k * (p + 1) - 1 minutes, where requests come every k announcements; waits-third: used at the last place of three
+--     queue-waits-every: and within k * (p + 1) - 1 minutes, where requests come every k announcements; waits-third: used at the last place of three;
+--     waits-last: at the last place of 512
 --   next-near: a next firing is at most 21,036,960 minutes ahead, whatever the table, the entry and the minute
 --   told-apart: EREMOTHYN_IS_REFUSED is true of an answer exactly when the call was refused, and the refusal's number is what is left
 --   refused-stays: and then no byte and no number was changed
@@ -68,7 +70,7 @@ use Rattle.eremothyn.specs.Entries.{nextNumber, placeNumber}
 use Rattle.eremothyn.specs.KnownDays.{KnownDays}
 use Rattle.eremothyn.specs.Apart.{ToldApart, RefusedStays}
 pub use Rattle.eremothyn.proofs.DateRuns.{date-parts}
-pub use Rattle.eremothyn.proofs.Demand.{due-can-fire, queue-fair, queue-fair-every, queue-fair-steady, queue-fair-ends, queue-waits-exactly, queue-waits-at-most, queue-waits-every, waits-third}
+pub use Rattle.eremothyn.proofs.Demand.{due-can-fire, queue-fair, queue-fair-every, queue-fair-steady, queue-fair-ends, queue-waits-exactly, queue-waits-at-most, queue-waits-every, waits-third, queue-fair-west, waits-last}
 use Rattle.eremothyn.proofs.Apart.{small-granted, part-tells, minute-tells, date-tells, check-tells, place-tells, setting-tells, line-tells, owner-tells, due-tells, next-tells}
 use Rattle.eremothyn.proofs.Apart.{split-tells, stdin-tells, form-tells, tick-tells, pop-tells, list-tells, date-stays, split-stays, form-stays, tick-keeps, pop-keeps}
 
