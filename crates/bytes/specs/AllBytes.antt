@@ -3,7 +3,7 @@
 -- Assumes nothing.
 use Prim.Native.Nat.{ℕ, zero, suc}
 use mathlib.Core.Path.{_≡_}
-use mathlib.Core.Bool.{Bool, cond, _&&_}
+use mathlib.Core.Bool.{Bool, true, false, cond, _&&_}
 use mathlib.Core.List.{List, [], _∷_, _++_, map}
 use lib.Dec.{leb}
 use Rattle.bytes.specs.Sets.{fromOn, upTo}
@@ -39,9 +39,14 @@ oneOf (b ∷ s) outcome = one b outcome ∷ oneOf s outcome
 
 -- ---- all bytes
 
+-- by a test
+unfoldable pub either : {B : Type 0} → Bool → (ℕ → B) → (ℕ → B) → ℕ → B
+either true f g b = f b
+either false f g b = g b
+
 unfoldable pub outcomeOf : {B : Type 0} → List (Range B) → (ℕ → B) → ℕ → B
 outcomeOf [] other b = other b
-outcomeOf (r ∷ rs) other b = let later = outcomeOf rs other b in cond (leb (r .first) b && leb b (r .last)) (r .leads b) later
+outcomeOf (r ∷ rs) other b = either (leb (r .first) b && leb b (r .last)) (r .leads) (outcomeOf rs other) b
 
 -- the bytes that a line may be made of: newline is none of them
 unfoldable pub lineBytes : List ℕ
@@ -73,5 +78,5 @@ passingAt p s at (suc n) = bytesWhere (λ b. p (withByte s at b)) (upTo 0 255) �
 
 -- an example that tries all bytes says `unfolding trying`
 unfoldable pub trying : Unit {0}
-unfolding fromOn upTo oneOf outcomeOf lineBytes withByte bytesWhere passingAt
+unfolding fromOn upTo oneOf either outcomeOf lineBytes withByte bytesWhere passingAt
 trying = tt
