@@ -8,6 +8,7 @@ pub mod Runs
 pub mod Laid
 pub mod Sets
 pub mod LittleEndian
+pub mod AllBytes
 pub mod Marks
 pub mod Refusals
 pub mod Examples

@@ -5,3 +5,4 @@ pub mod Buffers
 pub mod Steps
 pub mod Computing
 pub mod Examples
+pub mod ByteRows

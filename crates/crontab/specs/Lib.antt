@@ -18,3 +18,4 @@ pub mod Choices
 pub mod Steps
 pub mod Computing
 pub mod Examples
+pub mod ByteRows

@@ -13,3 +13,4 @@ pub mod Members
 pub mod Written
 pub mod Computing
 pub mod Examples
+pub mod ByteRows
