@@ -1,9 +1,11 @@
 -- The bytes of each kind, all 256 tried in order; and numbers in bytes.
 -- Assumes nothing.
-use mathlib.Core.Path.{_≡_, refl}
+use mathlib.Core.Path.{_≡_, refl, ap}
 use mathlib.Core.Bool.{Bool, cond}
 use mathlib.Core.List.{List, [], _∷_, _++_}
-use Prim.Native.Nat.{ℕ}
+use Prim.Native.Nat.{ℕ, suc}
+use native.Mathlib.Omega.{arith}
+use lib.ListN.{getD}
 use Rattle.bytes.specs.Classes.{isBlank, isQuote, isAccount, isControl, ofClass}
 use Rattle.bytes.specs.declared.class.Class.the-variants.{InLine}
 use Rattle.bytes.specs.LittleEndian.{littleEndian, numberOf, width}
@@ -51,3 +53,15 @@ ofBytes = refl
 
 widths : Hold width ((0, 1) ∷ (2, 65536) ∷ (4, 4294967296) ∷ (8, 18446744073709551616) ∷ [])
 widths = refl
+
+-- ---- rows: one that is wrong is found, first or last
+
+wrong-rows :
+    (Hold suc ((0, 2) ∷ (1, 2) ∷ []) → ⊥)
+    × (Hold suc ((0, 1) ∷ (1, 3) ∷ []) → ⊥)
+    × (Hold suc ((0, 1) ∷ (1, 2) ∷ (2, 0) ∷ []) → ⊥)
+wrong-rows = (
+  (λ e. omega (arith, ap (λ (l : List ℕ). getD l 0 0) e)),
+  (λ e. omega (arith, ap (λ (l : List ℕ). getD l 1 0) e)),
+  (λ e. omega (arith, ap (λ (l : List ℕ). getD l 2 0) e)),
+)

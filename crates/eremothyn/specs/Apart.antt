@@ -2,11 +2,12 @@
 -- true of an answer exactly when the call is refused, whatever it was lent. "A refused call changes nothing that it is lent." Both are proved in
 -- proofs/Theorems.
 -- Assumes nothing.
-use mathlib.Core.Path.{_≡_}
+use mathlib.Core.Path.{_≡_, ap}
+use native.Mathlib.Omega.{arith}
 use Prim.Native.Nat.{ℕ, zero, suc, _+_, _≤_, _<_}
-use mathlib.Core.List.{List}
+use mathlib.Core.List.{List, [], _∷_}
 use mathlib.Core.Bool.{true, false}
-use lib.ListN.{length}
+use lib.ListN.{length, getD}
 use Rattle.calendar.specs.Dates.{dateOf, minuteOf}
 use Rattle.field.specs.declared.Dialect.{Dialect}
 use Rattle.crontab.specs.declared.Rules.{Rules}
@@ -176,3 +177,28 @@ pub record RefusedStays : Type 0 where
       → let s = firingsIn (tableOf rules table) i a b run in Kept (s .answer) run (s .run)
   pub merged-firings : (rules : Rules) (table : List ℕ) (a b : ℕ) (minutes entries : List ℕ)
       → let s = mergedIn (tableOf rules table) a b minutes entries in Kept (s .answer) minutes (s .minutes) × Kept (s .answer) entries (s .entries)
+
+-- ---- what the claims are made of: each is refused where it doesn't hold
+
+not-told :
+    (Tells granted 4294967297 → ⊥)
+    × (Tells (refused 14) 14 → ⊥)
+    × (Tells (refused 14) 4294967311 → ⊥)
+    × (Tells (refused 0) 4294967296 → ⊥)
+    × (Tells (refused 256) 4294967552 → ⊥)
+    × (TellsFilled (list.All 7) 8589934599 → ⊥)
+    × (TellsFilled (list.More 7) 7 → ⊥)
+    × (TellsFilled (list.More 7) 12884901888 → ⊥)
+not-told = (
+  (λ t. omega (arith, t .1)),
+  (λ t. omega (arith, t .1)),
+  (λ t. omega (arith, t .1)),
+  (λ t. omega (arith, t .2 .0)),
+  (λ t. omega (arith, t .2 .1)),
+  (λ t. omega (arith, t .1)),
+  (λ t. omega (arith, t .1)),
+  (λ t. omega (arith, t .2)),
+)
+
+not-stays : Stays (refused 14) (1 ∷ 2 ∷ []) (1 ∷ 3 ∷ []) → ⊥
+not-stays e = omega (arith, ap (λ (l : List ℕ). getD l 1 0) e)

@@ -1,9 +1,12 @@
 -- Worked examples of ticket 2026-12, checked by computing: rows of what is asked and what comes back, with the numbers that the runs hold.
 -- A run holds 1, 2, 3 and so on at first, so that one sees what stays.
 -- Assumes nothing.
-use mathlib.Core.Path.{refl}
-use mathlib.Core.List.{List, [], _∷_}
-use Prim.Native.Nat.{ℕ}
+use mathlib.Core.Path.{refl, ap}
+use mathlib.Core.Logic.{inl, inr}
+use mathlib.Core.List.{List, [], _∷_, _++_}
+use Prim.Native.Nat.{ℕ, zero, suc, _≤_, _<_}
+use native.Mathlib.Omega.{arith}
+use lib.ListN.{getD}
 use Rattle.bytes.specs.Texts.{text}
 use Rattle.bytes.specs.Rows.{Hold}
 use Rattle.field.specs.declared.Dialect.the-variants.{Rising}
@@ -12,8 +15,14 @@ use Rattle.crontab.specs.declared.table.Table.{Table}
 use Rattle.crontab.specs.Tables.{tableOf}
 use Rattle.firings.specs.declared.Filled.{Filled}
 use Rattle.firings.specs.declared.Filled.the-variants.{All, More, Refused}
-use Rattle.firings.specs.Calls.{EntryStep, MergedStep, firingsIn, mergedIn}
+use Rattle.firings.specs.Lists.{Firing}
+use Rattle.firings.specs.Calls.{EntryStep, MergedStep, minutesOf, entriesOf, firingsIn, mergedIn}
+use Rattle.firings.specs.Rising.{Among, Rises, Earlier, Exactly, Few, Kept, FirstOf}
 use Rattle.firings.specs.Computing.{listing}
+
+unfoldable repeated : ℕ → List ℕ → List ℕ
+repeated zero s = []
+repeated (suc n) s = s ++ repeated n s
 
 abbrev tableIn : List ℕ → Table
 tableIn s = tableOf (record { kind = User; dialect = Rising }) s
@@ -121,3 +130,66 @@ of-other-tables = refl
 no-entries : Hold (λ (s : List ℕ). merged s (0, 3, four, four)) ((text "A=b\n", (All 0, four, four)) ∷ (text "@reboot x\n", (All 0, four, four)) ∷ [])
 unfolding listing
 no-entries = refl
+
+-- Of 300 entries, the last two at minutes past 16 bits: `* * * * *` and `0 * * * *`, at 18:00 of day 46, minute 67,320, and a minute before it.
+abbrev many : List ℕ
+many = repeated 298 (text "@reboot x\n") ++ text "* * * * * y\n0 * * * * z\n"
+
+of-many : Hold (merged many) (((67318, 67320, four, four), (All 3, 67319 ∷ 67320 ∷ 67320 ∷ 4 ∷ [], 298 ∷ 298 ∷ 299 ∷ 4 ∷ [])) ∷ [])
+unfolding listing repeated
+of-many = refl
+
+-- ---- what the claims are made of: each is refused where it doesn't hold
+
+abbrev two : List Firing
+two = record { minute = 5; entry = 1 } ∷ record { minute = 6; entry = 0 } ∷ []
+
+not-first :
+    (FirstOf two 1 (6 ∷ []) (1 ∷ []) → ⊥)
+    × (FirstOf two 1 (5 ∷ []) (0 ∷ []) → ⊥)
+    × (FirstOf two 2 (5 ∷ 5 ∷ []) (1 ∷ 0 ∷ []) → ⊥)
+    × (FirstOf two 3 (5 ∷ 6 ∷ 7 ∷ []) (1 ∷ 0 ∷ 0 ∷ []) → ⊥)
+unfolding minutesOf entriesOf
+not-first = (
+  (λ f. omega (arith, ap (λ (l : List ℕ). getD l 0 0) (f .minutes-are))),
+  (λ f. omega (arith, ap (λ (l : List ℕ). getD l 0 0) (f .entries-are))),
+  (λ f. omega (arith, ap (λ (l : List ℕ). getD l 1 0) (f .minutes-are))),
+  (λ f. omega (arith, f .few)),
+)
+
+not-rising :
+    (Rises (λ x y. x < y) (1 ∷ 1 ∷ []) → ⊥)
+    × (Rises (λ x y. x < y) (1 ∷ 3 ∷ 2 ∷ []) → ⊥)
+    × (Rises (λ x y. x < y) (3 ∷ 4 ∷ 2 ∷ []) → ⊥)
+not-rising = (
+  (λ r. omega (arith, r .0 1 (inl refl))),
+  (λ r. omega (arith, r .1 .0 2 (inl refl))),
+  (λ r. omega (arith, r .0 2 (inr (inl refl)))),
+)
+
+-- by minute, and then by entry
+not-earlier :
+    (Earlier (record { minute = 5; entry = 1 }) (record { minute = 5; entry = 1 }) → ⊥)
+    × (Earlier (record { minute = 5; entry = 1 }) (record { minute = 5; entry = 0 }) → ⊥)
+    × (Earlier (record { minute = 6; entry = 0 }) (record { minute = 5; entry = 1 }) → ⊥)
+not-earlier = (
+  (λ x. elim x [ inl h ↦ omega arith | inr h ↦ omega (arith, h .1) ]),
+  (λ x. elim x [ inl h ↦ omega arith | inr h ↦ omega (arith, h .1) ]),
+  (λ x. elim x [ inl h ↦ omega arith | inr h ↦ omega (arith, h .0) ]),
+)
+
+-- both ways
+not-exactly : (Exactly (1 ≤ 1) (2 ≤ 1) → ⊥) × (Exactly (2 ≤ 1) (1 ≤ 1) → ⊥)
+not-exactly = ((λ e. omega (arith, e .0 (omega arith))), (λ e. omega (arith, e .1 (omega arith))))
+
+not-among : (Among {A = ℕ} 3 (1 ∷ 2 ∷ []) → ⊥) × (Among {A = ℕ} 1 [] → ⊥)
+not-among = ((λ m. elim m [ inl e ↦ omega (arith, e) | inr n ↦ elim n [ inl e ↦ omega (arith, e) | inr z ↦ z ] ]), (λ m. m))
+
+not-kept : (Kept (Refused 14) (1 ∷ 2 ∷ []) (1 ∷ 3 ∷ []) → ⊥) × (Few (Refused 0) → ⊥) × (Few (Refused 256) → ⊥) × (Few (All 4294967296) → ⊥) × (Few (More 4294967296) → ⊥)
+not-kept = (
+  (λ e. omega (arith, ap (λ (l : List ℕ). getD l 1 0) e)),
+  (λ h. omega (arith, h .0)),
+  (λ h. omega (arith, h .1)),
+  (λ h. omega arith),
+  (λ h. omega arith),
+)
