@@ -6,7 +6,9 @@ use Prim.Native.Nat.{ℕ}
 use Rattle.schedule.specs.Local.{ahead, nextAfterIn}
 use Rattle.schedule.specs.Clocks.{clockAfterIn}
 use Rattle.schedule.proofs.Theorems.{slow-agrees}
+use Rattle.field.specs.declared.Dialect.the-variants.{Wrapping}
 use Rattle.crontab.specs.declared.Rules.{Rules}
+use Rattle.crontab.specs.declared.Kind.the-variants.{System}
 use Rattle.crontab.specs.declared.time.When.{When}
 use Rattle.crontab.specs.declared.time.When.the-variants.{Reboot, Timed}
 use Rattle.crontab.specs.declared.entry.Entry.{Entry}
@@ -35,3 +37,8 @@ next-by-clock rules table e m = go (entryIn (tableOf rules table) e)
     go : (a : EntryAnswer) → nextAnswer a m ≡ clockAnswer a m
     go (answer.Found e) = entry-by-clock e m
     go (answer.Refused number) = refl
+
+-- used for entry 511 of a system table in the second dialect, from the calendar's first minute
+pub clock-used : (table : List ℕ)
+    → let t = tableOf (record { kind = System; dialect = Wrapping }) table in nextIn t 511 0 ≡ clockIn t 511 0
+clock-used table = next-by-clock (record { kind = System; dialect = Wrapping }) table 511 0

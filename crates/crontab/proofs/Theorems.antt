@@ -13,7 +13,8 @@
 --   zoned-is, setting-says: what a setting says of the offset, by its shown name and value; one that is read may stand
 --   due-told, next-told: what is said of an entry, refused or not
 --   next-in-gap: a next firing that is told is at most 21,036,960 minutes ahead
---   next-by-clock: a next firing, refused or not, is what the slow engine of ticket 2026-07 says, minute by minute under the entry's offset
+--   next-by-clock: a next firing, refused or not, is what the slow engine of ticket 2026-07 says, minute by minute under the entry's offset;
+--     clock-used: used for entry 511
 -- Ticket 2026-13, each sentence with its theorem. "Refusal 7 is never given in this dialect":
 --   never-reversed, verdict-never-reversed: never for a table in the second dialect, whatever its bytes
 -- "In the first dialect nothing changes":
@@ -71,7 +72,7 @@ use Rattle.crontab.specs.Firings.{byWhen, firesAt, dueOf, told, nextOf, 
 pub use Rattle.crontab.proofs.LineViews.{Inside}
 use Rattle.crontab.proofs.Sound.{Sound, SoundItems, items-sound}
 pub use Rattle.crontab.proofs.Gap.{next-in-gap}
-pub use Rattle.crontab.proofs.Clocks.{next-by-clock}
+pub use Rattle.crontab.proofs.Clocks.{next-by-clock, clock-used}
 pub use Rattle.crontab.proofs.Cuts.{cut-refused}
 pub use Rattle.crontab.proofs.Owners.{ShownAt, OwnerJudged, owner-judged, owner-named}
 pub use Rattle.crontab.proofs.Reversed.{never-reversed, verdict-never-reversed}

@@ -11,6 +11,7 @@ use Rattle.records.specs.Formats.{recordOf}
 use Rattle.records.specs.Readings.{Records, Content, skipped, refused, means, contentOf, skippedFrom, isSkipped, split, Said, afterRecord, saidFrom, saidOf, faultSaid}
 use Rattle.records.specs.Readings as said
 use Rattle.records.specs.Calls.{recordFault}
+use Rattle.records.specs.Computing.{coding}
 use Rattle.records.specs.Writers.{Record, Framed, All, bytesOf, kept, skippedIn, NotBad, NoneBad}
 use Rattle.records.proofs.Saids.{said-record, skipped-content}
 
@@ -116,3 +117,32 @@ fault-lowered rs tail f = go (lowered 1 1 rs tail f)
     go : {a b : ℕ} → Lowered 1 1 rs a b → b + skippedIn (take (a - 1) rs) ≡ a
     go (none p q) = rw (p, q)
     go (lower h e) = omega (arith, e)
+
+-- used for two records of skipped kinds, the first and the last of those, before a record that is cut short: its number is 3, and 1 where they are taken out
+abbrev two : List Record
+two = record { kind = 32768; body = [] } ∷ record { kind = 65535; body = 7 ∷ [] } ∷ []
+
+two-framed : All Framed two
+two-framed = (record { kind = omega arith; body = omega arith }, (record { kind = omega arith; body = omega arith }, tt))
+
+two-fault : (recordFault (bytesOf two ++ (5 ∷ [])) ≡ 3) × (skippedIn (take 2 two) ≡ 2)
+unfolding coding bytesOf skippedIn
+two-fault = (refl, refl)
+
+pub lowered-two : recordFault (bytesOf (kept two) ++ (5 ∷ [])) ≡ 1
+lowered-two = let e = rw (two-fault .0, two-fault .1) at (fault-lowered two (5 ∷ []) two-framed) in omega (arith, e)
+
+-- a skipped record and a good one, `@reboot x`: none is bad; with one of kind 5, or a byte more, one is
+abbrev mixed : List ℕ
+mixed = 2 ∷ 0 ∷ 0 ∷ 128 ∷ 3 ∷ 0 ∷ 2 ∷ 0 ∷ 120 ∷ []
+
+pub none-bad-mixed :
+    NoneBad (split mixed)
+    × (NoneBad (split (mixed ++ 2 ∷ 0 ∷ 5 ∷ 0 ∷ [])) → ⊥)
+    × (NoneBad (split (mixed ++ 2 ∷ [])) → ⊥)
+unfolding coding
+none-bad-mixed = (
+  fault-none mixed .0 refl,
+  (λ b. let e : recordFault (mixed ++ 2 ∷ 0 ∷ 5 ∷ 0 ∷ []) ≡ 0 = fault-none (mixed ++ 2 ∷ 0 ∷ 5 ∷ 0 ∷ []) .1 b in omega (arith, e)),
+  (λ b. let e : recordFault (mixed ++ 2 ∷ []) ≡ 0 = fault-none (mixed ++ 2 ∷ []) .1 b in omega (arith, e)),
+)

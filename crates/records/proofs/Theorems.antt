@@ -5,7 +5,7 @@
 --   later-writer: a later writer's entries and settings are shown, all of them, in order and with their meaning, or the records are refused
 --   skipped-kinds: records of skipped kinds, taken out or put in, change at most a refusal's line
 --   fault-none: the number of the first bad record is 0 exactly where none is bad
---   fault-lowered: taking them out lowers that number by as many as were taken out before it
+--   fault-lowered: taking them out lowers that number by as many as were taken out before it; none-bad-mixed, lowered-two: both used
 --   equal-records: tables that mean the same have the same records
 --   decompile-written: and they are read where the text has room
 --   compiled-told, decompiled-told, fault-told: a refused call changes no byte, and any call keeps the buffer's length; a bad record is one of them
@@ -42,7 +42,7 @@ use Rattle.records.specs.Calls.{compiled, textOf, decompiled, recordFaul
 use Rattle.records.specs.Writers.{LineMeans, Record, longestBody, Framed, All, bytesOf, kept, Sent, asRecords, Writer, itemsSent, ChangesNone}
 use Rattle.records.proofs.Means.{no-line, no-line-back}
 use Rattle.records.proofs.Decompiling.{said-sound, refusal-small, fault-near}
-pub use Rattle.records.proofs.Faults.{fault-none, fault-lowered}
+pub use Rattle.records.proofs.Faults.{fault-none, fault-lowered, lowered-two, none-bad-mixed}
 use Rattle.records.proofs.Saids.{Alike, kept-alike, sent-said, Says, Sendable, items-said}
 
 -- ---- 24

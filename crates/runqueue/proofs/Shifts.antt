@@ -3,6 +3,7 @@
 use mathlib.Core.Path.{_≡_}
 use mathlib.Core.Logic.{_↔_}
 use mathlib.Core.Bool.{Bool, true, false, cond}
+use mathlib.Core.List.{List}
 use Prim.Native.Nat.{ℕ, _+_, _-_}
 use native.Mathlib.Omega.{arith}
 use lib.Dec.{eqb, ltb}
@@ -13,6 +14,9 @@ use Rattle.schedule.specs.declared.Next.{Next}
 use Rattle.schedule.specs.declared.Next.the-variants as next
 use Rattle.schedule.specs.Local.{ahead, nextAfterIn}
 use Rattle.schedule.proofs.Theorems.{next-shifts-in}
+use Rattle.field.specs.declared.Dialect.the-variants.{Wrapping}
+use Rattle.crontab.specs.declared.Rules.{Rules}
+use Rattle.crontab.specs.declared.Kind.the-variants.{System}
 use Rattle.crontab.specs.declared.time.When.{When}
 use Rattle.crontab.specs.declared.time.When.the-variants.{Reboot, Timed}
 use Rattle.crontab.specs.declared.entry.Entry.{Entry}
@@ -23,7 +27,8 @@ use Rattle.crontab.specs.declared.firing.NextAnswer.the-variants.{At, Refused}
 use Rattle.crontab.specs.Tables.{tableOf, entryIn, blankEntry}
 use Rattle.crontab.specs.Firings.{byWhen, told, nextOf, nextAnswer, nextIn}
 use Rattle.runqueue.specs.Jobs.{jobAt}
-use Rattle.runqueue.specs.Chain.{OnBoth, NextShifts, AnswerShifts}
+use Rattle.runqueue.specs.Demand.{aheadOf}
+use Rattle.runqueue.specs.Chain.{OnBoth, Shifting, NextShifts, AnswerShifts}
 use Rattle.runqueue.proofs.Chains.{link-at}
 
 -- what is told is a firing, and the other way
@@ -91,3 +96,11 @@ next-shifts rules table e m n n' s p q =
     in
     let same : n ≡ n' - cycleMinutes = cc in
     omega arith
+
+-- used for entry 511 of a system table in the second dialect: an answer a whole gap on is shifted as any other
+pub shifts-last : (table : List ℕ) (m n' : ℕ)
+    → let rules : Rules = record { kind = System; dialect = Wrapping } in
+    let t = tableOf rules table in
+    Shifting (aheadOf rules table 511) m (m + 21036960) n' → nextIn t 511 m ≡ At (m + 21036960) → nextIn t 511 (m + cycleMinutes) ≡ At n' → n' ≡ m + 231416640
+shifts-last table m n' s p q =
+    let e = next-shifts (record { kind = System; dialect = Wrapping }) table 511 m (m + 21036960) n' s p q in omega (arith, e)

@@ -1,16 +1,24 @@
 -- The third demand holds, and a queued entry waits no longer than its turn: fifo's theorems, by table bytes. The claims are in specs/Demand and specs/Waits.
 -- Assumes nothing.
-use Prim.Native.Nat.{ℕ, _+_, _*_, _≤_, _<_}
-use mathlib.Core.List.{List}
+use Prim.Native.Nat.{ℕ, _+_, _-_, _*_, _≤_, _<_}
+use mathlib.Core.List.{List, _∷_}
+use mathlib.Core.Path.{_≡_, subst}
+use mathlib.Core.Bool.{true, false}
 use native.Mathlib.Nat.{mul-le-mul-right}
 use native.Mathlib.Omega.{arith}
 use Rattle.schedule.specs.Local.{gapIn}
+use Rattle.field.specs.declared.Dialect.the-variants.{Wrapping}
 use Rattle.crontab.specs.declared.Rules.{Rules}
-use Rattle.fifo.specs.Fairness.{unrefused}
+use Rattle.crontab.specs.declared.Kind.the-variants.{System}
+use Rattle.fifo.specs.WaitingLine.{Line, proper}
+use Rattle.fifo.specs.Steps.{calls}
+use Rattle.fifo.specs.Fairness.{Call, tick, isRefused, unrefused, Follows, upTo, Names}
+use Rattle.fifo.specs.FairEvery.{PacedEvery}
+use Rattle.fifo.specs.Waits.{requests, upToRequest}
 use Rattle.fifo.proofs.Theorems.{fair-from, fair, refused-only, fair-in-buffer, fair-steady}
 use Rattle.fifo.proofs.Theorems.{paced-some, fair-every-from, fair-every, waits-exactly, waits-at-most, waits-every, called-waits, called-every}
 use Rattle.runqueue.specs.Jobs.{jobsOf}
-use Rattle.runqueue.specs.Demand.{jobsIn, TableFair, TableFairFrom, TableRefusedOnly, TableFairInBuffer, TableFairSteady, aheadOf, hold, OnCalendar}
+use Rattle.runqueue.specs.Demand.{jobsIn, CanFire, TableFair, TableFairFrom, TableRefusedOnly, TableFairInBuffer, TableFairSteady, aheadOf, hold, OnCalendar}
 use Rattle.runqueue.specs.Demand.{boundEveryFrom, OnCalendarEvery, TableFairEvery, TableFairEveryFrom}
 use Rattle.runqueue.specs.Waits.{TableWaitsExactly, TableWaitsAtMost, TableWaitsEvery, TableCalledWaits, TableCalledEvery}
 use Rattle.runqueue.proofs.TableJobs.{soon, few}
@@ -78,3 +86,31 @@ table-waits-every rules table k e p m l cs = waits-every (jobsIn rules table) k 
 pub table-called-every : TableCalledEvery
 table-called-every rules table k e minute l room second good below timed called =
     called-every (jobsIn rules table) k e minute l room second (few rules table) below timed called good
+
+-- ---- used for the last of 512 entries of a system table in the second dialect, with a request a day
+
+abbrev system : Rules
+system = record { kind = System; dialect = Wrapping }
+
+pub fair-last : (table : List ℕ) (l : Line) (second : List Call)
+    → let jobs = jobsIn system table in
+    jobs .count ≡ 512 → CanFire system table 511 → proper (jobs .count) l ≡ true → Follows jobs l second → OnCalendarEvery system table 1440 511 0
+    → let n = boundEveryFrom system table 1440 511 0 in
+    PacedEvery 1440 1 n 0 (unrefused jobs second) → Names jobs 511 (upTo n (unrefused jobs second))
+fair-last table l second all = table-fair-every-from system table 1440 511 0 l second
+
+-- whom minute 0 calls, beside the queue's mark
+pub called-last : (table : List ℕ) (l : Line) (room : List ℕ) (cs : List Call)
+    → let jobs = jobsIn system table in
+    jobs .count ≡ 512 → jobs .boot 511 ≡ false → calls jobs (l .mark) 0 511 ≡ true
+    → proper (jobs .count) l ≡ true → Follows jobs l (tick 0 room ∷ cs) → isRefused jobs (tick 0 room) ≡ false
+    → (512 ≤ requests (unrefused jobs cs) → Names jobs 511 (upToRequest 512 (unrefused jobs cs)))
+    × (PacedEvery 1440 1 737279 1 (unrefused jobs cs) → Names jobs 511 (upTo 737279 (unrefused jobs cs)))
+called-last table l room cs all timed called good follows taken =
+    let jobs = jobsIn system table in
+    let taking = unrefused jobs cs in (
+      subst (λ (n : ℕ). n ≤ requests taking → Names jobs 511 (upToRequest n taking)) all
+          (table-called-waits system table 511 0 l room cs good (omega (arith, all)) timed called follows taken),
+      subst (λ (n : ℕ). PacedEvery 1440 1 (1440 * n - 1) 1 taking → Names jobs 511 (upTo (1440 * n - 1) taking)) all
+          (table-called-every system table 1440 511 0 l room cs good (omega (arith, all)) timed called follows taken),
+    )

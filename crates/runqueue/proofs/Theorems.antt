@@ -4,6 +4,7 @@
 --   table-waits-exactly, table-waits-at-most: an entry at place p is named by request p + 1, and by no earlier one; so by the N-th at the latest
 --   table-waits-every: it is named within k * (p + 1) - 1 minutes more, where requests come every k announcements
 --   table-called-waits, table-called-every: an entry that an announcement calls is named by the N-th request, and within k * N - 1 minutes more
+--   fair-last, called-last: used for the last of 512 entries of a system table in the second dialect, with a request a day
 --   table-refused-only: a call is refused only for too little room or for a minute off the calendar
 --   hold-reached: a case in which the demand's bound is met exactly
 --   demand-ends: its last minute may be the last of the calendar, in UTC and locally
@@ -15,7 +16,7 @@
 --   chain-is-ticks: "as announcements one by one would find on a line with no mark at first and emptied before each"
 --   next-shifts: "shifting a start by 210,379,680 minutes shifts the answer by the same number, provided the start, the shifted start, both
 --     answers and, under an offset, their local minutes are on the calendar"; answer-shifts: the one start has its answer just where the
---     other has it
+--     other has it; shifts-last: used for entry 511
 --   chain-goes-on: the same on a line whose mark is the start
 --   fresh-unmarked, shift-met, shift-reaches, both-ends, both-starts: their hypotheses can be met; mark-needed, shift-fails: and are needed
 --   table-steps, table-steps-good, table-due: the claims speak of what the functions promise
@@ -51,12 +52,12 @@ use Rattle.runqueue.specs.Demand.{jobsIn, TableDue, TableSteps, TableSte
 use Rattle.runqueue.proofs.Exits.{init-good, tick-good, pop-good}
 use Rattle.runqueue.proofs.Exits as exits
 pub use Rattle.runqueue.proofs.TableFair.{table-fair, table-fair-from, table-refused-only, table-fair-in-buffer, table-fair-steady}
-pub use Rattle.runqueue.proofs.TableFair.{table-fair-every, table-fair-every-from, table-waits-exactly, table-waits-at-most, table-waits-every, table-called-waits, table-called-every}
+pub use Rattle.runqueue.proofs.TableFair.{table-fair-every, table-fair-every-from, table-waits-exactly, table-waits-at-most, table-waits-every, table-called-waits, table-called-every, fair-last, called-last}
 pub use Rattle.runqueue.proofs.Reached.{hold-reached, demand-ends, demand-begins, every-ends}
 pub use Rattle.runqueue.proofs.TableJobs.{few, matching-can-fire, due-can-fire}
 pub use Rattle.runqueue.proofs.Chains.{chain-is-due}
 pub use Rattle.runqueue.proofs.ChainTicks.{chain-is-ticks, chain-goes-on}
-pub use Rattle.runqueue.proofs.Shifts.{next-shifts, answer-shifts}
+pub use Rattle.runqueue.proofs.Shifts.{next-shifts, answer-shifts, shifts-last}
 pub use Rattle.runqueue.proofs.ChainCases.{fresh-unmarked, mark-needed, shift-met, shift-reaches, both-ends, both-starts, shift-fails}
 
 -- a table that has an entry isn't refused
