@@ -1,5 +1,5 @@
--- Every decision that a line's next byte makes, over all 256 bytes, in both kinds of tables and in both dialects; the lists of words and of
--- refusals whole; and lines that are almost of their form, or just too long. In the texts of comments `B` is the byte.
+-- Every decision that a line's next byte makes, over all 256 bytes; the lists of words and of refusals whole; and lines that are almost of
+-- their form, or just too long. In the comments `B` is the byte.
 -- Assumes nothing.
 use Prim.Native.Nat.{ℕ, _+_, _-_, _*_}
 use mathlib.Core.Path.{_≡_, refl}
@@ -20,27 +20,30 @@ use Rattle.crontab.specs.declared.line.Line.{Line}
 use Rattle.crontab.specs.declared.line.Line.the-variants.{Ignored, Setting, Entry, Refused}
 use Rattle.crontab.specs.declared.offset.Zone.the-variants.{Same, Offset}
 use Rattle.crontab.specs.Refusals.{tableTooLong, lineTooLong, nulByte, tooFewFields, noCommand, unknownWord, badSetting, tooManyEntries, noSuchEntry, atBootOnly, noSetting, badUser, badOffset, cutTable, controlByte}
-use Rattle.crontab.specs.Words.{Named, meanings}
+use Rattle.crontab.specs.declared.word.Word.{Word}
+use Rattle.crontab.specs.declared.word.Word.the-variants.{Known, Unknown}
+use Rattle.crontab.specs.Words.{Named, meanings, wordOf}
 use Rattle.crontab.specs.Lines.{readLine}
 use Rattle.crontab.specs.Tables.{tableOf}
 use Rattle.crontab.specs.Computing.{reading}
 
--- ---- a line in a user's table and in a system's, each in the first dialect and in the second
+-- ---- a line in a user's table in the first dialect, and in a system's in the second
+
+abbrev inFirst : Rules
+inFirst = record { kind = User; dialect = Rising }
+
+abbrev inSecond : Rules
+inSecond = record { kind = System; dialect = Wrapping }
 
 abbrev lines : List ℕ → List Line
-lines s =
-    readLine (record { kind = User; dialect = Rising }) s
-    ∷ readLine (record { kind = User; dialect = Wrapping }) s
-    ∷ readLine (record { kind = System; dialect = Rising }) s
-    ∷ readLine (record { kind = System; dialect = Wrapping }) s
-    ∷ []
+lines s = readLine inFirst s ∷ readLine inSecond s ∷ []
 
--- the same in all four, or by the kind
+-- the same in both, or by the kind
 abbrev always : Line → List Line
-always l = l ∷ l ∷ l ∷ l ∷ []
+always l = l ∷ l ∷ []
 
 abbrev byTable : Line → Line → List Line
-byTable user system = user ∷ user ∷ system ∷ system ∷ []
+byTable user system = user ∷ system ∷ []
 
 abbrev refused : ℕ → ℕ → Line
 refused number column = Refused (record { number = number; column = column })
@@ -396,36 +399,20 @@ word-list : map (λ (n : Named). n .word) meanings
 unfolding meanings
 word-list = refl
 
-abbrev isRead : Line → Bool
-isRead Ignored = true
-isRead (Setting name value z) = true
-isRead (Entry when start) = true
-isRead (Refused fault) = false
-
--- for each letter of a word, the bytes that make an entry in its place: the letter itself alone
-abbrev letters : ℕ × List ℕ → List (List ℕ)
-letters (n, word) = passingAt (λ s. isRead (readLine (record { kind = User; dialect = Rising }) (64 ∷ s ++ text " x"))) word 0 n
+abbrev isKnown : Word → Bool
+isKnown (Known when) = true
+isKnown Unknown = false
 
 abbrev itself : List ℕ → List (List ℕ)
 itself s = map (λ b. b ∷ []) s
 
-word-letters : Hold letters
-    (((6, text "reboot"), itself (text "reboot"))
-    ∷ ((6, text "yearly"), itself (text "yearly"))
-    ∷ ((8, text "annually"), itself (text "annually"))
-    ∷ ((7, text "monthly"), itself (text "monthly"))
-    ∷ [])
+-- for each byte of a word, the bytes that make a word in its place: itself alone
+abbrev letters : ℕ × List ℕ → List (List ℕ)
+letters (n, word) = passingAt (λ s. isKnown (wordOf s)) word 0 n
+
+word-letters : Hold letters (((7, text "@reboot"), itself (text "@reboot")) ∷ ((6, text "@daily"), itself (text "@daily")) ∷ [])
 unfolding trying reading
 word-letters = refl
-
-word-letters-more : Hold letters
-    (((6, text "weekly"), itself (text "weekly"))
-    ∷ ((5, text "daily"), itself (text "daily"))
-    ∷ ((8, text "midnight"), itself (text "midnight"))
-    ∷ ((6, text "hourly"), itself (text "hourly"))
-    ∷ [])
-unfolding trying reading
-word-letters-more = refl
 
 -- a byte more, a byte less, other cases, and words of other crons
 no-words : Hold lines
@@ -449,7 +436,7 @@ isOffset (Setting name value Same) = false
 isOffset (Setting name value (Offset minutes)) = true
 isOffset (Refused fault) = false
 
-zone-letters : passingAt (λ s. isOffset (readLine (record { kind = User; dialect = Rising }) (s ++ text "=+01:00"))) (text "CRON_TZ") 0 7
+zone-letters : passingAt (λ s. isOffset (readLine inFirst (s ++ text "=+01:00"))) (text "CRON_TZ") 0 7
     ≡ itself (text "CRON_TZ")
 unfolding trying reading
 zone-letters = refl
@@ -480,7 +467,7 @@ other-names = refl
 
 -- the refusal, its line and column, and the count of entries
 abbrev fault : List ℕ → List ℕ
-fault s = let t = tableOf (record { kind = User; dialect = Rising }) s in t .refusal ∷ t .line ∷ t .column ∷ t .count ∷ []
+fault s = let t = tableOf inFirst s in t .refusal ∷ t .line ∷ t .column ∷ t .count ∷ []
 
 between-lines : Lead (λ b. fault (text "@reboot x" ++ b ∷ text "@reboot y\n"))
     (one 0 (3 ∷ 1 ∷ 10 ∷ 0 ∷ [])
