@@ -11,7 +11,7 @@
 --   queue-waits-exactly: the entry that a look finds at place p is the answer of request p + 1, and of no earlier one; queue-waits-at-most: so by the N-th;
 --     queue-waits-every: and within k * (p + 1) - 1 minutes, where requests come every k announcements; waits-third: used at the last place of three;
 --     waits-last: at the last place of 512
---   next-near: a next firing is at most 21,036,960 minutes ahead, whatever the table, the entry and the minute
+--   next-near: a next firing is at most 21,036,960 minutes ahead, whatever the table, the entry and the minute; next-near-first: used from minute 0
 --   told-apart: EREMOTHYN_IS_REFUSED is true of an answer exactly when the call was refused, and the refusal's number is what is left
 --   refused-stays: and then no byte and no number was changed
 -- Assumes nothing.
@@ -175,6 +175,10 @@ next-near table kind dialect entry minute = go (nextIn t entry minute) refl (nex
     go : (a : NextAnswer) → nextIn t entry minute ≡ a → NextTold a → isRefused (nextNumber a) ≡ false → nextNumber a ≤ minute + 21036960
     go (next.At n) e h q = next-in-gap t entry minute n e
     go (next.Refused number) e h q = absurd (true≢false (sym (next-tells (next.Refused number) h .0) ∙ q))
+
+-- used for entry 511 of a system table in the second dialect, from minute 0, which is before 1970 locally to the west
+pub next-near-first : (table : List ℕ) → let answer = nextCall table 1 1 511 0 in isRefused answer ≡ false → answer ≤ 21036960
+next-near-first table granted = next-near table 1 1 511 0 granted
 
 answer-other : (refusal count : ℕ) → (refusal ≡ 7 → ⊥) → count ≤ maxEntries → answerOf refusal count ≡ 4294967303 → ⊥
 unfolding answerOf
