@@ -11,11 +11,11 @@
 --   queue-waits-exactly: the entry that a look finds at place p is the answer of request p + 1, and of no earlier one; queue-waits-at-most: so by the N-th;
 --     queue-waits-every: and within k * (p + 1) - 1 minutes, where requests come every k announcements; waits-third: used at the last place of three;
 --     waits-last: at the last place of 512
---   next-near: a next firing is at most 21,036,960 minutes ahead, whatever the table, the entry and the minute
---   told-apart: EREMOTHYN_IS_REFUSED is true of an answer exactly when the call was refused, and the refusal's number is what is left
+--   next-near: a next firing is at most 21,036,960 minutes ahead, whatever the table, the entry and the minute; next-near-first: used from minute 0
+--   told-apart: EREMOTHYN_IS_REFUSED is true of an answer exactly when the call was refused, and the refusal's number is what is left; granted-told: used
 --   refused-stays: and then no byte and no number was changed
 -- Assumes nothing.
-use mathlib.Core.Path.{_≡_, refl, sym, ap, _∙_}
+use mathlib.Core.Path.{_≡_, refl, sym, ap, subst, _∙_}
 use mathlib.Core.Bool.{false, true≢false}
 use mathlib.Core.List.{List}
 use Prim.Native.Nat.{ℕ, zero, suc, _+_, _-_, _≤_}
@@ -57,18 +57,21 @@ use Rattle.runqueue.specs.Calls.{initTable, tickTable, popTable, entryTable}
 use Rattle.reload.specs.Calls.{reloadTables}
 use Rattle.reload.proofs.Theorems.{reload-told, reload-stays}
 use Rattle.runqueue.proofs.Theorems.{init-told, tick-told, pop-told, entry-told, init-stays, tick-stays, pop-stays}
+use Rattle.firings.specs.declared.Filled.{Filled}
+use Rattle.firings.specs.declared.Filled.the-variants as list
 use Rattle.firings.specs.Calls.{firingsIn, mergedIn}
 use Rattle.firings.proofs.Theorems.{firings-few, firings-kept, merged-few, merged-kept}
 use Rattle.crontab.specs.Computing.{reading}
 use Rattle.command.specs.Computing.{splitting}
 use Rattle.eremothyn.specs.Rules.{rulesOf}
 use Rattle.eremothyn.specs.Answer.{answerOf, isRefused}
-use Rattle.eremothyn.specs.Calls.{nextCall}
+use Rattle.eremothyn.specs.Calls.{checkCall, nextCall}
+use Rattle.eremothyn.specs.Lists.{filledNumber}
 use Rattle.eremothyn.specs.Tables.{checkNumber}
 use Rattle.eremothyn.specs.declared.entries.Place.the-variants.{CommandOffset, CommandLength}
 use Rattle.eremothyn.specs.Entries.{nextNumber, placeNumber}
 use Rattle.eremothyn.specs.KnownDays.{KnownDays}
-use Rattle.eremothyn.specs.Apart.{ToldApart, RefusedStays}
+use Rattle.eremothyn.specs.Apart.{byRefusal, Tells, TellsFilled, ToldApart, RefusedStays}
 pub use Rattle.eremothyn.proofs.DateRuns.{date-parts}
 pub use Rattle.eremothyn.proofs.Demand.{due-can-fire, queue-fair, queue-fair-every, queue-fair-steady, queue-fair-ends, queue-waits-exactly, queue-waits-at-most, queue-waits-every, waits-third, queue-fair-west, waits-last}
 use Rattle.eremothyn.proofs.Apart.{small-granted, part-tells, minute-tells, date-tells, check-tells, place-tells, setting-tells, line-tells, owner-tells, due-tells, next-tells}
@@ -176,6 +179,10 @@ next-near table kind dialect entry minute = go (nextIn t entry minute) refl (nex
     go (next.At n) e h q = next-in-gap t entry minute n e
     go (next.Refused number) e h q = absurd (true≢false (sym (next-tells (next.Refused number) h .0) ∙ q))
 
+-- used for entry 511 of a system table in the second dialect, from minute 0, which is before 1970 locally to the west
+pub next-near-first : (table : List ℕ) → let answer = nextCall table 1 1 511 0 in isRefused answer ≡ false → answer ≤ 21036960
+next-near-first table granted = next-near table 1 1 511 0 granted
+
 answer-other : (refusal count : ℕ) → (refusal ≡ 7 → ⊥) → count ≤ maxEntries → answerOf refusal count ≡ 4294967303 → ⊥
 unfolding answerOf
 answer-other zero count h few e = omega (arith, few, e)
@@ -242,6 +249,20 @@ told-apart =
       firings = λ rules table i a b run. list-tells (firingsIn (tableOf rules table) i a b run .answer) (firings-few rules table i a b run);
       merged-firings = λ rules table a b minutes entries. list-tells (mergedIn (tableOf rules table) a b minutes entries .answer) (merged-few rules table a b minutes entries);
     }
+
+-- used: the macro is false of a good table's check, and of a list's number, whether all is listed or more remain
+pub granted-told :
+    ((table : List ℕ) → tableOf (rulesOf 1 1) table .refusal ≡ 0 → isRefused (checkCall table 1 1) ≡ false)
+    × ((table : List ℕ) (i a b n : ℕ) (run : List ℕ)
+    → firingsIn (tableOf (rulesOf 1 1) table) i a b run .answer ≡ list.All n → isRefused (filledNumber (list.All n)) ≡ false)
+    × ((table : List ℕ) (a b n : ℕ) (minutes entries : List ℕ)
+    → mergedIn (tableOf (rulesOf 1 1) table) a b minutes entries .answer ≡ list.More n → isRefused (filledNumber (list.More n)) ≡ false)
+granted-told = (
+  (λ table good. subst (λ (n : ℕ). Tells (byRefusal n) (checkCall table 1 1)) good (told-apart .check (rulesOf 1 1) table) .0),
+  (λ table i a b n run e. subst (λ (x : Filled). TellsFilled x (filledNumber x)) e (told-apart .firings (rulesOf 1 1) table i a b run) .0),
+  (λ table a b n minutes entries e.
+      subst (λ (x : Filled). TellsFilled x (filledNumber x)) e (told-apart .merged-firings (rulesOf 1 1) table a b minutes entries) .0),
+)
 
 -- a refused call changes no byte and no number
 pub refused-stays : RefusedStays

@@ -7,13 +7,14 @@
 --   firings-few, merged-few: a count is a 32-bit number
 --   merged-runs: the first numbers of both runs, as many as are answered, are the minutes and entries of the list's first firings; that is all of
 --     them, or as many as there is room for where more remain
+--   listed-given: so a list is given only where the table is good and both minutes are on the calendar
 --   merged-lengths: the runs keep their lengths
 --   minute-few: a minute has at most as many firings as the table has entries
 --   piece-ends: where more remain, those before the last minute are just the firings up to the minute before it
 --   merged-room: the room is the shorter run, as long as a 32-bit number counts its places
 --   firings-kept, merged-kept: a refused call changes no number of a run
 -- Assumes nothing.
-use mathlib.Core.Path.{_≡_, refl, sym, ap, _∙_}
+use mathlib.Core.Path.{_≡_, refl, sym, ap, subst, _∙_}
 use mathlib.Core.Bool.{Bool, true, false, cond, true≢false}
 use mathlib.Core.Logic.{inl, inr}
 use mathlib.Core.List.{List, [], _∷_, _++_, map, append-assoc}
@@ -36,7 +37,10 @@ use Rattle.crontab.proofs.Theorems.{table-sound}
 use Rattle.bytes.specs.Passing.{passing, passingUpTo}
 use Rattle.firings.specs.Lists.{Firing, firingsOf, atMinute, entriesFrom, mergedOver, firesIn, mergedUpTo, mergedOf}
 use Rattle.firings.specs.Keys.{firingOf, isFiring}
-use Rattle.firings.specs.Rising.{Among, Rises, Earlier, Exactly}
+use Rattle.firings.specs.declared.Filled.{Filled}
+use Rattle.firings.specs.declared.Filled.the-variants.{All}
+use Rattle.firings.specs.Calls.{roomIn, mergedIn}
+use Rattle.firings.specs.Rising.{Among, Rises, Earlier, Exactly, Runs}
 use Rattle.firings.proofs.Waiting.{firing-is, firing-entry}
 use Rattle.firings.proofs.Keys.{merged-keys}
 pub use Rattle.firings.proofs.Counts.{firings-few, firings-kept, merged-few, merged-kept, merged-room}
@@ -195,3 +199,12 @@ module _ (rules : Rules) (s : List ℕ) (a b : ℕ) where
       let t = tableOf rules s in
       rw (← merged-keys (firesIn (t .entries)) (t .count) (table-sound rules s .few) b (a + 1))
       (map-rises (passingUpTo (isFiring (firesIn (t .entries)) (t .count)) (b * 512 + 511) ((a + 1) * 512)) (passing-rises (isFiring (firesIn (t .entries)) (t .count)) (b * 512 + 511 + 1 - (a + 1) * 512) ((a + 1) * 512)))
+
+-- `merged-runs` used: where all is listed, the table is good and both minutes are on the calendar
+pub listed-given : (t : Table) (a b n : ℕ) (minutes entries : List ℕ) → mergedIn t a b minutes entries .answer ≡ All n
+    → (t .refusal ≡ 0) × (a ≤ 4223371679) × (b ≤ 4223371679)
+unfolding roomIn
+listed-given t a b n minutes entries e =
+    let s = mergedIn t a b minutes entries in
+    let given = subst (λ (x : Filled). Runs t a b (roomIn minutes entries) x (s .minutes) (s .entries)) e (merged-runs t a b minutes entries) .0 in
+    (given .good, given .from, given .to)
