@@ -7,3 +7,4 @@ pub mod WriterSteps
 pub mod ReaderSteps
 pub mod Computing
 pub mod Examples
+pub mod ByteRows
