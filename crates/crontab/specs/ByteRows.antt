@@ -1,5 +1,6 @@
 -- Every decision that a line's next byte makes, over all 256 bytes; the lists of words and of refusals whole; and lines that are almost of
 -- their form, or just too long. In the comments `B` is the byte.
+-- In the comments `?` is the byte that is tried.
 -- Assumes nothing.
 use Prim.Native.Nat.{ℕ, _+_, _-_, _*_}
 use mathlib.Core.Path.{_≡_, refl}
@@ -70,7 +71,7 @@ Leads line column ranges other = LeadAmong lineBytes (λ b. lines (line b)) (fau
 
 -- ---- the first byte of a line
 
--- `B=c`: a digit or `*` starts a field, `@` a word, `#` a comment, and every other byte a name; a blank is skipped
+-- `?=c`: a digit or `*` starts a field, `@` a word, `#` a comment, and every other byte a name; a blank is skipped
 first-byte : Leads (λ b. b ∷ text "=c") 1
     (digit (always (refused 5 1))
     ++ one 42 (always (refused 5 1))
@@ -82,7 +83,7 @@ first-byte : Leads (λ b. b ∷ text "=c") 1
 unfolding trying reading
 first-byte = refl
 
--- a space, a tab and `B=c`: blanks before it change nothing
+-- a space, a tab and `?=c`: blanks before it change nothing
 first-after-blanks : Leads (λ b. text " \t" ++ b ∷ text "=c") 3
     (digit (always (refused 5 3))
     ++ one 42 (always (refused 5 3))
@@ -101,31 +102,31 @@ only-byte : Leads (λ b. b ∷ []) 1
 unfolding trying reading
 only-byte = refl
 
--- `#B=c`: no byte ends a comment
+-- `#?=c`: no byte ends a comment
 in-comment : Leads (λ b. text "#" ++ b ∷ text "=c") 2 [] (always Ignored)
 unfolding trying reading
 in-comment = refl
 
 -- ---- a setting's name
 
--- `AB=c`
+-- `A?=c`
 in-name : Leads (λ b. 65 ∷ b ∷ text "=c") 2
     (blank (always (setting 0 1 3 4)) ++ one 61 (always (setting 0 1 2 4)) ∷ oneOf (text "\"'") (always (refused 11 1)))
     (always (setting 0 2 3 4))
 unfolding trying reading
 in-name = refl
 
--- `A B=c`: after a name and blanks only `=` may follow
+-- `A ?=c`: after a name and blanks only `=` may follow
 after-name : Leads (λ b. text "A " ++ b ∷ text "=c") 3 (blank (always (setting 0 1 4 5)) ++ one 61 (always (setting 0 1 3 5)) ∷ []) (always (refused 11 1))
 unfolding trying reading
 after-name = refl
 
--- `AB`: a name and no `=`
+-- `A?`: a name and no `=`
 name-only : Leads (λ b. 65 ∷ b ∷ []) 2 (one 61 (always (setting 0 1 2 2)) ∷ []) (always (refused 11 1))
 unfolding trying reading
 name-only = refl
 
--- `"B"=c` and `'B'=c`: any byte but the quote itself
+-- `"?"=c` and `'?'=c`: any byte but the quote itself
 in-double-name : Leads (λ b. 34 ∷ b ∷ text "\"=c") 2 (one 34 (always (refused 11 1)) ∷ []) (always (setting 1 2 4 5))
 unfolding trying reading
 in-double-name = refl
@@ -134,7 +135,7 @@ in-single-name : Leads (λ b. 39 ∷ b ∷ text "'=c") 2 (one 39 (always (refuse
 unfolding trying reading
 in-single-name = refl
 
--- `"AB=c` and `'AB=c`: only a quote of its kind ends it
+-- `"A?=c` and `'A?=c`: only a quote of its kind ends it
 double-name-end : Leads (λ b. text "\"A" ++ b ∷ text "=c") 3 (one 34 (always (setting 1 2 4 5)) ∷ []) (always (refused 11 1))
 unfolding trying reading
 double-name-end = refl
@@ -143,31 +144,31 @@ single-name-end : Leads (λ b. text "'A" ++ b ∷ text "=c") 3 (one 39 (always (
 unfolding trying reading
 single-name-end = refl
 
--- `"A"B=c`
+-- `"A"?=c`
 after-quoted-name : Leads (λ b. text "\"A\"" ++ b ∷ text "=c") 4 (blank (always (setting 1 2 5 6)) ++ one 61 (always (setting 1 2 4 6)) ∷ []) (always (refused 11 1))
 unfolding trying reading
 after-quoted-name = refl
 
 -- ---- a setting's value
 
--- `A=B`
+-- `A=?`
 value-only : Leads (λ b. text "A=" ++ b ∷ []) 3 (blank (always (setting 0 1 3 3)) ++ oneOf (text "\"'") (always (refused 11 1))) (always (setting 0 1 2 3))
 unfolding trying reading
 value-only = refl
 
--- `A=BcB`: blanks are no part of a value's ends, and quotes of one kind stand around it
+-- `A=?c?`: blanks are no part of a value's ends, and quotes of one kind stand around it
 around-value : Leads (λ b. text "A=" ++ b ∷ 99 ∷ b ∷ []) 3 (blank (always (setting 0 1 3 4)) ++ oneOf (text "\"'") (always (setting 0 1 3 4))) (always (setting 0 1 2 5))
 unfolding trying reading
 around-value = refl
 
--- `A=`, a space, a tab and `Bc`: blanks after `=` are skipped
+-- `A=`, a space, a tab and `?c`: blanks after `=` are skipped
 after-equals : Leads (λ b. text "A= \t" ++ b ∷ text "c") 5
     (blank (always (setting 0 1 5 6)) ++ oneOf (text "\"'") (always (refused 11 1)))
     (always (setting 0 1 4 6))
 unfolding trying reading
 after-equals = refl
 
--- `A=cBd` and `A=cB`: within a bare value every byte is its own, and only blanks are cut at its end
+-- `A=c?d` and `A=c?`: within a bare value every byte is its own, and only blanks are cut at its end
 in-value : Leads (λ b. text "A=c" ++ b ∷ text "d") 4 [] (always (setting 0 1 2 5))
 unfolding trying reading
 in-value = refl
@@ -176,7 +177,7 @@ value-end : Leads (λ b. text "A=c" ++ b ∷ []) 4 (blank (always (setting 0 1 2
 unfolding trying reading
 value-end = refl
 
--- `A="B"` and `A='B'`
+-- `A="?"` and `A='?'`
 in-double-value : Leads (λ b. text "A=\"" ++ b ∷ text "\"") 4 (one 34 (always (refused 11 1)) ∷ []) (always (setting 0 1 3 4))
 unfolding trying reading
 in-double-value = refl
@@ -185,7 +186,7 @@ in-single-value : Leads (λ b. text "A='" ++ b ∷ text "'") 4 (one 39 (always (
 unfolding trying reading
 in-single-value = refl
 
--- `A="cB` and `A='cB`: only a quote of its kind ends it
+-- `A="c?` and `A='c?`: only a quote of its kind ends it
 double-value-end : Leads (λ b. text "A=\"c" ++ b ∷ []) 5 (one 34 (always (setting 0 1 3 4)) ∷ []) (always (refused 11 1))
 unfolding trying reading
 double-value-end = refl
@@ -194,7 +195,7 @@ single-value-end : Leads (λ b. text "A='c" ++ b ∷ []) 5 (one 39 (always (sett
 unfolding trying reading
 single-value-end = refl
 
--- `A="c"B` and `A='c' B`: only blanks after it
+-- `A="c"?` and `A='c' ?`: only blanks after it
 after-double-value : Leads (λ b. text "A=\"c\"" ++ b ∷ []) 6 (blank (always (setting 0 1 3 4))) (always (refused 11 1))
 unfolding trying reading
 after-double-value = refl
@@ -218,7 +219,7 @@ newYear =
       stars = record { minutes = false; hours = false; days = false; months = false; weekdays = false };
     })
 
--- `0B0 1 1 1 x y`: only a blank ends a field; where it goes on, `x` is the weekday, and no form
+-- `0?0 1 1 1 x y`: only a blank ends a field; where it goes on, `x` is the weekday, and no form
 after-minute : Leads (λ b. 48 ∷ b ∷ text "0 1 1 1 x y") 2
     (blank (byTable (Entry newYear 10) (Entry newYear 12))
     ++ range 48 53 (always (refused 5 11))
@@ -228,7 +229,7 @@ after-minute : Leads (λ b. 48 ∷ b ∷ text "0 1 1 1 x y") 2
 unfolding trying reading
 after-minute = refl
 
--- `0 0B1 1 1 x y`
+-- `0 0?1 1 1 x y`
 after-hour : Leads (λ b. text "0 0" ++ b ∷ text "1 1 1 x y") 4
     (blank (byTable (Entry newYear 10) (Entry newYear 12))
     ++ range 48 50 (always (refused 5 11))
@@ -238,26 +239,26 @@ after-hour : Leads (λ b. text "0 0" ++ b ∷ text "1 1 1 x y") 4
 unfolding trying reading
 after-hour = refl
 
--- `0 0 1B1 1 x y`
+-- `0 0 1?1 1 x y`
 after-day : Leads (λ b. text "0 0 1" ++ b ∷ text "1 1 x y") 6
     (blank (byTable (Entry newYear 10) (Entry newYear 12)) ++ digit (always (refused 6 5)) ++ oneOf (text ",-") (always (refused 5 11)))
     (always (refused 5 5))
 unfolding trying reading
 after-day = refl
 
--- `0 0 1 1B1 x y`
+-- `0 0 1 1?1 x y`
 after-month : Leads (λ b. text "0 0 1 1" ++ b ∷ text "1 x y") 8
     (blank (byTable (Entry newYear 10) (Entry newYear 12)) ++ digit (always (refused 6 7)) ++ oneOf (text ",-") (always (refused 5 11)))
     (always (refused 5 7))
 unfolding trying reading
 after-month = refl
 
--- `0 0 1 1 1Bx y`
+-- `0 0 1 1 1?x y`
 after-weekday : Leads (λ b. text "0 0 1 1 1" ++ b ∷ text "x y") 10 (blank (byTable (Entry newYear 10) (Entry newYear 12))) (always (refused 5 9))
 unfolding trying reading
 after-weekday = refl
 
--- `0 0 1 1 1 B y`: a second blank is skipped too, and a command starts with any other byte; a user doesn't
+-- `0 0 1 1 1 ? y`: a second blank is skipped too, and a command starts with any other byte; a user doesn't
 after-fields : Leads (λ b. text "0 0 1 1 1 " ++ b ∷ text "  y") 11
     (blank (byTable (Entry newYear 13) (refused 9 15))
     ++ range 48 57 (byTable (Entry newYear 10) (Entry newYear 13))
@@ -270,12 +271,12 @@ after-fields = refl
 
 -- ---- after a word, and in one
 
--- `@rebootBx y`
+-- `@reboot?x y`
 after-word : Leads (λ b. text "@reboot" ++ b ∷ text "x y") 8 (blank (byTable (Entry Reboot 8) (Entry Reboot 10))) (always (refused 10 1))
 unfolding trying reading
 after-word = refl
 
--- `@B x y`
+-- `@? x y`
 short-word : Leads (λ b. 64 ∷ b ∷ text " x y") 2 [] (always (refused 10 1))
 unfolding trying reading
 short-word = refl
@@ -289,31 +290,31 @@ account outcome = range 48 57 outcome ∷ range 65 90 outcome ∷ range 97 122 o
 abbrev boot : ℕ → ℕ → List Line
 boot user system = byTable (Entry Reboot user) (Entry Reboot system)
 
--- `@reboot uBv y`: `-` too may follow the first byte, and `:` and `/` lead to the next part
+-- `@reboot u?v y`: `-` too may follow the first byte, and `:` and `/` lead to the next part
 in-user : Leads (λ b. text "@reboot u" ++ b ∷ text "v y") 10
     (blank (boot 8 10) ++ account (boot 8 12) ++ oneOf (text "-:/") (boot 8 12))
     (byTable (Entry Reboot 8) (refused 20 9))
 unfolding trying reading
 in-user = refl
 
--- `@reboot u:B y`
+-- `@reboot u:? y`
 first-of-group : Leads (λ b. text "@reboot u:" ++ b ∷ text " y") 11 (account (boot 8 12)) (byTable (Entry Reboot 8) (refused 20 9))
 unfolding trying reading
 first-of-group = refl
 
--- `@reboot u:gBv y`
+-- `@reboot u:g?v y`
 in-group : Leads (λ b. text "@reboot u:g" ++ b ∷ text "v y") 12
     (blank (boot 8 12) ++ account (boot 8 14) ++ oneOf (text "-/") (boot 8 14))
     (byTable (Entry Reboot 8) (refused 20 9))
 unfolding trying reading
 in-group = refl
 
--- `@reboot u/B y`
+-- `@reboot u/? y`
 first-of-class : Leads (λ b. text "@reboot u/" ++ b ∷ text " y") 11 (account (boot 8 12)) (byTable (Entry Reboot 8) (refused 20 9))
 unfolding trying reading
 first-of-class = refl
 
--- `@reboot u:g/cBv y`
+-- `@reboot u:g/c?v y`
 in-class : Leads (λ b. text "@reboot u:g/c" ++ b ∷ text "v y") 14
     (blank (boot 8 14) ++ account (boot 8 16) ++ one 45 (boot 8 16) ∷ [])
     (byTable (Entry Reboot 8) (refused 20 9))
@@ -322,19 +323,19 @@ in-class = refl
 
 -- ---- the command
 
--- `@reboot u B`: of one byte, which isn't blank
+-- `@reboot u ?`: of one byte, which isn't blank
 command-first : Leads (λ b. text "@reboot u " ++ b ∷ []) 11 (blank (byTable (Entry Reboot 8) (refused 9 12))) (boot 8 10)
 unfolding trying reading
 command-first = refl
 
--- `@reboot B`
+-- `@reboot ?`
 command-only : Leads (λ b. text "@reboot " ++ b ∷ []) 9
     (blank (always (refused 9 10)) ++ account (byTable (Entry Reboot 8) (refused 9 10)))
     (byTable (Entry Reboot 8) (refused 20 9))
 unfolding trying reading
 command-only = refl
 
--- `@reboot u cB`: no byte ends it
+-- `@reboot u c?`: no byte ends it
 in-command : Leads (λ b. text "@reboot u c" ++ b ∷ []) 12 [] (boot 8 10)
 unfolding trying reading
 in-command = refl
@@ -387,7 +388,7 @@ minutes-ones : Leads (λ b. text "CRON_TZ=+01:3" ++ b ∷ []) 14
 unfolding trying reading
 minutes-ones = refl
 
--- `CRON_TZ=+01:30B`
+-- `CRON_TZ=+01:30?`
 after-offset : Leads (λ b. text "CRON_TZ=+01:30" ++ b ∷ []) 15 (blank (always (zone 0 7 8 14 (pos 90)))) (always (refused 25 9))
 unfolding trying reading
 after-offset = refl
@@ -441,7 +442,7 @@ zone-letters : passingAt (λ s. isOffset (readLine inFirst (s ++ text "=+01:00")
 unfolding trying reading
 zone-letters = refl
 
--- `CRON_TZB=x`
+-- `CRON_TZ?=x`
 zone-longer : Leads (λ b. text "CRON_TZ" ++ b ∷ text "=x") 8
     (blank (always (refused 25 10)) ++ one 61 (always (refused 25 9)) ∷ oneOf (text "\"'") (always (refused 11 1)))
     (always (setting 0 8 9 10))

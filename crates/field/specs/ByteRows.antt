@@ -1,5 +1,6 @@
 -- Every decision that a field's next byte makes, over all 256 bytes, in both dialects; the lists of names and of refusals whole; and texts that
 -- are almost of a field's form.
+-- In the comments `?` is the byte that is tried.
 -- Assumes nothing.
 use Prim.Native.Nat.{ℕ, _+_, _-_, _*_, _/_, _%_}
 use mathlib.Core.Path.{_≡_, refl}
@@ -87,7 +88,7 @@ weekday-first : Lead (λ b. both weekdayLimits (b ∷ []))
 unfolding trying reading
 weekday-first = refl
 
--- ---- after a digit: `1B`, `1B2` and `1B*`; and before one
+-- ---- after a digit: `1?`, `1?2` and `1?*`; and before one
 
 after-digit : Lead (λ b. both minuteLimits (49 ∷ b ∷ [])) (each 48 57 (λ b. twice (of ((b - 38) ∷ []))) ∷ []) (λ b. twice bad)
 unfolding trying reading
@@ -104,7 +105,7 @@ before-star : Lead (λ b. all (49 ∷ b ∷ text "*")) [] (λ b. ten bad)
 unfolding trying reading
 before-star = refl
 
--- before a digit: `B1`
+-- before a digit: `?1`
 before-digit : Lead (λ b. both minuteLimits (b ∷ text "1"))
     (each 48 53 (λ b. twice (of (((b - 48) * 10 + 1) ∷ []))) ∷ range 54 57 (twice outside) ∷ [])
     (λ b. twice bad)
@@ -126,12 +127,12 @@ after-star : Lead (λ b. all (42 ∷ b ∷ [])) [] (λ b. ten bad)
 unfolding trying reading
 after-star = refl
 
--- only a slash leads to a step: `*B5`
+-- only a slash leads to a step: `*?5`
 star-step : Lead (λ b. both hourLimits (42 ∷ b ∷ text "5")) (one 47 (twice (starred (0 ∷ 5 ∷ 10 ∷ 15 ∷ 20 ∷ []))) ∷ []) (λ b. twice bad)
 unfolding trying reading
 star-step = refl
 
--- `*/B` as a month: step 0 is 8, and a step keeps the first value and each step-th after it
+-- `*/?` as a month: step 0 is 8, and a step keeps the first value and each step-th after it
 after-slash : Lead (λ b. both monthLimits (text "*/" ++ b ∷ []))
     (one 48 (twice (Refused 8 1))
     ∷ one 49 (twice (starred (upTo 1 12)))
@@ -145,7 +146,7 @@ after-slash : Lead (λ b. both monthLimits (text "*/" ++ b ∷ []))
 unfolding trying reading
 after-slash = refl
 
--- `*/1B`, and `*/1Bx`
+-- `*/1?`, and `*/1?x`
 after-step : Lead (λ b. both hourLimits (text "*/1" ++ b ∷ []))
     (one 48 (twice (starred (0 ∷ 10 ∷ 20 ∷ []))) ∷ one 49 (twice (starred (0 ∷ 11 ∷ 22 ∷ []))) ∷ each 50 57 (λ b. twice (starred (0 ∷ (b - 38) ∷ []))) ∷ [])
     (λ b. twice bad)
@@ -158,40 +159,40 @@ after-step-more = refl
 
 -- ---- after a dash, and after a range
 
--- `1-B`: in the second dialect 0 is reached over the join
+-- `1-?`: in the second dialect 0 is reached over the join
 after-dash : Lead (λ b. both hourLimits (text "1-" ++ b ∷ []))
     (one 48 (Refused 7 1 ∷ of (upTo 1 23 ++ 0 ∷ []) ∷ []) ∷ each 49 57 (λ b. twice (of (upTo 1 (b - 48)))) ∷ [])
     (λ b. twice bad)
 unfolding trying reading
 after-dash = refl
 
--- `1-2B`
+-- `1-2?`
 after-range : Lead (λ b. both dayLimits (text "1-2" ++ b ∷ [])) (each 48 57 (λ b. twice (of (upTo 1 (b - 28)))) ∷ []) (λ b. twice bad)
 unfolding trying reading
 after-range = refl
 
--- `1-2B1`: a comma, a slash and one more digit may follow, and no second dash
+-- `1-2?1`: a comma, a slash and one more digit may follow, and no second dash
 range-more : Lead (λ b. all (text "1-2" ++ b ∷ text "1"))
     (one 44 (ten (of (1 ∷ 2 ∷ []))) ∷ one 47 (ten (of (1 ∷ 2 ∷ []))) ∷ range 48 57 (ten outside) ∷ [])
     (λ b. ten bad)
 unfolding trying reading
 range-more = refl
 
--- `1-2/B`
+-- `1-2/?`
 range-step : Lead (λ b. all (text "1-2/" ++ b ∷ []))
     (one 48 (ten (Refused 8 1)) ∷ one 49 (ten (of (1 ∷ 2 ∷ []))) ∷ range 50 57 (ten (of (1 ∷ []))) ∷ [])
     (λ b. ten bad)
 unfolding trying reading
 range-step = refl
 
--- `1-2/1B2`: a comma, and digits
+-- `1-2/1?2`: a comma, and digits
 range-step-more : Lead (λ b. all (text "1-2/1" ++ b ∷ text "2"))
     (one 44 (ten (of (1 ∷ 2 ∷ []))) ∷ range 48 57 (ten (of (1 ∷ []))) ∷ [])
     (λ b. ten bad)
 unfolding trying reading
 range-step-more = refl
 
--- ---- after a comma: `1,B`, and `B,1`; no star is an element
+-- ---- after a comma: `1,?`, and `?,1`; no star is an element
 
 after-comma : Lead (λ b. both hourLimits (text "1," ++ b ∷ [])) (each 48 57 (λ b. twice (of (1 ∷ (b - 48) ∷ []))) ∷ []) (λ b. twice bad)
 unfolding trying reading

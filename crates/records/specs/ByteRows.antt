@@ -1,4 +1,5 @@
--- Every decision that a record's next byte makes, over all 256 bytes; and the kinds and refusals whole. In the comments `B` is the byte.
+-- Every decision that a record's next byte makes, over all 256 bytes; and the kinds and refusals whole. In the comments `?` is the byte.
+-- In the comments `?` is the byte that is tried.
 -- Assumes nothing.
 use Prim.Native.Nat.{ℕ, _+_, _*_, _/_, _%_}
 use mathlib.Core.Path.{_≡_, refl}
@@ -74,7 +75,7 @@ in-command : Lead (λ b. told (4 ∷ 0 ∷ 2 ∷ 0 ∷ 120 ∷ b ∷ [])) inNoLi
 unfolding trying coding
 in-command = refl
 
--- ---- a setting: the length of its name, `A` and `B` or `AB` and nothing
+-- ---- a setting: the length of its name, `A` and `?` or `AB` and nothing
 
 name-length-low : Lead (λ b. told (6 ∷ 0 ∷ 3 ∷ 0 ∷ b ∷ 0 ∷ text "AB")) (range 1 2 (wrote 4) ∷ []) (λ b. bad 24)
 unfolding trying coding
@@ -84,7 +85,7 @@ name-length-high : Lead (λ b. told (6 ∷ 0 ∷ 3 ∷ 0 ∷ 1 ∷ b ∷ text "A
 unfolding trying coding
 name-length-high = refl
 
--- the name `B`: in quotes where a line wouldn't read it bare
+-- the name `?`: in quotes where a line wouldn't read it bare
 name-byte : Lead (λ b. told (5 ∷ 0 ∷ 3 ∷ 0 ∷ 1 ∷ 0 ∷ b ∷ []))
     (inNoLine ++ oneOf (9 ∷ 32 ∷ text "=\"'#*@") (wrote 5) ++ range 48 57 (wrote 5) ∷ [])
     (λ b. wrote 3)
@@ -96,7 +97,7 @@ name-second : Lead (λ b. told (6 ∷ 0 ∷ 3 ∷ 0 ∷ 2 ∷ 0 ∷ 65 ∷ b ∷
 unfolding trying coding
 name-second = refl
 
--- the value `B`, and the value `cB`
+-- the value `?`, and the value `c?`
 value-byte : Lead (λ b. told (6 ∷ 0 ∷ 3 ∷ 0 ∷ 1 ∷ 0 ∷ 65 ∷ b ∷ [])) (inNoLine ++ oneOf (9 ∷ 32 ∷ text "\"'") (wrote 6)) (λ b. wrote 4)
 unfolding trying coding
 value-byte = refl
