@@ -11,7 +11,7 @@ use lib.IntN.{ℤ, pos, negsuc}
 use Rattle.bytes.specs.Texts.{text}
 use Rattle.bytes.specs.Rows.{Hold}
 use Rattle.bytes.specs.AllBytes.{Range, LeadAmong, Lead, one, range, each, blank, digit, oneOf, lineBytes, passingAt, trying}
-use Rattle.bytes.specs.Sets.{setOf, upTo}
+use Rattle.bytes.specs.Sets.{setOf}
 use Rattle.field.specs.declared.Dialect.the-variants.{Rising, Wrapping}
 use Rattle.crontab.specs.declared.Rules.{Rules}
 use Rattle.crontab.specs.declared.Kind.the-variants.{User, System}

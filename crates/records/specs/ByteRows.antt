@@ -3,10 +3,8 @@
 -- Assumes nothing.
 use Prim.Native.Nat.{ℕ, _+_, _*_, _/_, _%_}
 use mathlib.Core.Path.{_≡_, refl}
-use mathlib.Core.Bool.{Bool, true, false, cond}
 use mathlib.Core.List.{List, [], _∷_, _++_}
 use lib.ListN.{replicate}
-use lib.Dec.{eqb}
 use Rattle.bytes.specs.Texts.{text}
 use Rattle.bytes.specs.AllBytes.{Range, Lead, one, range, each, oneOf, trying}
 use Rattle.normal.specs.declared.NormalAnswer.{NormalAnswer}
