@@ -1,45 +1,42 @@
 -- The bytes of each kind, all 256 tried in order; and numbers in bytes.
 -- Assumes nothing.
 use mathlib.Core.Path.{_≡_, refl, ap}
-use mathlib.Core.Bool.{Bool, cond}
+use mathlib.Core.Bool.{Bool}
 use mathlib.Core.List.{List, [], _∷_, _++_}
 use Prim.Native.Nat.{ℕ, suc}
 use native.Mathlib.Omega.{arith}
 use lib.ListN.{getD}
+use Rattle.bytes.specs.AllBytes.{bytesWhere, trying}
 use Rattle.bytes.specs.Classes.{isBlank, isQuote, isAccount, isControl, ofClass}
 use Rattle.bytes.specs.declared.class.Class.the-variants.{InLine}
 use Rattle.bytes.specs.LittleEndian.{littleEndian, numberOf, width}
 use Rattle.bytes.specs.Rows.{Hold}
-use Rattle.bytes.specs.Sets.{fromOn, upTo}
+use Rattle.bytes.specs.Sets.{upTo}
 use Rattle.bytes.specs.Texts.{text}
 
-those : (ℕ → Bool) → List ℕ → List ℕ
-those p [] = []
-those p (b ∷ s) = let later = those p s in cond (p b) (b ∷ later) later
-
 abbrev bytesOf : (ℕ → Bool) → List ℕ
-bytesOf p = those p (upTo 0 255)
+bytesOf p = bytesWhere p (upTo 0 255)
 
 blanks : bytesOf isBlank ≡ 9 ∷ 32 ∷ []
-unfolding those isBlank upTo fromOn
+unfolding trying isBlank
 blanks = refl
 
 quotes : bytesOf isQuote ≡ text "\"'"
-unfolding those isQuote upTo fromOn
+unfolding trying isQuote
 quotes = refl
 
 -- ticket 2026-04: "letters, digits, `_`, `-`, `.`"
 accounts : bytesOf isAccount ≡ text "-.0123456789ABCDEFGHIJKLMNOPQRSTUVWXYZ_abcdefghijklmnopqrstuvwxyz"
-unfolding those isAccount upTo fromOn
+unfolding trying isAccount
 accounts = refl
 
 -- ticket 2026-11: what is left for a line without newline, byte 0 and control bytes
 controls : bytesOf isControl ≡ upTo 1 8 ++ (upTo 11 31 ++ 127 ∷ [])
-unfolding those isControl upTo fromOn
+unfolding trying isControl
 controls = refl
 
 in-a-line : bytesOf (ofClass InLine) ≡ 9 ∷ (upTo 32 126 ++ upTo 128 255)
-unfolding those isControl ofClass upTo fromOn
+unfolding trying isControl ofClass
 in-a-line = refl
 
 -- numbers and their bytes, the low byte first

@@ -104,7 +104,7 @@ module _ (s : List ℕ) (a b n : ℕ) (minutes entries before : List ℕ) where
         let e : n ≡ suc (n - 1) = omega (arith, all) in
         is ∙ ap (λ (i : ℕ). getD (0 ∷ minutes) i 0) e ∙ first-at n minutes (minutesOf (mergedOf t a b)) (first .minutes-are) (n - 1) (omega (arith, all))
 
-    pub ends : PieceEnds t a b n kept last
+    pub ends : PieceEnds t a b kept last
     ends =
         let (given, first, few, all) = f .runs in
         let here : (i : ℕ) → i < n → getD minutes i 0 ≡ getD (minutesOf (mergedOf t a b)) i 0 = first-at n minutes (minutesOf (mergedOf t a b)) (first .minutes-are) in

@@ -44,7 +44,7 @@ pub use Rattle.fifo.proofs.Fair.{paced-one, one-paced, paced-some}
 pub use Rattle.fifo.proofs.Fair.{Runs}
 pub use Rattle.fifo.proofs.Quiet.{quiet, two-run}
 -- lines of entries, and rooms that hold them
-pub use Rattle.fifo.proofs.WaitingLines.{entries-cons, entries-length, take-next}
+pub use Rattle.fifo.proofs.WaitingLines.{entries-cons, entries-snoc, entries-length, stands-append, take-next}
 pub use Rattle.fifo.proofs.Lines.{is-line, make-proper}
 pub use Rattle.fifo.proofs.Calls.{holds-laid}
 pub use Rattle.fifo.proofs.Looks.{standing-at, entry-there, laid-line}

@@ -116,8 +116,8 @@ minute-few t m =
 
 -- ---- where a piece ends
 
--- The first n firings of a list that has more, of which k come before those of the last minute at their end.
-pub record PieceEnds (t : Table) (a b n k last : ℕ) : Type 0 where
+-- Of the first firings of a list that has more, k come before those of the last minute among them.
+pub record PieceEnds (t : Table) (a b k last : ℕ) : Type 0 where
   pub onward : a + 1 < last
   pub within : last ≤ b
   pub count : k ≡ length (mergedOf t a (last - 1))
@@ -185,7 +185,7 @@ module _ (t : Table) (a b n k : ℕ) (few : t .count < n) (some : n ≤ length (
       omega (arith, e, low, f, minute-within t a last i (omega (arith, up-to)) .1)
 
   pub piece-ends : k ≤ n → ((j : ℕ) → k ≤ j → j < n → getD minutes j 0 ≡ last) → (0 < k → getD minutes (k - 1) 0 ≡ last → ⊥)
-      → PieceEnds t a b n k last
+      → PieceEnds t a b k last
   piece-ends within after other =
       record {
         onward = onward;

@@ -19,8 +19,7 @@ use Rattle.crontab.specs.Tables.{tableOf}
 use Rattle.crontab.specs.Choices.{markWords}
 use Rattle.crontab.proofs.Theorems.{table-sound}
 use Rattle.fifo.specs.WaitingLine.{standsIn, entriesOf}
-use Rattle.fifo.proofs.Theorems.{entries-cons, entries-length, take-next}
-use Rattle.fifo.proofs.WaitingLines.{stands-append, entries-snoc}
+use Rattle.fifo.proofs.Theorems.{entries-cons, entries-snoc, entries-length, stands-append, take-next}
 use Rattle.reload.specs.Targets.{sameIn, targetIn, joins, joined, reloadedFrom, reloaded}
 use Rattle.reload.proofs.Targets.{target-there, target-same, target-self}
 
