@@ -1,4 +1,4 @@
--- The bytes of each kind, all 256 tried in order; and numbers in bytes.
+-- The bytes of each kind, all 256 tried in order; numbers in bytes; and texts in a buffer.
 -- Assumes nothing.
 use mathlib.Core.Path.{_≡_, refl, ap}
 use mathlib.Core.Bool.{Bool}
@@ -9,6 +9,8 @@ use lib.ListN.{getD}
 use Rattle.bytes.specs.AllBytes.{bytesWhere, trying}
 use Rattle.bytes.specs.Classes.{isBlank, isQuote, isAccount, isControl, ofClass}
 use Rattle.bytes.specs.declared.class.Class.the-variants.{InLine}
+use Rattle.bytes.specs.Laid.{laid}
+use Rattle.bytes.specs.Clipped.{clippedFront, clipped, saturated, Wrote}
 use Rattle.bytes.specs.LittleEndian.{littleEndian, numberOf, width}
 use Rattle.bytes.specs.Rows.{Hold}
 use Rattle.bytes.specs.Sets.{upTo}
@@ -50,6 +52,47 @@ ofBytes = refl
 
 widths : Hold width ((0, 1) ∷ (2, 65536) ∷ (4, 4294967296) ∷ (8, 18446744073709551616) ∷ [])
 widths = refl
+
+-- ---- texts in a buffer
+
+at-the-front : Hold (λ (t : List ℕ). laid t (1 ∷ 2 ∷ 3 ∷ [])) (([], 1 ∷ 2 ∷ 3 ∷ []) ∷ (7 ∷ 8 ∷ [], 7 ∷ 8 ∷ 3 ∷ []) ∷ (7 ∷ 8 ∷ 9 ∷ [], 7 ∷ 8 ∷ 9 ∷ []) ∷ [])
+unfolding laid
+at-the-front = refl
+
+-- as much of 7, 8 as fits at each place
+clippings : Hold (λ (at : ℕ). clipped at (7 ∷ 8 ∷ []) (1 ∷ 2 ∷ 3 ∷ []))
+    ((0, 7 ∷ 8 ∷ 3 ∷ []) ∷ (1, 1 ∷ 7 ∷ 8 ∷ []) ∷ (2, 1 ∷ 2 ∷ 7 ∷ []) ∷ (3, 1 ∷ 2 ∷ 3 ∷ []) ∷ (300, 1 ∷ 2 ∷ 3 ∷ []) ∷ [])
+unfolding clipped clippedFront
+clippings = refl
+
+no-room : clipped 0 (7 ∷ []) [] ≡ []
+unfolding clipped clippedFront
+no-room = refl
+
+places : Hold saturated
+    ((0, 0)
+    ∷ (65536, 65536)
+    ∷ (18446744073709551614, 18446744073709551614)
+    ∷ (18446744073709551615, 18446744073709551615)
+    ∷ (18446744073709551616, 18446744073709551615)
+    ∷ (36893488147419103232, 18446744073709551615)
+    ∷ [])
+unfolding saturated
+places = refl
+
+-- one byte more than was written, another one, another place after it
+not-wrote :
+    (Wrote 1 (7 ∷ []) (1 ∷ 2 ∷ 3 ∷ []) 2 (1 ∷ 7 ∷ 7 ∷ []) → ⊥)
+    × (Wrote 1 (7 ∷ []) (1 ∷ 2 ∷ 3 ∷ []) 2 (7 ∷ 2 ∷ 3 ∷ []) → ⊥)
+    × (Wrote 1 (7 ∷ []) (1 ∷ 2 ∷ 3 ∷ []) 1 (1 ∷ 7 ∷ 3 ∷ []) → ⊥)
+    × (Wrote 3 (7 ∷ []) (1 ∷ 2 ∷ 3 ∷ []) 3 (1 ∷ 2 ∷ 3 ∷ []) → ⊥)
+unfolding clipped clippedFront saturated
+not-wrote = (
+  (λ w. omega (arith, ap (λ (l : List ℕ). getD l 2 0) (w .bytes))),
+  (λ w. omega (arith, ap (λ (l : List ℕ). getD l 0 0) (w .bytes))),
+  (λ w. omega (arith, w .place)),
+  (λ w. omega (arith, w .place)),
+)
 
 -- ---- rows: one that is wrong is found, first or last
 

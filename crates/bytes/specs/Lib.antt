@@ -6,6 +6,7 @@ pub mod Passing
 pub mod Classes
 pub mod Runs
 pub mod Laid
+pub mod Clipped
 pub mod Sets
 pub mod LittleEndian
 pub mod AllBytes

@@ -3,8 +3,9 @@ ghost use mathlib.Core.Path.{_≡_};
 ghost use Prim.Native.Nat.{_+_, _≤_, _<_};
 ghost use lib.ListN.{length};
 ghost use Rattle.bytes.specs.Runs.{between};
-ghost use Rattle.bytes.specs.Laid.{Wrote};
+ghost use Rattle.bytes.specs.Clipped.{Wrote};
 ghost use Rattle.bytes.specs.LittleEndian.{littleEndian, numberOf, width};
+use crate::write::byte;
 
 fn wide(b: u8) -> u64
     ensures { λ r. ⌜ r ≡ b ⌝ }
@@ -26,17 +27,17 @@ pub fn read(s: &[u8], at: usize, size: usize) -> u64
     n
 }
 
-// Writes a number in so many bytes at a place, where there is room for them, and answers the place behind them.
+// Writes a number in so many bytes at a place, as far as they fit, and answers the place after them.
 pub fn write(out: &mut [u8], at: usize, n: u64, size: usize) -> usize
-    requires { ⌜ at + size ≤ length (now out) ⌝ }
     ensures { λ r. ⌜ Wrote at (littleEndian size n) (now (out .entry)) r (now (out .exit)) ⌝ }
 {
+    let mut next = at;
     let mut i = 0;
     let mut rest = n;
     while i < size {
-        out[at + i] = (rest % 256) as u8;
+        next = byte(out, next, (rest % 256) as u8);
         rest /= 256;
         i += 1;
     }
-    at + i
+    next
 }

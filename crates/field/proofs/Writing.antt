@@ -1,19 +1,18 @@
--- Laws of a field's text as the functions measure and write it: step by step, and value by value.
+-- Laws of a field's text as the functions write it: step by step, and value by value.
 -- Assumes nothing.
 use mathlib.Core.Path.{_≡_, refl, sym, ap, _∙_}
-use mathlib.Core.Bool.{Bool, true, false, cond, true≢false}
+use mathlib.Core.Bool.{Bool, true, false, cond, not, _&&_, and-true, and-false, true≢false}
 use mathlib.Core.List.{List, [], _∷_, _++_, append-nil, append-assoc}
 use Prim.Native.Nat.{ℕ, suc, _+_, _-_, _≤_, _<_}
-use native.Mathlib.Nat.{mod-self, add-zero}
+use native.Mathlib.Nat.{mod-self}
 use native.Mathlib.Numerals.{add-one}
 use native.Mathlib.Omega.{arith}
-use lib.Dec.{eqb, ltb}
-use lib.ListN.{length, length-append}
+use lib.Dec.{ltb}
+use lib.ListN.{length}
 use borrow.Author.Tests.{le-leb, eq-eqb, ne-eqb, ltb-false}
 use Rattle.bytes.specs.Digits.{numberText}
-use Rattle.bytes.specs.Laid.{Wrote}
+use Rattle.bytes.specs.Clipped.{lastPlace, Wrote}
 use Rattle.bytes.specs.Sets.{hasBit, fromOn}
-use Rattle.bytes.proofs.Digits.{number-some}
 use Rattle.bytes.proofs.Written.{wrote-none, wrote-next}
 use Rattle.field.specs.declared.Limits.{Limits}
 use Rattle.field.specs.Values.{valuesOf, bitOf}
@@ -50,10 +49,6 @@ module _ (l : Limits) (w : InWord l) (n : ℕ) (some : 0 < n) where
   second-missing set h e =
       ne-eqb (starSet l n) set (λ q. true≢false (sym (second-in h) ∙ ap (λ (x : ℕ). hasBit x (bitOf l (l .first + n))) q ∙ e))
 
-pub star-some : (n : ℕ) → 1 ≤ length (starText n)
-unfolding starText
-star-some n = omega arith
-
 pub star-one : (n : ℕ) → n ≡ 1 → starText n ≡ 42 ∷ []
 unfolding starText
 star-one n e = rw (eq-eqb n 1 e)
@@ -78,18 +73,6 @@ module _ (set v : ℕ) where
   member-none true e = rw e
   member-none false e = rw e
 
-  member-some : (first : Bool) → hasBit set v ≡ true → 1 ≤ length (memberText first set v)
-  member-some true e = rw (member-first e) (number-some v)
-  member-some false e = rw (member-later e) (omega arith)
-
-  -- by whether the list starts at a place
-  module _ (start at : ℕ) (e : hasBit set v ≡ true) where
-    pub member-here : at ≡ start → memberText (eqb at start) set v ≡ numberText v
-    member-here q = rw (eq-eqb at start q) (member-first e)
-
-    pub member-behind : (at ≡ start → ⊥) → memberText (eqb at start) set v ≡ 44 ∷ numberText v
-    member-behind q = rw (ne-eqb at start q) (member-later e)
-
   -- the value in front of others
   member-front : (first : Bool) (vs : List ℕ) → hasBit set v ≡ true → listRest first (having set (v ∷ vs)) ≡ memberText first set v ++ listRest false (having set vs)
   unfolding listRest having listText afterCommas
@@ -99,12 +82,6 @@ module _ (set v : ℕ) where
   member-skipped : (first : Bool) (vs : List ℕ) → hasBit set v ≡ false → listRest first (having set (v ∷ vs)) ≡ memberText first set v ++ listRest first (having set vs)
   unfolding having
   member-skipped first vs e = rw (member-none first e, e)
-
--- a list is without the first comma
-pub list-size : (vs : List ℕ) → length (listText vs) ≡ length (afterCommas vs) - 1
-unfolding listText afterCommas
-list-size [] = refl
-list-size (v ∷ vs) = omega arith
 
 -- ---- value by value
 
@@ -131,19 +108,8 @@ module _ (set n v : ℕ) where
       go true e = rw (put e) (member-front set v first _ e)
       go false e = rw (skipped e) (member-skipped set v first _ e)
 
-  pub left-next : v < n → left false set n v ≡ memberText false set v ++ left false set n (v + 1)
-  left-next h = left-by false false (λ e. refl) (λ e. refl) h
-
-  -- the list starts here as long as nothing is written
-  pub left-turn : (start at : ℕ) → start ≤ at → v < n
-      → left (eqb at start) set n v ≡ memberText (eqb at start) set v ++ left (eqb (at + length (memberText (eqb at start) set v)) start) set n (v + 1)
-  left-turn start at k h = left-by (eqb at start) _ put skipped h
-    where
-      put : hasBit set v ≡ true → eqb (at + length (memberText (eqb at start) set v)) start ≡ false
-      put e = ne-eqb _ start (λ q. omega (arith, q, member-some set v (eqb at start) e))
-
-      skipped : hasBit set v ≡ false → eqb (at + length (memberText (eqb at start) set v)) start ≡ eqb at start
-      skipped e = ap (λ (s : List ℕ). eqb (at + length s) start) (member-none set v (eqb at start) e) ∙ ap (λ (x : ℕ). eqb x start) (add-zero at)
+  pub left-turn : (first : Bool) → v < n → left first set n v ≡ memberText first set v ++ left (first && not (hasBit set v)) set n (v + 1)
+  left-turn first h = left-by first _ (λ e. rw e (and-false first)) (λ e. rw e (and-true first)) h
 
 -- ---- a whole list
 
@@ -152,48 +118,33 @@ module _ (l : Limits) (set : ℕ) where
   unfolding members listRest
   whole = refl
 
-  pub whole-size : length (listText (members l set)) ≡ length (left false set (l .bits) (l .first)) - 1
-  unfolding members listRest
-  whole-size = list-size (members l set)
-
--- the values from `first` up to v are written
-pub record Listing (set n first start : ℕ) (before : List ℕ) (v at : ℕ) (now : List ℕ) : Type 0 where
+-- the values from `from` up to v are written
+pub record Listing (set n from start : ℕ) (before : List ℕ) (v : ℕ) (first : Bool) (at : ℕ) (now : List ℕ) : Type 0 where
   pub text : List ℕ
-  pub wrote : Wrote start text before at now
-  pub rest : text ++ left (eqb at start) set n v ≡ left true set n first
+  pub put : Wrote start text before at now
+  pub rest : text ++ left first set n v ≡ left true set n from
 
-module _ (set n first start : ℕ) (before : List ℕ) (room : start + length (left true set n first) ≤ length before) where
-  pub listing-starts : Listing set n first start before first start before
-  listing-starts =
-      record { text = []; wrote = wrote-none start before (omega arith); rest = ap (λ (t : Bool). left t set n first) (eq-eqb start start refl) }
+module _ (set n from start : ℕ) (before : List ℕ) where
+  pub listing-starts : start ≤ lastPlace → length before ≤ lastPlace → Listing set n from start before from true start before
+  listing-starts h k = record { text = []; put = wrote-none start before h k; rest = refl }
 
-  module _ (v at : ℕ) (now : List ℕ) (so : Listing set n first start before v at now) where
-    turn : v < n
-        → (so .text ++ memberText (eqb at start) set v) ++ left (eqb (at + length (memberText (eqb at start) set v)) start) set n (v + 1)
-        ≡ left true set n first
-    turn h =
-        append-assoc (so .text) (memberText (eqb at start) set v) _
-        ∙ ap (λ (s : List ℕ). so .text ++ s) (sym (left-turn set n v start at (omega (arith, so .wrote .place)) h))
-        ∙ so .rest
-
-    pub listing-room : v < n → at + length (memberText (eqb at start) set v) ≤ length now
-    listing-room h =
-        omega (arith, simp length-append at (ap length (turn h)), so .wrote .place, so .wrote .size)
-
-    pub listing-next : (at' : ℕ) (now' : List ℕ) → v < n → Wrote at (memberText (eqb at start) set v) now at' now'
-        → Listing set n first start before (v + 1) at' now'
-    listing-next at' now' h w =
+  module _ (v : ℕ) (first : Bool) (at : ℕ) (now : List ℕ) (so : Listing set n from start before v first at now) where
+    pub listing-next : {at' : ℕ} {now' : List ℕ} {later : Bool} → v < n → later ≡ (first && not (hasBit set v)) → Wrote at (memberText first set v) now at' now'
+        → Listing set n from start before (v + 1) later at' now'
+    listing-next h is w =
         record {
-          text = so .text ++ memberText (eqb at start) set v;
-          wrote = wrote-next (so .wrote) w;
-          rest = rw (w .place) (turn h);
+          text = so .text ++ memberText first set v;
+          put = wrote-next (so .put) w;
+          rest =
+              rw is (append-assoc (so .text) (memberText first set v) _
+              ∙ ap (λ (s : List ℕ). so .text ++ s) (sym (left-turn set n v first h)) ∙ so .rest);
         }
 
-    pub listing-ends : n ≤ v → Wrote start (left true set n first) before at now
+    pub listing-ends : n ≤ v → Wrote start (left true set n from) before at now
     listing-ends h =
-        let all : so .text ≡ left true set n first =
-        sym (append-nil (so .text)) ∙ ap (λ (s : List ℕ). so .text ++ s) (sym (left-ends set n v (eqb at start) h)) ∙ so .rest in
-        rw all at (so .wrote)
+        let all : so .text ≡ left true set n from =
+        sym (append-nil (so .text)) ∙ ap (λ (s : List ℕ). so .text ++ s) (sym (left-ends set n v first h)) ∙ so .rest in
+        rw all at (so .put)
 
 -- ---- either
 

@@ -8,4 +8,5 @@ pub mod Quotes
 pub mod Tables
 pub mod Writing
 pub mod Walks
+pub mod Forms
 pub mod Theorems

@@ -1,19 +1,16 @@
--- Laws of the two walks over a table's lines, one that measures and one that writes: after a step what is left gives the same. What is written
--- may be any text that has a part for each line. And what comes back, by what is measured.
+-- Laws of a walk over a table's lines that writes a text: what a step writes and what it leaves make up what was left before. What is written may be
+-- any text that has a part for each line.
 -- Assumes nothing.
 use mathlib.Core.Path.{_≡_, refl, sym, ap, _∙_}
-use mathlib.Core.Bool.{Bool, true, false, cond, _&&_, and-true, and-assoc}
+use mathlib.Core.Bool.{Bool, true, false, _&&_}
 use mathlib.Core.Logic.{_⊎_, inl, inr}
-use mathlib.Core.List.{List, [], _∷_, _++_, append-assoc, append-nil}
-use Prim.Native.Nat.{ℕ, _+_, _≤_}
-use native.Mathlib.Nat.{add-zero}
+use mathlib.Core.List.{List, [], _∷_, _++_, append-assoc}
+use Prim.Native.Nat.{ℕ, _+_, _≤_, _<_}
 use native.Mathlib.Omega.{arith}
 use lib.ListN.{length, length-append}
-use lib.Dec.{eqb, leb}
-use borrow.Author.Tests.{lt-leb, le-leb, leb-true, leb-false, ne-eqb, eqb-true}
+use lib.Dec.{leb}
+use borrow.Author.Tests.{lt-ltb, lt-leb, le-leb, leb-true, leb-false}
 use Rattle.bytes.specs.Runs.{between}
-use Rattle.bytes.specs.Laid.{laid, Wrote}
-use Rattle.bytes.proofs.Written.{written-front, wrote-none, wrote-next}
 use Rattle.field.specs.declared.Dialect.{Dialect}
 use Rattle.crontab.specs.declared.Rules.{Rules}
 use Rattle.crontab.specs.declared.item.Cursor.{Cursor}
@@ -23,21 +20,16 @@ use Rattle.crontab.specs.declared.item.Item.the-variants.{Nothing, Setting, Ent
 use Rattle.crontab.specs.declared.item.Step.{Step}
 use Rattle.crontab.specs.Limits.{maxTable, maxLine}
 use Rattle.crontab.specs.Items.{Items, itemsOf}
-use Rattle.crontab.specs.Items as items
 use Rattle.crontab.specs.Steps.{itemsAt, Reached, given, counted, StepIs}
 use Rattle.crontab.specs.Settings.{partBytes}
+use Rattle.crontab.specs.declared.table.Verdict.{Verdict}
 use Rattle.crontab.specs.Tables.{tableOf, verdictOf}
 use Rattle.crontab.proofs.Items.{start, items-start, start-reached, items-end}
 use Rattle.crontab.proofs.Sound.{SoundItems, items-sound}
 use Rattle.crontab.proofs.Tables.{verdictFrom, table-verdict}
-use Rattle.crontab.proofs.Theorems.{table-short}
-use Rattle.normal.specs.declared.NormalAnswer.{NormalAnswer}
-use Rattle.normal.specs.declared.NormalAnswer.the-variants as answer
 use Rattle.normal.specs.Meanings.{Item, setting, entryItem, ofUser, meanings, meaningOf}
-use Rattle.normal.specs.Texts.{itemText, normalText, areShort, fits}
-use Rattle.normal.specs.NormalForms.{refusedForm, laidForm, formOf, normalForm}
-use Rattle.normal.specs.Steps.{Within, lineText, measured}
-use Rattle.normal.proofs.Tables.{Clean, good-clean}
+use Rattle.normal.specs.Texts.{itemText, normalText, areShort}
+use Rattle.normal.specs.Steps.{Within, lineText}
 
 -- ---- what a line gives
 
@@ -67,6 +59,10 @@ module _ (rules : Rules) (s : List ℕ) (n m k : ℕ) (later : Items) where
   given-within (Entry e) h = (omega (arith, h .0 .some), h .0 .within)
   given-within (Refused f) h = tt
 
+  given-some : (f : Fault) → SoundItems rules s m k (given n (Refused f) later) → f .number ≡ 0 → ⊥
+  unfolding given
+  given-some f h e = omega (arith, e, h .0 .from)
+
   given-sound : (x : line.Item) → Kept x → SoundItems rules s m k (given n x later) → (j : ℕ) × SoundItems rules s j (counted x k) later
   unfolding given counted
   given-sound Nothing kept h = (m, h)
@@ -74,13 +70,28 @@ module _ (rules : Rules) (s : List ℕ) (n m k : ℕ) (later : Items) where
   given-sound (Entry e) kept h = (e .line + 1, h .2)
   given-sound (Refused f) kept h = absurd kept
 
+pub line-limit : (t : List ℕ) → leb (length (t ++ 10 ∷ [])) (maxLine + 1) ≡ leb (length t) maxLine
+line-limit t = go (leb (length t) maxLine) refl
+  where
+    go : (b : Bool) → leb (length t) maxLine ≡ b → leb (length (t ++ 10 ∷ [])) (maxLine + 1) ≡ b
+    go true e = le-leb (length (t ++ 10 ∷ [])) (maxLine + 1) (omega (arith, length-append t (10 ∷ []), leb-true (length t) maxLine e))
+    go false e = lt-leb (length (t ++ 10 ∷ [])) (maxLine + 1) (omega (arith, length-append t (10 ∷ []), leb-false (length t) maxLine e))
+
 module _ (s : List ℕ) (n k : ℕ) (later : Items) where
-  given-clean : (x : line.Item) → Clean (given n x later) → Kept x × Clean later
-  unfolding given
-  given-clean Nothing h = (tt, h)
-  given-clean (Setting name value) h = (tt, h)
-  given-clean (Entry e) h = (tt, h)
-  given-clean (Refused f) h = absurd h
+  given-verdict : (x : line.Item) → Kept x → verdictFrom (counted x k) later ≡ verdictFrom k (given n x later)
+  unfolding given counted verdictFrom
+  given-verdict Nothing kept = refl
+  given-verdict (Setting name value) kept = refl
+  given-verdict (Entry e) kept = refl
+  given-verdict (Refused f) kept = absurd kept
+
+  -- a line with its newline is short, and those after it
+  given-short : (x : line.Item) → Kept x → (leb (length (lineText s x)) (maxLine + 1) && areShort (meanings s later)) ≡ areShort (meanings s (given n x later))
+  unfolding given lineText meanings areShort
+  given-short Nothing kept = refl
+  given-short (Setting name value) kept = rw line-limit
+  given-short (Entry e) kept = rw line-limit
+  given-short (Refused f) kept = absurd kept
 
   given-text : (x : line.Item) → Kept x → lineText s x ++ normalText (meanings s later) ≡ normalText (meanings s (given n x later))
   unfolding given lineText meanings normalText
@@ -91,14 +102,28 @@ module _ (s : List ℕ) (n k : ℕ) (later : Items) where
 
 -- ---- a walk
 
+pub table-long : (d : Dialect) (s : List ℕ) → maxTable < length s → 1 ≡ tableOf (ofUser d) s .refusal
+unfolding itemsOf verdictFrom verdictOf
+table-long d s h =
+    let e : verdictFrom 0 (itemsOf (ofUser d) s) ≡ record { refusal = 1; line = 0; column = 0; count = 0 } = rw (lt-ltb maxTable (length s) h) in
+    ap (λ (v : Verdict). v .refusal) (sym e ∙ table-verdict (ofUser d) s)
+
 -- what holds at a cursor
 pub record Going (d : Dialect) (s : List ℕ) (c : Cursor) : Type 0 where
   pub reached : Reached s c
   pub line : ℕ
   pub sound : SoundItems (ofUser d) s line (c .count) (itemsAt (ofUser d) s c)
+  pub verdict : verdictFrom (c .count) (itemsAt (ofUser d) s c) .refusal ≡ tableOf (ofUser d) s .refusal
 
 pub going-starts : (d : Dialect) (s : List ℕ) → length s ≤ maxTable → Going d s start
-going-starts d s h = record { reached = start-reached s h; line = 1; sound = rw (items-start (ofUser d) s h) (items-sound (ofUser d) s) }
+unfolding verdictOf
+going-starts d s h =
+    record {
+      reached = start-reached s h;
+      line = 1;
+      sound = rw (items-start (ofUser d) s h) (items-sound (ofUser d) s);
+      verdict = rw (items-start (ofUser d) s h, table-verdict (ofUser d) s);
+    }
 
 module _ {d : Dialect} {s : List ℕ} {c : Cursor} {r : Step} (step : StepIs (ofUser d) s c r) (going : Going d s c) where
   here : SoundItems (ofUser d) s (going .line) (c .count) (given (c .line) (r .item) (itemsAt (ofUser d) s (r .next)))
@@ -107,92 +132,36 @@ module _ {d : Dialect} {s : List ℕ} {c : Cursor} {r : Step} (step : StepIs (of
   pub going-within : Within s (r .item)
   going-within = given-within (ofUser d) s (c .line) (going .line) (c .count) (itemsAt (ofUser d) s (r .next)) (r .item) here
 
+  verdict-next : Kept (r .item) → verdictFrom (r .next .count) (itemsAt (ofUser d) s (r .next)) ≡ verdictFrom (c .count) (itemsAt (ofUser d) s c)
+  verdict-next kept =
+      ap (λ (k : ℕ). verdictFrom k (itemsAt (ofUser d) s (r .next))) (step .counts)
+      ∙ given-verdict s (c .line) (c .count) (itemsAt (ofUser d) s (r .next)) (r .item) kept ∙ rw (step .gives)
+
   pub going-next : Kept (r .item) → Going d s (r .next)
   going-next kept =
       let next = given-sound (ofUser d) s (c .line) (going .line) (c .count) (itemsAt (ofUser d) s (r .next)) (r .item) kept here in
-      record { reached = step .reached; line = next .0; sound = rw (← (step .counts)) at (next .1) }
+      record {
+        reached = step .reached;
+        line = next .0;
+        sound = rw (← (step .counts)) at (next .1);
+        verdict = ap (λ (v : Verdict). v .refusal) (verdict-next kept) ∙ going .verdict;
+      }
 
--- ---- measuring
+  -- a line that is refused refuses the table
+  pub going-refused : {f : Fault} → r .item ≡ Refused f → f .number ≡ tableOf (ofUser d) s .refusal
+  unfolding given verdictFrom
+  going-refused is = sym (rw (step .gives, is)) ∙ going .verdict
 
--- what is answered behind lines of so many bytes, all of them short or not
-unfoldable pub answered : Bool → ℕ → NormalAnswer
-answered short size = cond (short && leb size maxTable) (answer.Written size) (answer.Refused 21)
+  pub refused-some : {f : Fault} → r .item ≡ Refused f → f .number ≡ 0 → ⊥
+  refused-some {f} is = given-some (ofUser d) s (c .line) (going .line) (c .count) (itemsAt (ofUser d) s (r .next)) f (rw is at here)
 
-abbrev pub lengthOf : List ℕ → line.Item → ℕ
-lengthOf s x = length (lineText s x)
+  -- and a good one has none
+  pub going-kept : tableOf (ofUser d) s .refusal ≡ 0 → Kept (r .item)
+  going-kept good = not-refused (r .item) (λ f is. refused-some is (going-refused is ∙ good))
 
-abbrev pub shortToo : List ℕ → Bool → line.Item → Bool
-shortToo s short x = short && leb (lengthOf s x) (maxLine + 1)
+-- ---- what a step leaves
 
-unfoldable pub measureFrom : List ℕ → Bool → ℕ → Items → NormalAnswer
-measureFrom s short size items.done = answered short size
-measureFrom s short size (items.fault number line column) = answer.Refused number
-measureFrom s short size (items.setting line name value later) =
-    measureFrom s (shortToo s short (Setting name value)) (size + lengthOf s (Setting name value)) later
-measureFrom s short size (items.entry e later) = measureFrom s (shortToo s short (Entry e)) (size + lengthOf s (Entry e)) later
-
-module _ (s : List ℕ) where
-  given-measured : (short : Bool) (size n : ℕ) (later : Items) (x : line.Item) → Kept x
-      → measureFrom s (shortToo s short x) (size + lengthOf s x) later ≡ measureFrom s short size (given n x later)
-  unfolding given measureFrom lineText
-  given-measured short size n later Nothing kept = rw (add-zero size, and-true short)
-  given-measured short size n later (Setting name value) kept = refl
-  given-measured short size n later (Entry e) kept = refl
-  given-measured short size n later (Refused f) kept = absurd kept
-
-  -- all of it
-  judged : ℕ → Bool → ℕ → NormalAnswer
-  judged refusal short size = cond (eqb refusal 0) (answered short size) (answer.Refused refusal)
-
-  line-limit : (t : List ℕ) → leb (length (t ++ 10 ∷ [])) (maxLine + 1) ≡ leb (length t) maxLine
-  line-limit t = go (leb (length t) maxLine) refl
-    where
-      go : (b : Bool) → leb (length t) maxLine ≡ b → leb (length (t ++ 10 ∷ [])) (maxLine + 1) ≡ b
-      go true e = le-leb (length (t ++ 10 ∷ [])) (maxLine + 1) (omega (arith, length-append t (10 ∷ []), leb-true (length t) maxLine e))
-      go false e = lt-leb (length (t ++ 10 ∷ [])) (maxLine + 1) (omega (arith, length-append t (10 ∷ []), leb-false (length t) maxLine e))
-
-  -- a line in front
-  front : (refusal : ℕ) (short shorts : Bool) (size : ℕ) (t rest : List ℕ)
-      → judged refusal ((short && leb (length (t ++ 10 ∷ [])) (maxLine + 1)) && shorts) (size + length (t ++ 10 ∷ []) + length rest)
-      ≡ judged refusal (short && (leb (length t) maxLine && shorts)) (size + length (t ++ 10 ∷ rest))
-  front refusal short shorts size t rest =
-      let e : size + length (t ++ 10 ∷ []) + length rest ≡ size + length (t ++ 10 ∷ rest) =
-      omega (arith, length-append t (10 ∷ []), length-append t (10 ∷ rest)) in
-      rw (line-limit t, e, and-assoc short)
-
-  whole : (rules : Rules) (m k : ℕ) (x : Items) (short : Bool) (size : ℕ) → SoundItems rules s m k x
-      → measureFrom s short size x
-      ≡ judged (verdictFrom k x .refusal) (short && areShort (meanings s x)) (size + length (normalText (meanings s x)))
-  unfolding judged measureFrom verdictFrom meanings areShort normalText lineText
-  whole rules m k items.done short size h = rw (and-true short, add-zero size)
-  whole rules m k (items.fault number line column) short size h = rw (ne-eqb number 0 (λ e. omega (arith, e, h .0 .from)))
-  whole rules m k (items.setting line name value later) short size h =
-      whole rules (line + 1) k later (shortToo s short (Setting name value)) (size + lengthOf s (Setting name value)) (h .2)
-      ∙ front (verdictFrom k later .refusal) short (areShort (meanings s later)) size
-      (itemText (setting (partBytes s name) (partBytes s value))) (normalText (meanings s later))
-  whole rules m k (items.entry e later) short size h =
-      whole rules (e .line + 1) (k + 1) later (shortToo s short (Entry e)) (size + lengthOf s (Entry e)) (h .2)
-      ∙ front (verdictFrom (k + 1) later .refusal) short (areShort (meanings s later)) size
-      (itemText (entryItem (e .when) (between s (e .start) (e .end)))) (normalText (meanings s later))
-
-  pub measure-whole : (d : Dialect) → measureFrom s true 0 (itemsOf (ofUser d) s) ≡ measured d s
-  unfolding judged answered measured fits meaningOf verdictOf
-  measure-whole d =
-      whole (ofUser d) 1 0 (itemsOf (ofUser d) s) true 0 (items-sound (ofUser d) s)
-      ∙ rw (table-verdict (ofUser d) s, let e : 0 + length (normalText (meanings s (itemsOf (ofUser d) s))) ≡ length (normalText (meanings s (itemsOf (ofUser d) s))) = omega arith in e)
-
-  module _ {d : Dialect} {c : Cursor} {r : Step} (step : StepIs (ofUser d) s c r) (short : Bool) (size : ℕ) where
-    pub measure-next : Kept (r .item)
-        → measureFrom s (shortToo s short (r .item)) (size + lengthOf s (r .item)) (itemsAt (ofUser d) s (r .next)) ≡ measureFrom s short size (itemsAt (ofUser d) s c)
-    measure-next kept = given-measured short size (c .line) (itemsAt (ofUser d) s (r .next)) (r .item) kept ∙ rw (step .gives)
-
-    pub measure-refused : {f : Fault} → r .item ≡ Refused f → answer.Refused (f .number) ≡ measureFrom s short size (itemsAt (ofUser d) s c)
-    unfolding given measureFrom
-    measure-refused is = rw (step .gives, is)
-
--- ---- a text in parts
-
--- what is written of the items of a table: the parts of its lines, one behind the other
+-- what is written of the items of a table: the parts of its lines, one after the other
 pub record InParts (s : List ℕ) (part : line.Item → List ℕ) (all : List Item → List ℕ) : Type 0 where
   pub none : all [] ≡ []
   pub next : (n : ℕ) (later : Items) (x : line.Item) → Kept x → part x ++ all (meanings s later) ≡ all (meanings s (given n x later))
@@ -201,108 +170,30 @@ pub text-parts : (s : List ℕ) → InParts s (lineText s) normalText
 unfolding normalText
 text-parts s = record { none = refl; next = λ n later. given-text s n 0 later }
 
-module _ {s : List ℕ} {part : line.Item → List ℕ} {all : List Item → List ℕ} (parts : InParts s part all) where
-  module _ {d : Dialect} {c : Cursor} {r : Step} (step : StepIs (ofUser d) s c r) (kept : Kept (r .item)) where
-    parts-next : part (r .item) ++ all (meanings s (itemsAt (ofUser d) s (r .next))) ≡ all (meanings s (itemsAt (ofUser d) s c))
-    parts-next = parts .next (c .line) (itemsAt (ofUser d) s (r .next)) (r .item) kept ∙ rw (step .gives)
+-- the items from a cursor on
+abbrev pub itemsLeft : Dialect → List ℕ → Cursor → List Item
+itemsLeft d s c = meanings s (itemsAt (ofUser d) s c)
 
-    -- its length, part by part
-    pub size-next : (size : ℕ)
-        → size + length (part (r .item)) + length (all (meanings s (itemsAt (ofUser d) s (r .next)))) ≡ size + length (all (meanings s (itemsAt (ofUser d) s c)))
-    size-next size = omega (arith, simp length-append at (ap length parts-next))
+pub left-starts : (d : Dialect) (s : List ℕ) → length s ≤ maxTable → itemsLeft d s start ≡ meaningOf d s
+unfolding meaningOf
+left-starts d s h = rw (items-start (ofUser d) s h)
 
-  pub size-starts : (d : Dialect) → length s ≤ maxTable → 0 + length (all (meanings s (itemsAt (ofUser d) s start))) ≡ length (all (meaningOf d s))
-  unfolding meaningOf
-  size-starts d short = rw (items-start (ofUser d) s short) (omega arith)
+pub left-ends : (d : Dialect) (s : List ℕ) (c : Cursor) → length s ≤ c .at → itemsLeft d s c ≡ []
+unfolding meanings
+left-ends d s c h = rw (items-end (ofUser d) s c h)
 
-  pub size-ends : (d : Dialect) (c : Cursor) (size : ℕ) → length s ≤ c .at → size + length (all (meanings s (itemsAt (ofUser d) s c))) ≡ size
-  unfolding meanings
-  size-ends d c size h = rw (items-end (ofUser d) s c h, parts .none) (omega arith)
+pub left-none : {s : List ℕ} {part : line.Item → List ℕ} {all : List Item → List ℕ} → InParts s part all → (d : Dialect) (c : Cursor) → length s ≤ c .at
+    → all (itemsLeft d s c) ≡ []
+left-none {s} {all = all} parts d c h = ap all (left-ends d s c h) ∙ parts .none
 
--- ---- writing
+pub going-good : {d : Dialect} {s : List ℕ} {c : Cursor} → Going d s c → length s ≤ c .at → tableOf (ofUser d) s .refusal ≡ 0
+unfolding verdictFrom
+going-good {d} {s} {c} going h = sym (rw (items-end (ofUser d) s c h) at (going .verdict))
 
--- the lines up to a cursor are written
-pub record Lined (d : Dialect) (s : List ℕ) (all : List Item → List ℕ) (before : List ℕ) (c : Cursor) (at : ℕ) (now : List ℕ) : Type 0 where
-  pub going : Going d s c
-  pub clean : Clean (itemsAt (ofUser d) s c)
-  pub text : List ℕ
-  pub wrote : Wrote 0 text before at now
-  pub rest : text ++ all (meanings s (itemsAt (ofUser d) s c)) ≡ all (meaningOf d s)
+module _ {d : Dialect} {s : List ℕ} {c : Cursor} {r : Step} (step : StepIs (ofUser d) s c r) (kept : Kept (r .item)) where
+  pub parts-next : {part : line.Item → List ℕ} {all : List Item → List ℕ} → InParts s part all
+      → part (r .item) ++ all (itemsLeft d s (r .next)) ≡ all (itemsLeft d s c)
+  parts-next parts = parts .next (c .line) (itemsAt (ofUser d) s (r .next)) (r .item) kept ∙ rw (step .gives)
 
-pub lined-starts : (d : Dialect) (s : List ℕ) (all : List Item → List ℕ) (before : List ℕ) → tableOf (ofUser d) s .refusal ≡ 0 → Lined d s all before start 0 before
-unfolding meaningOf tableOf
-lined-starts d s all before good =
-    let short = table-short (ofUser d) s good in
-    record {
-      going = going-starts d s short;
-      clean = rw (items-start (ofUser d) s short) (good-clean (ofUser d) s 1 0 _ (itemsOf (ofUser d) s) (items-sound (ofUser d) s) good);
-      text = [];
-      wrote = wrote-none 0 before (omega arith);
-      rest = rw (items-start (ofUser d) s short);
-    }
-
-module _ {s before : List ℕ} {part : line.Item → List ℕ} {all : List Item → List ℕ} (parts : InParts s part all) where
-  module _ {d : Dialect} {c : Cursor} {at : ℕ} {now : List ℕ} (so : Lined d s all before c at now) where
-    module _ {r : Step} (step : StepIs (ofUser d) s c r) where
-      kept : Kept (r .item) × Clean (itemsAt (ofUser d) s (r .next))
-      kept = given-clean s (c .line) (c .count) (itemsAt (ofUser d) s (r .next)) (r .item) (rw (step .gives) at (so .clean))
-
-      turn : (so .text ++ part (r .item)) ++ all (meanings s (itemsAt (ofUser d) s (r .next))) ≡ all (meaningOf d s)
-      turn =
-          append-assoc (so .text) (part (r .item)) _
-          ∙ ap (λ (t : List ℕ). so .text ++ t) (parts-next parts step (kept .0))
-          ∙ so .rest
-
-      pub lined-room : length (all (meaningOf d s)) ≤ length before → Within s (r .item) × (at + length (part (r .item)) ≤ length now)
-      lined-room room =
-          (going-within step (so .going), omega (arith, simp length-append at (ap length turn), so .wrote .place, so .wrote .size))
-
-      pub lined-next : (at' : ℕ) (now' : List ℕ) → Wrote at (part (r .item)) now at' now' → Lined d s all before (r .next) at' now'
-      lined-next at' now' w =
-          record {
-            going = going-next step (so .going) (kept .0);
-            clean = kept .1;
-            text = so .text ++ part (r .item);
-            wrote = wrote-next (so .wrote) w;
-            rest = turn;
-          }
-
-    pub lined-ends : length s ≤ c .at → now ≡ laid (all (meaningOf d s)) before
-    unfolding meanings
-    lined-ends h =
-        let whole : so .text ≡ all (meaningOf d s) =
-        sym (append-nil (so .text)) ∙ rw (items-end (ofUser d) s c h, parts .none) at (so .rest) in
-        so .wrote .bytes ∙ rw whole (written-front (all (meaningOf d s)) before)
-
--- ---- what comes back
-
-module _ (d : Dialect) (s buffer : List ℕ) where
-  number : ℕ
-  number = tableOf (ofUser d) s .refusal
-
-  -- what is measured is as long as the text of a good table
-  pub record Fitted (size : ℕ) : Type 0 where
-    pub good : tableOf (ofUser d) s .refusal ≡ 0
-    pub length : size ≡ length (normalText (meaningOf d s))
-    pub form : normalForm d s buffer ≡ laidForm (normalText (meaningOf d s)) buffer
-
-  pub measured-fits : (size : ℕ) → measured d s ≡ answer.Written size → Fitted size
-  unfolding measured normalForm formOf number
-  measured-fits size e = go (eqb number 0) (fits (meaningOf d s)) refl refl e
-    where
-      go : (a b : Bool) → eqb number 0 ≡ a → fits (meaningOf d s) ≡ b
-          → cond a (cond b (answer.Written (length (normalText (meaningOf d s)))) (answer.Refused 21)) (answer.Refused number) ≡ answer.Written size → Fitted size
-      go true true p q e = record { good = eqb-true number 0 p; length = cc; form = rw (p, q) }
-      go true false p q e = let z : _≡_ {A = ℕ} 0 1 = cc in absurd (omega arith)
-      go false b p q e = let z : _≡_ {A = ℕ} 0 1 = cc in absurd (omega arith)
-
-  pub measured-refused : (n : ℕ) → measured d s ≡ answer.Refused n → normalForm d s buffer ≡ refusedForm n buffer
-  unfolding measured normalForm formOf number
-  measured-refused n e = go (eqb number 0) (fits (meaningOf d s)) refl refl e
-    where
-      go : (a b : Bool) → eqb number 0 ≡ a → fits (meaningOf d s) ≡ b
-          → cond a (cond b (answer.Written (length (normalText (meaningOf d s)))) (answer.Refused 21)) (answer.Refused number) ≡ answer.Refused n
-          → cond a (cond b (laidForm (normalText (meaningOf d s)) buffer) (refusedForm 21 buffer)) (refusedForm number buffer) ≡ refusedForm n buffer
-      go true true p q e = let z : _≡_ {A = ℕ} 0 1 = cc in absurd (omega arith)
-      go true false p q e = let z : 21 ≡ n = cc in rw z
-      go false b p q e = let z : number ≡ n = cc in rw z
+  pub short-next : (leb (length (lineText s (r .item))) (maxLine + 1) && areShort (itemsLeft d s (r .next))) ≡ areShort (itemsLeft d s c)
+  short-next = given-short s (c .line) 0 (itemsAt (ofUser d) s (r .next)) (r .item) kept ∙ rw (step .gives)

@@ -1,4 +1,4 @@
--- Laws of the lines as the functions measure and write them: part by part.
+-- Laws of the lines as the functions write them: part by part.
 -- Assumes nothing.
 use mathlib.Core.Path.{_≡_, refl, sym, _∙_}
 use mathlib.Core.Bool.{Bool, true, false, cond}
@@ -12,7 +12,7 @@ use Rattle.bytes.specs.Runs.{areOf, skipped, between}
 use Rattle.bytes.proofs.Places.{skipped-whole}
 use Rattle.bytes.proofs.Written.{wrote-next}
 use Rattle.bytes.specs.Texts.{text}
-use Rattle.bytes.specs.Laid.{Wrote}
+use Rattle.bytes.specs.Clipped.{Wrote}
 use Rattle.field.specs.Limits.{minuteLimits, hourLimits, dayLimits, monthLimits, weekdayLimits}
 use Rattle.field.specs.Written.{fieldText}
 use Rattle.schedule.specs.declared.Schedule.{Schedule}
@@ -53,26 +53,12 @@ part-bare bare s e = rw e
 pub part-quoted : (bare : Bool) (s : List ℕ) → bare ≡ false → bareOrQuoted bare s ≡ inQuotes (quoteFor s) s
 part-quoted bare s e = rw e (quoted-by s)
 
-pub quoted-length : (bare : Bool) (s : List ℕ) → bare ≡ false → length (bareOrQuoted bare s) ≡ length s + 2
-quoted-length bare s e = rw (part-quoted bare s e) (omega (arith, length-append s (quoteFor s ∷ [])))
-
 module _ (name value : List ℕ) where
   pub setting-text : itemText (setting name value) ≡ bareOrQuoted (isBareName name) name ++ 61 ∷ bareOrQuoted (isBareValue value) value
   unfolding itemText nameText valueText
   setting-text = refl
 
-  pub setting-length : length (itemText (setting name value))
-      ≡ length (bareOrQuoted (isBareName name) name) + 1 + length (bareOrQuoted (isBareValue value) value)
-  setting-length =
-      rw setting-text
-      (omega (arith, length-append (bareOrQuoted (isBareName name) name) (61 ∷ bareOrQuoted (isBareValue value) value)))
-
 -- ---- an entry
-
--- where a text and its space end
-pub spaced-end : (t : List ℕ) {at next : ℕ} {before now : List ℕ} → Wrote at (spaced t) before next now → (next ≡ at + length t + 1) × (length now ≡ length before)
-unfolding spaced
-spaced-end t w = (omega (arith, w .place, length-append t (32 ∷ [])), w .size)
 
 -- one behind another
 pub spaced-next : (a b : List ℕ) {at mid next : ℕ} {before between now : List ℕ} → Wrote at (spaced a) before mid between
@@ -83,26 +69,6 @@ spaced-next a b f g =
     append-assoc a (32 ∷ b) (32 ∷ []) ∙ sym (append-assoc a (32 ∷ []) (b ++ 32 ∷ [])) in
     rw e (wrote-next f g)
 
-module _ (s : Schedule) where
-  abbrev minutes : List ℕ
-  minutes = fieldText minuteLimits (s .minutes) (s .stars .minutes)
-
-  abbrev hours : List ℕ
-  hours = fieldText hourLimits (s .hours) (s .stars .hours)
-
-  abbrev days : List ℕ
-  days = fieldText dayLimits (s .days) (s .stars .days)
-
-  abbrev months : List ℕ
-  months = fieldText monthLimits (s .months) (s .stars .months)
-
-  abbrev weekdays : List ℕ
-  weekdays = fieldText weekdayLimits (s .weekdays) (s .stars .weekdays)
-
-  pub schedule-length : length (scheduleText s) ≡ length minutes + length hours + length days + length months + length weekdays + 4
-  unfolding scheduleText
-  schedule-length = simp length-append (omega arith)
-
 module _ (when : When) (command : List ℕ) where
   pub boot-text : when ≡ Reboot → itemText (entryItem when command) ≡ text "@reboot " ++ command
   unfolding itemText entryItem
@@ -112,15 +78,6 @@ module _ (when : When) (command : List ℕ) where
     pub timed-text : itemText (entryItem when command) ≡ spaced (scheduleText s) ++ command
     unfolding itemText entryItem spaced
     timed-text = rw (e, append-assoc)
-
-    pub timed-length : length (itemText (entryItem when command)) ≡ length (scheduleText s) + 1 + length command
-    unfolding spaced
-    timed-length = rw timed-text (simp length-append (omega arith))
-
-    -- the command has room behind the fields
-    pub command-room : {at mid : ℕ} {before now : List ℕ} → Wrote at (spaced (scheduleText s)) before mid now
-        → at + length (itemText (entryItem when command)) ≤ length before → mid + length command ≤ length now
-    command-room w room = let end = spaced-end (scheduleText s) w in omega (arith, timed-length, end .0, end .1)
 
 -- ---- a line
 
@@ -141,9 +98,6 @@ module _ (s : List ℕ) (x : line.Item) where
     unfolding lineText
     line-setting = rw is
 
-    pub line-setting-length : length (lineText s x) ≡ length (itemText (setting (partBytes s name) (partBytes s value))) + 1
-    line-setting-length = rw (line-setting, length-append)
-
   module _ {e : entry.Entry} (is : x ≡ Entry e) where
     pub entry-within : Within s x → PartOf s (e .start) (e .end)
     entry-within h = rw is at h
@@ -151,6 +105,3 @@ module _ (s : List ℕ) (x : line.Item) where
     pub line-entry : lineText s x ≡ itemText (entryItem (e .when) (between s (e .start) (e .end))) ++ 10 ∷ []
     unfolding lineText
     line-entry = rw is
-
-    pub line-entry-length : length (lineText s x) ≡ length (itemText (entryItem (e .when) (between s (e .start) (e .end)))) + 1
-    line-entry-length = rw (line-entry, length-append)

@@ -1,6 +1,7 @@
 -- What the functions inside promise each other: the line of an item as it stands in a table, and what a table comes to where a buffer has
 -- room. What a reader must believe is in Texts and NormalForms.
 -- Assumes nothing.
+use mathlib.Core.Path.{_≡_}
 use Prim.Native.Nat.{ℕ, _≤_}
 use mathlib.Core.Bool.{Bool, cond}
 use mathlib.Core.List.{List, [], _∷_, _++_}
@@ -8,6 +9,7 @@ use lib.ListN.{length}
 use lib.Dec.{eqb}
 use Rattle.bytes.specs.declared.class.Class.the-variants.{Not}
 use Rattle.bytes.specs.Classes.{newline}
+use Rattle.bytes.specs.Clipped.{clipped}
 use Rattle.bytes.specs.Runs.{areOf, between}
 use Rattle.field.specs.declared.Dialect.{Dialect}
 use Rattle.crontab.specs.declared.item.Item as line
@@ -18,7 +20,8 @@ use Rattle.normal.specs.declared.NormalAnswer.{NormalAnswer}
 use Rattle.normal.specs.declared.NormalAnswer.the-variants as answer
 use Rattle.normal.specs.Refusals.{tooLong}
 use Rattle.normal.specs.Meanings.{setting, entryItem, ofUser, meaningOf}
-use Rattle.normal.specs.Texts.{doubleQuote, singleQuote, quoted, space, itemText, normalText, fits}
+use Rattle.normal.specs.Texts.{doubleQuote, singleQuote, quoted, space, itemText, fits}
+use Rattle.normal.specs.NormalForms.{NormalForm, refusedForm, laidForm}
 
 -- no part of a table or of a record is longer: its places have 16 bits
 abbrev pub longest : ℕ
@@ -58,12 +61,23 @@ lineText s (Setting name value) = itemText (setting (partBytes s name) (partByte
 lineText s (Entry e) = itemText (entryItem (e .when) (between s (e .start) (e .end))) ++ newline ∷ []
 lineText s (Refused f) = []
 
--- ---- a table
+-- ---- a text of which it is known what refuses it, a buffer's length apart: 0 where nothing does
 
 -- what is answered where the buffer has room
-unfoldable pub measured : Dialect → List ℕ → NormalAnswer
-measured d s =
-    let refusal = tableOf (ofUser d) s .refusal in
-    cond (eqb refusal 0)
-    (cond (fits (meaningOf d s)) (answer.Written (length (normalText (meaningOf d s)))) (answer.Refused tooLong))
-    (answer.Refused refusal)
+unfoldable pub measured : ℕ → List ℕ → NormalAnswer
+measured refusal t = cond (eqb refusal 0) (answer.Written (length t)) (answer.Refused refusal)
+
+-- and then the buffer
+unfoldable pub formFor : ℕ → List ℕ → List ℕ → NormalForm
+formFor refusal t buffer = cond (eqb refusal 0) (laidForm t buffer) (refusedForm refusal buffer)
+
+-- what a walk answers that writes as much of the text as fits
+pub record Tried (refusal : ℕ) (t before : List ℕ) (r : NormalAnswer) (now : List ℕ) : Type 0 where
+  pub is : r ≡ measured refusal t
+  pub size : length now ≡ length before
+  pub text : refusal ≡ 0 → now ≡ clipped 0 t before
+
+-- ---- a table
+
+unfoldable pub textRefusal : Dialect → List ℕ → ℕ
+textRefusal d s = let refusal = tableOf (ofUser d) s .refusal in cond (eqb refusal 0) (cond (fits (meaningOf d s)) 0 tooLong) refusal

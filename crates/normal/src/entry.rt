@@ -1,13 +1,10 @@
 // An entry's line (ticket 2026-06), `@reboot` or five fields and then the raw command, measured, and written to a lent buffer.
-ghost use mathlib.Core.Path.{_≡_};
-ghost use Prim.Native.Nat.{_+_, _≤_};
-ghost use lib.ListN.{length};
-ghost use Rattle.bytes.specs.Laid.{Wrote};
+ghost use Rattle.bytes.specs.Clipped.{Wrote};
 ghost use Rattle.field.specs.Steps.{InWord};
 ghost use Rattle.field.specs.Written.{fieldText};
 ghost use Rattle.normal.specs.Meanings.{entryItem};
 ghost use Rattle.normal.specs.Texts.{scheduleText, itemText};
-ghost use Rattle.normal.specs.Steps.{longest, spaced};
+ghost use Rattle.normal.specs.Steps.{spaced};
 use bytes::write;
 use crontab::time::When;
 use field::Limits;
@@ -16,21 +13,9 @@ use schedule::Schedule;
 
 const REBOOT: [u8; 8] = *b"@reboot ";
 
-fn schedule_length(s: Schedule) -> usize
-    ensures { λ r. ⌜ (r ≡ length (scheduleText s)) × (r ≤ 432) ⌝ }
-{
-    let stars = s.stars;
-    let minutes = written::text_length(field::MINUTE, s.minutes, stars.minutes);
-    let hours = written::text_length(field::HOUR, s.hours as u64, stars.hours);
-    let days = written::text_length(field::DAY, s.days as u64, stars.days);
-    let months = written::text_length(field::MONTH, s.months as u64, stars.months);
-    let weekdays = written::text_length(field::WEEKDAY, s.weekdays as u64, stars.weekdays);
-    minutes + hours + days + months + weekdays + 4
-}
-
 // A field, and a space behind it.
 fn write_field(limits: Limits, set: u64, star: bool, out: &mut [u8], at: usize) -> usize
-    requires { ⌜ InWord limits × (at + length (fieldText limits set star) + 1 ≤ length (now out)) ⌝ }
+    requires { ⌜ InWord limits ⌝ }
     ensures { λ r. ⌜ Wrote at (spaced (fieldText limits set star)) (now (out .entry)) r (now (out .exit)) ⌝ }
 {
     let next = written::write(limits, set, star, out, at);
@@ -39,7 +24,6 @@ fn write_field(limits: Limits, set: u64, star: bool, out: &mut [u8], at: usize) 
 
 // All five, with a space behind each.
 fn write_schedule(s: Schedule, out: &mut [u8], at: usize) -> usize
-    requires { ⌜ at + length (scheduleText s) + 1 ≤ length (now out) ⌝ }
     ensures { λ r. ⌜ Wrote at (spaced (scheduleText s)) (now (out .entry)) r (now (out .exit)) ⌝ }
 {
     let stars = s.stars;
@@ -50,20 +34,8 @@ fn write_schedule(s: Schedule, out: &mut [u8], at: usize) -> usize
     write_field(field::WEEKDAY, s.weekdays as u64, stars.weekdays, out, at)
 }
 
-// How long the line is without its newline.
-pub fn text_length(when: When, command: &[u8]) -> usize
-    requires { ⌜ length (now command) ≤ longest ⌝ }
-    ensures { λ r. ⌜ (r ≡ length (itemText (entryItem when (now (command .entry))))) × (r ≤ length (now (command .entry)) + 433) ⌝ }
-{
-    match when {
-        When::Reboot => REBOOT.len() + command.len(),
-        When::Timed(s) => schedule_length(s) + 1 + command.len(),
-    }
-}
-
-// Writes it at a place, where there is room for it, and answers the place behind it.
+// Writes it at a place, as far as it fits, and answers the place after it.
 pub fn write(when: When, command: &[u8], out: &mut [u8], at: usize) -> usize
-    requires { ⌜ at + length (itemText (entryItem when (now command))) ≤ length (now out) ⌝ }
     ensures { λ r. ⌜ Wrote at (itemText (entryItem when (now (command .entry)))) (now (out .entry)) r (now (out .exit)) ⌝ }
 {
     match when {

@@ -25,13 +25,13 @@ pub fn normal_form(table: &[u8], dialect: Dialect, text: &mut [u8]) -> NormalAns
     ensures answer { λ r. ⌜ r ≡ normalForm dialect (now (table .entry)) (now (text .entry)) .answer ⌝ }
     ensures text { λ _. ⌜ now (text .exit) ≡ normalForm dialect (now (table .entry)) (now (text .entry)) .buffer ⌝ }
 {
-    match table::measure(table, dialect) {
+    let mut none: [u8; 1] = [0];
+    match table::write(table, dialect, &mut none) {
         NormalAnswer::Written { size } => {
             if text.len() < size {
                 return NormalAnswer::Refused { number: TOO_SHORT };
             }
-            table::write(table, dialect, text);
-            NormalAnswer::Written { size }
+            table::write(table, dialect, text)
         }
         NormalAnswer::Refused { number } => NormalAnswer::Refused { number },
     }

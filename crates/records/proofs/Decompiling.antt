@@ -1,36 +1,32 @@
--- Laws of the walks over records: after a step what is left gives the same. And what comes back, by what is measured.
+-- Laws of the walks over records: what a step writes and what it leaves make up what was left before.
 -- Assumes nothing.
 use mathlib.Core.Path.{_≡_, refl, sym, ap, _∙_}
-use mathlib.Core.Bool.{Bool, true, false, cond, _&&_, and-true, and-false, _||_}
-use mathlib.Core.List.{List, [], _∷_, _++_, append-assoc, append-nil}
-use Prim.Native.Nat.{ℕ, zero, suc, _+_, _-_, _≤_}
-use native.Mathlib.Nat.{add-zero}
+use mathlib.Core.Bool.{Bool, true, false, cond, _&&_, _||_}
+use mathlib.Core.List.{List, [], _∷_, _++_, append-assoc}
+use Prim.Native.Nat.{ℕ, zero, suc, _+_, _≤_, _<_}
 use native.Mathlib.Omega.{arith}
 use lib.ListN.{length, drop, length-append, length-drop, drop-of-length-le}
 use lib.Dec.{eqb, leb}
-use borrow.Author.Tests.{le-leb, lt-leb, leb-true, leb-false, ne-eqb, eqb-true, eqb-false}
+use borrow.Author.Tests.{le-leb, lt-leb, ne-eqb, eqb-false}
 use Rattle.bytes.specs.Runs.{between}
-use Rattle.bytes.specs.Laid.{laid, Wrote}
-use Rattle.bytes.proofs.Written.{written-front, wrote-none, wrote-next}
 use Rattle.crontab.specs.declared.time.When.{When}
 use Rattle.crontab.specs.declared.time.When.the-variants.{Reboot, Timed}
-use Rattle.crontab.specs.Limits.{maxTable, maxLine, maxEntries}
-use Rattle.normal.specs.declared.NormalAnswer.{NormalAnswer}
-use Rattle.normal.specs.declared.NormalAnswer.the-variants as answer
+use Rattle.crontab.specs.Limits.{maxLine, maxEntries}
 use Rattle.normal.specs.Meanings.{Item, setting, boot, timed, entryItem, entriesIn}
 use Rattle.normal.specs.Texts.{itemText, normalText, areShort, fits}
 use Rattle.normal.specs.Proper.{isItem}
 use Rattle.normal.specs.NormalForms.{refusedForm, laidForm, formOf}
+use Rattle.normal.specs.Steps.{formFor}
+use Rattle.normal.proofs.Walks.{line-limit}
 use Rattle.records.specs.declared.body.Content as held
 use Rattle.records.specs.declared.body.Content.the-variants.{Skipped, Entry, Setting, Refused}
 use Rattle.records.specs.declared.record.Step.{Step}
-use Rattle.records.specs.declared.decompile.Total.{Total}
 use Rattle.records.specs.Formats.{kindOf}
 use Rattle.records.specs.Readings.{Records, Content, skipped, refused, means, meant, contentOf, timedIn, settingIn, isSkipped}
 use Rattle.records.specs.Readings.{numberAt, lengthAt, isCut, recordsIn, split, Said, afterRecord, saidFrom, saidOf, itemsSaid, refusalSaid, faultSaid}
 use Rattle.records.specs.Readings as said
 use Rattle.records.specs.Calls.{textOf, decompiled}
-use Rattle.records.specs.ReaderSteps.{found, Within, StepIs, lineFound, measured, grown, entriesFound}
+use Rattle.records.specs.ReaderSteps.{found, StepIs, lineFound, recordsRefusal, entriesFound}
 use Rattle.records.proofs.Splits.{split-none}
 
 -- ---- refusals have their numbers
@@ -111,96 +107,6 @@ fault-near (suc most) n s h = go (eqb (length s) 0) (isCut s) refl (fault-near m
     go false true e more = omega (arith, eqb-false (length s) 0 e)
     go false false e more = after (contentOf (numberAt s 2 2) (between s 4 (2 + lengthAt s))) (omega (arith, eqb-false (length s) 0 e)) more
 
--- ---- measuring
-
--- what is answered behind lines that come to this
-unfoldable pub answered : Total → NormalAnswer
-answered t = cond (leb (t .count) maxEntries) (cond (t .fits) (answer.Written (t .size)) (answer.Refused 21)) (answer.Refused 12)
-
-unfoldable pub measureFrom : Total → Said → NormalAnswer
-measureFrom t said.Said.done = answered t
-measureFrom t (said.fault number n) = answer.Refused number
-measureFrom t (said.item i later) = measureFrom (grown t (entriesIn (i ∷ [])) (length (itemText i) + 1)) later
-
-pub grown-small : (t : Total) (entries size : ℕ) → t .size ≤ maxTable → grown t entries size .size ≤ maxTable
-unfolding grown
-grown-small t entries size h = go (t .fits) (leb size (maxLine + 1)) (leb (t .size + size) maxTable) refl
-  where
-    go : (a b c : Bool) → leb (t .size + size) maxTable ≡ c → cond (a && (b && c)) (t .size + size) (t .size) ≤ maxTable
-    go true true true e = leb-true (t .size + size) maxTable e
-    go true true false e = h
-    go true false c e = h
-    go false b c e = h
-
-pub grown-count : (t : Total) (entries size : ℕ) → grown t entries size .count ≡ t .count + entries
-unfolding grown
-grown-count t entries size = refl
-
--- by all that is said
-judged : Total → ℕ → List Item → NormalAnswer
-judged t refusal is =
-    cond (eqb refusal 0)
-    (cond (leb (t .count + entriesIn is) maxEntries)
-    (cond (t .fits && (areShort is && leb (t .size + length (normalText is)) maxTable)) (answer.Written (t .size + length (normalText is))) (answer.Refused 21))
-    (answer.Refused 12))
-    (answer.Refused refusal)
-
-line-limit : (n : ℕ) → leb (n + 1) (maxLine + 1) ≡ leb n maxLine
-line-limit n = go (leb n maxLine) refl
-  where
-    go : (b : Bool) → leb n maxLine ≡ b → leb (n + 1) (maxLine + 1) ≡ b
-    go true e = le-leb (n + 1) (maxLine + 1) (omega (arith, leb-true n maxLine e))
-    go false e = lt-leb (n + 1) (maxLine + 1) (omega (arith, leb-false n maxLine e))
-
-entries-front : (i : Item) (is : List Item) → entriesIn (i ∷ is) ≡ entriesIn (i ∷ []) + entriesIn is
-unfolding entriesIn
-entries-front (setting name value) is = omega arith
-entries-front (boot command) is = omega arith
-entries-front (timed s command) is = omega arith
-
--- an item in front
-front : (t : Total) (refusal : ℕ) (i : Item) (is : List Item)
-    → judged (grown t (entriesIn (i ∷ [])) (length (itemText i) + 1)) refusal is ≡ judged t refusal (i ∷ is)
-unfolding judged grown areShort normalText
-front t refusal i is =
-    let size : length (itemText i ++ 10 ∷ normalText is) ≡ length (itemText i) + 1 + length (normalText is) = omega (arith, length-append (itemText i) (10 ∷ normalText is)) in
-    let more : t .size + (length (itemText i) + 1 + length (normalText is)) ≡ t .size + (length (itemText i) + 1) + length (normalText is) = omega arith in
-    let few : t .count + (entriesIn (i ∷ []) + entriesIn is) ≡ t .count + entriesIn (i ∷ []) + entriesIn is = omega arith in
-    rw (entries-front i is, few, size, more, line-limit (length (itemText i)))
-    (ap (λ (x : NormalAnswer). cond (eqb refusal 0) (cond (leb (t .count + entriesIn (i ∷ []) + entriesIn is) maxEntries) x (answer.Refused 12)) (answer.Refused refusal))
-    (go (t .fits) (leb (length (itemText i)) maxLine) (leb (t .size + (length (itemText i) + 1)) maxTable) (areShort is) refl))
-  where
-    go : (a b c d : Bool) → leb (t .size + (length (itemText i) + 1)) maxTable ≡ c
-        → let now = cond (a && (b && c)) (t .size + (length (itemText i) + 1)) (t .size) in
-        let all = t .size + (length (itemText i) + 1) + length (normalText is) in
-        cond ((a && (b && c)) && (d && leb (now + length (normalText is)) maxTable)) (answer.Written (now + length (normalText is))) (answer.Refused 21)
-        ≡ cond (a && ((b && d) && leb all maxTable)) (answer.Written all) (answer.Refused 21)
-    go false b c d e = refl
-    go true false c d e = refl
-    go true true true d e = refl
-    go true true false d e =
-        let past = lt-leb (t .size + (length (itemText i) + 1) + length (normalText is)) maxTable (omega (arith, leb-false (t .size + (length (itemText i) + 1)) maxTable e)) in
-        rw (past, and-false d)
-
-whole : (n : ℕ) (x : Said) (t : Total) → SoundSaid n x → t .size ≤ maxTable → measureFrom t x ≡ judged t (refusalSaid x) (itemsSaid x)
-unfolding measureFrom answered judged refusalSaid itemsSaid entriesIn areShort normalText
-whole n said.Said.done t s h = rw (add-zero (t .count), add-zero (t .size), le-leb (t .size) maxTable h, and-true (t .fits))
-whole n (said.fault number k) t s h = rw (ne-eqb number 0 (λ e. omega (arith, e, s .0)))
-whole n (said.item i later) t s h =
-    whole n later (grown t (entriesIn (i ∷ [])) (length (itemText i) + 1)) s (grown-small t (entriesIn (i ∷ [])) (length (itemText i) + 1) h)
-    ∙ front t (refusalSaid later) i (itemsSaid later)
-
-abbrev pub nothing : Total
-nothing = record { count = 0; size = 0; fits = true }
-
-pub measure-whole : (s : List ℕ) → measureFrom nothing (saidFrom 1 (split (drop 0 s))) ≡ measured s
-unfolding judged measured fits saidOf
-measure-whole s =
-    let x = saidFrom 1 (split s) in
-    let count : 0 + entriesIn (itemsSaid x) ≡ entriesIn (itemsSaid x) = omega arith in
-    let size : 0 + length (normalText (itemsSaid x)) ≡ length (normalText (itemsSaid x)) = omega arith in
-    whole 1 x nothing (said-sound 1 (split s)) (omega arith) ∙ rw (count, size)
-
 -- ---- a step
 
 abbrev pub Fine : held.Content → Type 0
@@ -219,39 +125,41 @@ not-refused (Refused number) h = h number refl
 abbrev pub saidAt : List ℕ → ℕ → ℕ → Said
 saidAt s n at = saidFrom n (split (drop at s))
 
+pub said-starts : (s : List ℕ) → saidAt s 1 0 ≡ saidOf s
+unfolding saidOf
+said-starts s = refl
+
 pub said-end : (s : List ℕ) (n at : ℕ) → length s ≤ at → saidAt s n at ≡ said.Said.done
 unfolding saidFrom
 said-end s n at h = rw (drop-of-length-le s h, split-none)
 
-grown-none : (t : Total) → t .size ≤ maxTable → grown t 0 0 ≡ t
-unfolding grown
-grown-none t h = rw (add-zero (t .count), add-zero (t .size), le-leb (t .size) maxTable h, and-true (t .fits)) (ap (λ (n : ℕ). record { count = t .count; size = n; fits = t .fits }) (go (t .fits)))
-  where
-    go : (b : Bool) → cond b (t .size) (t .size) ≡ t .size
-    go true = refl
-    go false = refl
-
-entry-one : (when : When) (command : List ℕ) → entriesIn (entryItem when command ∷ []) ≡ 1
+entry-one : (when : When) (command : List ℕ) (is : List Item) → entriesIn (entryItem when command ∷ is) ≡ 1 + entriesIn is
 unfolding entriesIn entryItem
-entry-one Reboot command = refl
-entry-one (Timed s) command = refl
+entry-one Reboot command is = omega arith
+entry-one (Timed s) command is = omega arith
 
 module _ (body : List ℕ) (n : ℕ) (later : Said) where
-  found-measured : (t : Total) (x : held.Content) → Fine x → t .size ≤ maxTable
-      → measureFrom (grown t (entriesFound x) (length (lineFound body x))) later ≡ measureFrom t (afterRecord n (found body x) later)
-  unfolding found afterRecord entriesFound lineFound measureFrom entriesIn
-  found-measured t Skipped fine h = rw (grown-none t h)
-  found-measured t (Entry when start) fine h =
-      rw (entry-one when (drop start body), length-append (itemText (entryItem when (drop start body))) (10 ∷ []))
-  found-measured t (Setting value) fine h = rw (length-append (itemText (setting (between body 2 value) (drop value body))) (10 ∷ []))
-  found-measured t (Refused number) fine h = absurd fine
+  found-entries : (x : held.Content) → Fine x → entriesFound x + entriesIn (itemsSaid later) ≡ entriesIn (itemsSaid (afterRecord n (found body x) later))
+  unfolding found afterRecord entriesFound itemsSaid entriesIn
+  found-entries Skipped fine = omega arith
+  found-entries (Entry when start) fine = sym (entry-one when (drop start body) (itemsSaid later))
+  found-entries (Setting value) fine = omega arith
+  found-entries (Refused number) fine = absurd fine
 
-  found-fine : (x : held.Content) → SoundSaid n (afterRecord n (found body x) later) → refusalSaid (afterRecord n (found body x) later) ≡ 0 → Fine x × (refusalSaid later ≡ 0)
+  found-short : (x : held.Content) → Fine x
+      → (leb (length (lineFound body x)) (maxLine + 1) && areShort (itemsSaid later)) ≡ areShort (itemsSaid (afterRecord n (found body x) later))
+  unfolding found afterRecord lineFound itemsSaid areShort
+  found-short Skipped fine = refl
+  found-short (Entry when start) fine = rw line-limit
+  found-short (Setting value) fine = rw line-limit
+  found-short (Refused number) fine = absurd fine
+
+  found-refusal : (x : held.Content) → Fine x → refusalSaid later ≡ refusalSaid (afterRecord n (found body x) later)
   unfolding found afterRecord refusalSaid
-  found-fine Skipped s e = (tt, e)
-  found-fine (Entry when start) s e = (tt, e)
-  found-fine (Setting value) s e = (tt, e)
-  found-fine (Refused number) s e = absurd (omega (arith, e, s .0))
+  found-refusal Skipped fine = refl
+  found-refusal (Entry when start) fine = refl
+  found-refusal (Setting value) fine = refl
+  found-refusal (Refused number) fine = absurd fine
 
   found-text : (x : held.Content) → Fine x → lineFound body x ++ normalText (itemsSaid later) ≡ normalText (itemsSaid (afterRecord n (found body x) later))
   unfolding found afterRecord lineFound itemsSaid normalText
@@ -274,15 +182,6 @@ module _ {s : List ℕ} {at : ℕ} {r : Step} (step : StepIs s at r) (n : ℕ) w
   later : Said
   later = saidAt s (n + 1) (r .end)
 
-  pub measure-next : (t : Total) → Fine (r .content) → t .size ≤ maxTable
-      → measureFrom (grown t (entriesFound (r .content)) (length (lineFound (between s (r .start) (r .end)) (r .content)))) (saidAt s (n + 1) (r .end)) ≡ measureFrom t (saidAt s n at)
-  unfolding body later
-  measure-next t fine h = found-measured body n later t (r .content) fine h ∙ rw (step .gives n)
-
-  pub measure-refused : (t : Total) {number : ℕ} → r .content ≡ Refused number → answer.Refused number ≡ measureFrom t (saidAt s n at)
-  unfolding found afterRecord measureFrom
-  measure-refused t is = rw (step .gives n, is)
-
   pub fault-next : Fine (r .content) → faultSaid (saidAt s (n + 1) (r .end)) ≡ faultSaid (saidAt s n at)
   unfolding body later
   fault-next fine = found-fault body n later (r .content) fine ∙ rw (step .gives n)
@@ -291,100 +190,56 @@ module _ {s : List ℕ} {at : ℕ} {r : Step} (step : StepIs s at r) (n : ℕ) w
   unfolding found afterRecord faultSaid
   fault-here is = rw (step .gives n, is)
 
-  fine-here : refusalSaid (saidAt s n at) ≡ 0 → Fine (r .content) × (refusalSaid (saidAt s (n + 1) (r .end)) ≡ 0)
-  unfolding body later
-  fine-here e = found-fine body n later (r .content) (rw (step .gives n) at (said-sound n (split (drop at s)))) (rw (step .gives n) at e)
-
-  text-here : Fine (r .content)
+  pub text-next : Fine (r .content)
       → lineFound (between s (r .start) (r .end)) (r .content) ++ normalText (itemsSaid (saidAt s (n + 1) (r .end))) ≡ normalText (itemsSaid (saidAt s n at))
   unfolding body later
-  text-here fine = found-text body n later (r .content) fine ∙ rw (step .gives n)
+  text-next fine = found-text body n later (r .content) fine ∙ rw (step .gives n)
 
--- ---- writing
+  pub short-next : Fine (r .content)
+      → (leb (length (lineFound (between s (r .start) (r .end)) (r .content))) (maxLine + 1) && areShort (itemsSaid (saidAt s (n + 1) (r .end)))) ≡ areShort (itemsSaid (saidAt s n at))
+  unfolding body later
+  short-next fine = found-short body n later (r .content) fine ∙ rw (step .gives n)
 
--- the lines of the records before a place are written
-pub record Lined (s before : List ℕ) (at next : ℕ) (now : List ℕ) : Type 0 where
-  pub number : ℕ
-  pub clean : refusalSaid (saidAt s number at) ≡ 0
-  pub text : List ℕ
-  pub wrote : Wrote 0 text before next now
-  pub rest : text ++ normalText (itemsSaid (saidAt s number at)) ≡ normalText (itemsSaid (saidOf s))
+  pub entries-next : Fine (r .content) → entriesFound (r .content) + entriesIn (itemsSaid (saidAt s (n + 1) (r .end))) ≡ entriesIn (itemsSaid (saidAt s n at))
+  unfolding body later
+  entries-next fine = found-entries body n later (r .content) fine ∙ rw (step .gives n)
 
-module _ (s before : List ℕ) (room : length (normalText (itemsSaid (saidOf s))) ≤ length before) where
-  pub lined-starts : refusalSaid (saidOf s) ≡ 0 → Lined s before 0 0 before
-  unfolding saidOf
-  lined-starts good = record { number = 1; clean = good; text = []; wrote = wrote-none 0 before (omega arith); rest = refl }
+  pub refusal-next : Fine (r .content) → refusalSaid (saidAt s (n + 1) (r .end)) ≡ refusalSaid (saidAt s n at)
+  unfolding body later
+  refusal-next fine = found-refusal body n later (r .content) fine ∙ rw (step .gives n)
 
-  module _ {at next : ℕ} {now : List ℕ} (so : Lined s before at next now) where
-    module _ {r : Step} (step : StepIs s at r) where
-      line : List ℕ
-      line = lineFound (between s (r .start) (r .end)) (r .content)
+  -- a bad record refuses them all
+  pub refusal-here : {number : ℕ} → r .content ≡ Refused number → (number ≡ refusalSaid (saidAt s n at)) × (number ≡ 0 → ⊥)
+  unfolding found afterRecord refusalSaid
+  refusal-here {number} is =
+      let e : saidAt s n at ≡ said.fault number n = step .gives n ∙ rw is in
+      (rw e, λ z. omega (arith, z, (rw e at (said-sound n (split (drop at s)))) .0))
 
-      fine : Fine (r .content) × (refusalSaid (saidAt s (so .number + 1) (r .end)) ≡ 0)
-      fine = fine-here step (so .number) (so .clean)
+-- ---- what refuses them
 
-      turn : (so .text ++ line) ++ normalText (itemsSaid (saidAt s (so .number + 1) (r .end))) ≡ normalText (itemsSaid (saidOf s))
-      unfolding line
-      turn =
-          append-assoc (so .text) line _ ∙ ap (λ (t : List ℕ). so .text ++ t) (text-here step (so .number) (fine .0)) ∙ so .rest
+pub records-refused : (s : List ℕ) (n : ℕ) → n ≡ refusalSaid (saidOf s) → (n ≡ 0 → ⊥) → n ≡ recordsRefusal s
+unfolding recordsRefusal
+records-refused s n e some = rw (← e, ne-eqb n 0 some)
 
-      pub lined-room : Within (between s (r .start) (r .end)) (r .content) × (next + length (lineFound (between s (r .start) (r .end)) (r .content)) ≤ length now)
-      unfolding line
-      lined-room = (step .parts, omega (arith, simp length-append at (ap length turn), so .wrote .place, so .wrote .size))
+module _ (s : List ℕ) (good : refusalSaid (saidOf s) ≡ 0) where
+  pub records-many : maxEntries < entriesIn (itemsSaid (saidOf s)) → 12 ≡ recordsRefusal s
+  unfolding recordsRefusal
+  records-many h = rw (good, lt-leb (entriesIn (itemsSaid (saidOf s))) maxEntries h)
 
-      pub lined-next : (next' : ℕ) (now' : List ℕ) → Wrote next (lineFound (between s (r .start) (r .end)) (r .content)) now next' now'
-          → Lined s before (r .end) next' now'
-      unfolding line
-      lined-next next' now' w =
-          record {
-            number = so .number + 1;
-            clean = fine .1;
-            text = so .text ++ line;
-            wrote = wrote-next (so .wrote) w;
-            rest = turn;
-          }
+  pub records-few : entriesIn (itemsSaid (saidOf s)) ≤ maxEntries → recordsRefusal s ≡ cond (fits (itemsSaid (saidOf s))) 0 21
+  unfolding recordsRefusal
+  records-few h = rw (good, le-leb (entriesIn (itemsSaid (saidOf s))) maxEntries h)
 
-    pub lined-ends : length s ≤ at → now ≡ laid (normalText (itemsSaid (saidOf s))) before
-    unfolding itemsSaid normalText
-    lined-ends h =
-        let all : so .text ≡ normalText (itemsSaid (saidOf s)) =
-        sym (append-nil (so .text)) ∙ rw (said-end s (so .number) at h) at (so .rest) in
-        so .wrote .bytes ∙ rw all (written-front (normalText (itemsSaid (saidOf s))) before)
-
--- ---- what comes back
-
-module _ (s buffer : List ℕ) where
-  number : ℕ
-  number = refusalSaid (saidOf s)
-
-  is : List Item
-  is = itemsSaid (saidOf s)
-
-  -- what is measured is as long as the text
-  pub record Fitted (size : ℕ) : Type 0 where
-    pub good : refusalSaid (saidOf s) ≡ 0
-    pub length : size ≡ length (normalText (itemsSaid (saidOf s)))
-    pub form : decompiled s buffer ≡ laidForm (normalText (itemsSaid (saidOf s))) buffer
-
-  pub measured-fits : (size : ℕ) → measured s ≡ answer.Written size → Fitted size
-  unfolding measured decompiled textOf formOf number is
-  measured-fits size e = go (eqb number 0) (leb (entriesIn is) maxEntries) (fits is) refl refl refl e
-    where
-      go : (a b c : Bool) → eqb number 0 ≡ a → leb (entriesIn is) maxEntries ≡ b → fits is ≡ c
-          → cond a (cond b (cond c (answer.Written (length (normalText is))) (answer.Refused 21)) (answer.Refused 12)) (answer.Refused number) ≡ answer.Written size → Fitted size
-      go true true true p q r e = record { good = eqb-true number 0 p; length = cc; form = rw (p, q, r) }
-      go true true false p q r e = let z : _≡_ {A = ℕ} 0 1 = cc in absurd (omega arith)
-      go true false c p q r e = let z : _≡_ {A = ℕ} 0 1 = cc in absurd (omega arith)
-      go false b c p q r e = let z : _≡_ {A = ℕ} 0 1 = cc in absurd (omega arith)
-
-  pub measured-refused : (n : ℕ) → measured s ≡ answer.Refused n → decompiled s buffer ≡ refusedForm n buffer
-  unfolding measured decompiled textOf formOf number is
-  measured-refused n e = go (eqb number 0) (leb (entriesIn is) maxEntries) (fits is) refl refl refl e
-    where
-      go : (a b c : Bool) → eqb number 0 ≡ a → leb (entriesIn is) maxEntries ≡ b → fits is ≡ c
-          → cond a (cond b (cond c (answer.Written (length (normalText is))) (answer.Refused 21)) (answer.Refused 12)) (answer.Refused number) ≡ answer.Refused n
-          → cond a (cond b (cond c (laidForm (normalText is) buffer) (refusedForm 21 buffer)) (refusedForm 12 buffer)) (refusedForm number buffer) ≡ refusedForm n buffer
-      go true true true p q r e = let z : _≡_ {A = ℕ} 0 1 = cc in absurd (omega arith)
-      go true true false p q r e = let z : 21 ≡ n = cc in rw z
-      go true false c p q r e = let z : 12 ≡ n = cc in rw z
-      go false b c p q r e = let z : number ≡ n = cc in rw z
+pub decompiled-is : (s buffer : List ℕ) → decompiled s buffer ≡ formFor (recordsRefusal s) (normalText (itemsSaid (saidOf s))) buffer
+unfolding decompiled textOf formOf formFor recordsRefusal
+decompiled-is s buffer = go (eqb (refusalSaid (saidOf s)) 0) (leb (entriesIn (itemsSaid (saidOf s))) maxEntries) (fits (itemsSaid (saidOf s))) refl
+  where
+    go : (a b c : Bool) → eqb (refusalSaid (saidOf s)) 0 ≡ a
+        → let t = normalText (itemsSaid (saidOf s)) in
+        let number : ℕ = cond a (cond b (cond c 0 21) 12) (refusalSaid (saidOf s)) in
+        cond a (cond b (cond c (laidForm t buffer) (refusedForm 21 buffer)) (refusedForm 12 buffer)) (refusedForm (refusalSaid (saidOf s)) buffer)
+        ≡ cond (eqb number 0) (laidForm t buffer) (refusedForm number buffer)
+    go true true true e = refl
+    go true true false e = refl
+    go true false c e = refl
+    go false b c e = rw e

@@ -1,4 +1,4 @@
--- Laws of records as the functions measure and write them: part by part.
+-- Laws of records as the functions write them: part by part.
 -- Assumes nothing.
 use mathlib.Core.Path.{_≡_, refl}
 use mathlib.Core.List.{List, [], _++_, append-assoc}
@@ -7,7 +7,6 @@ use native.Mathlib.Omega.{arith}
 use lib.ListN.{length, length-append}
 use Rattle.bytes.specs.Runs.{between}
 use Rattle.bytes.specs.LittleEndian.{littleEndian}
-use Rattle.bytes.specs.Laid.{Wrote}
 use Rattle.bytes.proofs.LittleEndian.{length-littleEndian}
 use Rattle.schedule.specs.declared.Schedule.{Schedule}
 use Rattle.crontab.specs.declared.Part.{Part}
@@ -22,11 +21,7 @@ use Rattle.normal.specs.Meanings.{setting, entryItem}
 use Rattle.records.specs.Formats.{settingKindOf, recordOf, scheduleBytes, kindOf, bodyOf}
 use Rattle.records.specs.WriterSteps.{headOf, itemRecord, recordPart}
 
--- ---- numbers
-
--- where a number ends
-pub number-end : (k n : ℕ) {at next : ℕ} {before now : List ℕ} → Wrote at (littleEndian k n) before next now → (next ≡ at + k) × (length now ≡ length before)
-number-end k n w = (omega (arith, w .place, length-littleEndian k n), w .size)
+-- ---- a schedule
 
 pub schedule-size : (s : Schedule) → length (scheduleBytes s) ≡ 20
 unfolding scheduleBytes
@@ -37,10 +32,6 @@ schedule-size s = simp (length-append, length-littleEndian) refl
 pub head-size : (kind size : ℕ) → length (headOf kind size) ≡ 4
 unfolding headOf
 head-size kind size = simp (length-append, length-littleEndian) refl
-
--- where a head ends
-pub head-end : (kind size : ℕ) {at next : ℕ} {before now : List ℕ} → Wrote at (headOf kind size) before next now → (next ≡ at + 4) × (length now ≡ length before)
-head-end kind size w = (omega (arith, w .place, head-size kind size), w .size)
 
 record-framed : (kind size : ℕ) (body : List ℕ) → size ≡ length body → recordOf kind body ≡ headOf kind size ++ body
 unfolding recordOf headOf

@@ -184,8 +184,6 @@ module _ (body : List ℕ) (x : held.Content) where
     unfolding lineFound
     found-entry = rw (e, between-rest body start)
 
-    pub found-entry-length : length (lineFound body x) ≡ length (itemText (entryItem when (between body start (length body)))) + 1
-    found-entry-length = rw found-entry (length-append (itemText (entryItem when (between body start (length body)))) (10 ∷ []))
 
   module _ {value : ℕ} (e : x ≡ Setting value) where
     pub setting-within : Within body x → (2 ≤ value) × (value ≤ length body)
@@ -195,5 +193,3 @@ module _ (body : List ℕ) (x : held.Content) where
     unfolding lineFound
     found-setting = rw (e, between-rest body value)
 
-    pub found-setting-length : length (lineFound body x) ≡ length (itemText (setting (between body 2 value) (between body value (length body)))) + 1
-    found-setting-length = rw found-setting (length-append (itemText (setting (between body 2 value) (between body value (length body)))) (10 ∷ []))

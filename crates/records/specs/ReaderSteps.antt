@@ -2,24 +2,21 @@
 -- Assumes nothing.
 use mathlib.Core.Path.{_≡_}
 use Prim.Native.Nat.{ℕ, _+_, _-_, _≤_, _<_}
-use mathlib.Core.Bool.{cond, _&&_}
+use mathlib.Core.Bool.{cond}
 use mathlib.Core.List.{List, [], _∷_, _++_}
 use lib.ListN.{length, drop}
 use lib.Dec.{eqb, leb}
 use Rattle.bytes.specs.Classes.{newline}
 use Rattle.bytes.specs.Runs.{between}
-use Rattle.crontab.specs.Limits.{maxTable, maxLine, maxEntries}
+use Rattle.crontab.specs.Limits.{maxEntries}
 use Rattle.crontab.specs.Refusals.{tooManyEntries}
-use Rattle.normal.specs.declared.NormalAnswer.{NormalAnswer}
-use Rattle.normal.specs.declared.NormalAnswer.the-variants as answer
 use Rattle.normal.specs.Refusals.{tooLong}
 use Rattle.crontab.specs.declared.time.When.the-variants.{Reboot, Timed}
 use Rattle.normal.specs.Meanings.{setting, boot, timed, entryItem, entriesIn}
-use Rattle.normal.specs.Texts.{itemText, normalText, fits}
+use Rattle.normal.specs.Texts.{itemText, fits}
 use Rattle.records.specs.declared.body.Content.{Content}
 use Rattle.records.specs.declared.body.Content.the-variants.{Skipped, Entry, Setting, Refused}
 use Rattle.records.specs.declared.record.Step.{Step}
-use Rattle.records.specs.declared.decompile.Total.{Total}
 use Rattle.records.specs.Refusals.{cutShort}
 use Rattle.records.specs.Readings.{numberAt, lengthAt, isCut, contentOf, split, afterRecord, saidFrom, saidOf, itemsSaid, refusalSaid}
 use Rattle.records.specs.Readings as said
@@ -84,22 +81,12 @@ lineFound body (Refused number) = []
 
 -- ---- all records
 
--- what is answered where the buffer has room
-unfoldable pub measured : List ℕ → NormalAnswer
-measured s =
+-- what refuses their text, a buffer's length apart: 0 where nothing does
+unfoldable pub recordsRefusal : List ℕ → ℕ
+recordsRefusal s =
     let refusal = refusalSaid (saidOf s) in
     let items = itemsSaid (saidOf s) in
-    cond (eqb refusal 0)
-    (cond (leb (entriesIn items) maxEntries)
-    (cond (fits items) (answer.Written (length (normalText items))) (answer.Refused tooLong))
-    (answer.Refused tooManyEntries))
-    (answer.Refused refusal)
-
--- a total with so many entries more, and a line of so many bytes: it grows while all fits
-unfoldable pub grown : Total → ℕ → ℕ → Total
-grown t entries size =
-    let fits = t .fits && (leb size (maxLine + 1) && leb (t .size + size) maxTable) in
-    record { count = t .count + entries; size = cond fits (t .size + size) (t .size); fits = fits }
+    cond (eqb refusal 0) (cond (leb (entriesIn items) maxEntries) (cond (fits items) 0 tooLong) tooManyEntries) refusal
 
 unfoldable pub entriesFound : Content → ℕ
 entriesFound Skipped = 0

@@ -1,13 +1,11 @@
 // A table in two walks over its lines: one measures its records and its normal text, the other writes the records.
 ghost use mathlib.Core.Path.{_≡_};
-ghost use Prim.Native.Nat.{_≤_};
-ghost use lib.ListN.{length};
-ghost use Rattle.bytes.specs.Laid.{laid};
+ghost use Rattle.bytes.specs.Clipped.{clipped};
 ghost use Rattle.crontab.specs.Tables.{tableOf};
 ghost use Rattle.normal.specs.Meanings.{ofUser, meaningOf};
+ghost use Rattle.normal.specs.Steps.{measured, textRefusal};
 ghost use Rattle.records.specs.Formats.{recordsOf};
 ghost use Rattle.records.specs.Calls.{compiled};
-ghost use Rattle.records.specs.WriterSteps.{packedSize};
 use crate::pack;
 use crontab::Kind;
 use crontab::MAX_LINE;
@@ -24,7 +22,7 @@ use normal::line;
 
 // What is answered where the buffer has room. The table's own refusal comes before a line that would be too long, wherever that stands.
 fn measure(s: &[u8], dialect: Dialect) -> NormalAnswer
-    ensures { λ r. ⌜ r ≡ packedSize dialect (now (s .entry)) ⌝ }
+    ensures { λ r. ⌜ r ≡ measured (textRefusal dialect (now (s .entry))) (recordsOf (meaningOf dialect (now (s .entry)))) ⌝ }
 {
     if MAX_TABLE < s.len() {
         return NormalAnswer::Refused {
@@ -35,8 +33,10 @@ fn measure(s: &[u8], dialect: Dialect) -> NormalAnswer
         kind: Kind::User,
         dialect,
     };
-    let mut text: usize = 0;
-    let mut size: usize = 0;
+    let mut no_text: [u8; 1] = [0];
+    let mut no_records: [u8; 1] = [0];
+    let mut text = 0;
+    let mut size = 0;
     let mut short = true;
     let mut c = item::START;
     while c.at < s.len() {
@@ -48,10 +48,10 @@ fn measure(s: &[u8], dialect: Dialect) -> NormalAnswer
                 number: fault.number,
             };
         }
-        let length = line::text_length(s, item);
-        text += length;
-        short = short & (length <= MAX_LINE + 1);
-        size += pack::record_length(s, item);
+        let next = line::write(s, item, &mut no_text, text);
+        short = short & (next - text <= MAX_LINE + 1);
+        text = next;
+        size = pack::write_record(s, item, &mut no_records, size);
     }
     if short & (text <= MAX_TABLE) {
         return NormalAnswer::Written { size };
@@ -59,10 +59,10 @@ fn measure(s: &[u8], dialect: Dialect) -> NormalAnswer
     NormalAnswer::Refused { number: TOO_LONG }
 }
 
-// Writes the records of a good table to the front of a buffer that has room for them.
+// Writes the records of a good table to the front of a buffer, as far as they fit.
 fn write(s: &[u8], dialect: Dialect, out: &mut [u8])
-    requires { ⌜ (tableOf (ofUser dialect) (now s) .refusal ≡ 0) × (length (recordsOf (meaningOf dialect (now s))) ≤ length (now out)) ⌝ }
-    ensures { λ _. ⌜ now (out .exit) ≡ laid (recordsOf (meaningOf dialect (now (s .entry)))) (now (out .entry)) ⌝ }
+    requires { ⌜ tableOf (ofUser dialect) (now s) .refusal ≡ 0 ⌝ }
+    ensures { λ _. ⌜ now (out .exit) ≡ clipped 0 (recordsOf (meaningOf dialect (now (s .entry)))) (now (out .entry)) ⌝ }
 {
     let rules = Rules {
         kind: Kind::User,

@@ -1,13 +1,11 @@
-// Records in two walks: one measures their normal text, the other writes it. A third finds the first bad one.
+// The normal text of records, in one walk: written as far as it fits, and measured. Another walk finds the first bad record.
 ghost use mathlib.Core.Path.{_≡_};
-ghost use Prim.Native.Nat.{_+_, _≤_, _<_};
-ghost use lib.ListN.{length};
-ghost use Rattle.bytes.specs.Laid.{laid};
-ghost use Rattle.crontab.specs.Limits.{maxTable};
+ghost use Prim.Native.Nat.{_≤_};
 ghost use Rattle.normal.specs.Texts.{normalText};
-ghost use Rattle.records.specs.Readings.{saidOf, itemsSaid, refusalSaid};
+ghost use Rattle.normal.specs.Steps.{Tried};
+ghost use Rattle.records.specs.Readings.{saidOf, itemsSaid};
 ghost use Rattle.records.specs.Calls.{decompiled, recordFault};
-ghost use Rattle.records.specs.ReaderSteps.{measured, grown, entriesFound};
+ghost use Rattle.records.specs.ReaderSteps.{recordsRefusal, entriesFound};
 use crate::body::Content;
 use crate::line;
 use crate::record;
@@ -20,31 +18,6 @@ use normal::TOO_LONG;
 use normal::TOO_SHORT;
 use normal::line::part;
 
-// How many entries there are, and how long their lines are. The size stops growing where no table could hold them.
-pub(crate) struct Total {
-    pub count: usize,
-    pub size: usize,
-    pub fits: bool,
-}
-
-fn grown(t: Total, entries: usize, size: usize) -> Total
-    requires { ⌜ (t .count + entries < 18446744073709551616) × (t .size ≤ maxTable) × (size ≤ 131510) ⌝ }
-    ensures { λ r. ⌜ r ≡ grown t entries size ⌝ }
-{
-    if t.fits & ((size <= MAX_LINE + 1) & (t.size + size <= MAX_TABLE)) {
-        return Total {
-            count: t.count + entries,
-            size: t.size + size,
-            fits: true,
-        };
-    }
-    Total {
-        count: t.count + entries,
-        size: t.size,
-        fits: false,
-    }
-}
-
 fn entries_found(content: Content) -> usize
     ensures { λ r. ⌜ (r ≡ entriesFound content) × (r ≤ 1) ⌝ }
 {
@@ -56,15 +29,14 @@ fn entries_found(content: Content) -> usize
     }
 }
 
-// What is answered where the buffer has room. A bad record comes before all else, wherever it stands.
-fn measure(s: &[u8]) -> NormalAnswer
-    ensures { λ r. ⌜ r ≡ measured (now (s .entry)) ⌝ }
+// Writes as much of the normal text of records as fits to the front of a buffer, and answers what the call answers where all of it fits. A bad
+// record comes before all else, wherever it is.
+fn write(s: &[u8], out: &mut [u8]) -> NormalAnswer
+    ensures { λ r. ⌜ Tried (recordsRefusal (now (s .entry))) (normalText (itemsSaid (saidOf (now (s .entry))))) (now (out .entry)) r (now (out .exit)) ⌝ }
 {
-    let mut total = Total {
-        count: 0,
-        size: 0,
-        fits: true,
-    };
+    let mut count: usize = 0;
+    let mut short = true;
+    let mut text = 0;
     let mut at = 0;
     while at < s.len() {
         let step = record::advance(s, at);
@@ -72,34 +44,21 @@ fn measure(s: &[u8]) -> NormalAnswer
         if let Content::Refused { number } = content {
             return NormalAnswer::Refused { number };
         }
-        let length = line::text_length(part(s, step.start, step.end), content);
-        total = grown(total, entries_found(content), length);
+        let next = line::write(part(s, step.start, step.end), content, out, text);
+        short = short & (next - text <= MAX_LINE + 1);
+        text = next;
+        count += entries_found(content);
         at = step.end;
     }
-    if MAX_ENTRIES < total.count {
+    if MAX_ENTRIES < count {
         return NormalAnswer::Refused {
             number: TOO_MANY_ENTRIES,
         };
     }
-    if total.fits {
-        return NormalAnswer::Written { size: total.size };
+    if short & (text <= MAX_TABLE) {
+        return NormalAnswer::Written { size: text };
     }
     NormalAnswer::Refused { number: TOO_LONG }
-}
-
-// Writes the normal text of records that aren't bad to the front of a buffer that has room for it.
-fn write(s: &[u8], out: &mut [u8])
-    requires { ⌜ (refusalSaid (saidOf (now s)) ≡ 0) × (length (normalText (itemsSaid (saidOf (now s)))) ≤ length (now out)) ⌝ }
-    ensures { λ _. ⌜ now (out .exit) ≡ laid (normalText (itemsSaid (saidOf (now (s .entry))))) (now (out .entry)) ⌝ }
-{
-    let mut next = 0;
-    let mut at = 0;
-    while at < s.len() {
-        let step = record::advance(s, at);
-        let content = step.content;
-        next = line::write(part(s, step.start, step.end), content, out, next);
-        at = step.end;
-    }
 }
 
 // Writes the normal text of records to the front of a buffer; where they are refused, writes nothing.
@@ -107,13 +66,13 @@ pub fn decompile(records: &[u8], text: &mut [u8]) -> NormalAnswer
     ensures answer { λ r. ⌜ r ≡ decompiled (now (records .entry)) (now (text .entry)) .answer ⌝ }
     ensures text { λ _. ⌜ now (text .exit) ≡ decompiled (now (records .entry)) (now (text .entry)) .buffer ⌝ }
 {
-    match measure(records) {
+    let mut none: [u8; 1] = [0];
+    match write(records, &mut none) {
         NormalAnswer::Written { size } => {
             if text.len() < size {
                 return NormalAnswer::Refused { number: TOO_SHORT };
             }
-            write(records, text);
-            NormalAnswer::Written { size }
+            write(records, text)
         }
         NormalAnswer::Refused { number } => NormalAnswer::Refused { number },
     }

@@ -1,9 +1,10 @@
-// An item as a record (ticket 2026-08), measured, and written to a lent buffer. What gives no item has no record.
+// An item as a record (ticket 2026-08), written at a place of a lent buffer as far as it fits. The place after it is answered. What gives no
+// item has no record.
 ghost use mathlib.Core.Path.{_≡_};
 ghost use Prim.Native.Nat.{_+_, _*_, _≤_};
 ghost use lib.ListN.{length};
 ghost use mir.Val.{boolByte};
-ghost use Rattle.bytes.specs.Laid.{Wrote};
+ghost use Rattle.bytes.specs.Clipped.{Wrote};
 ghost use Rattle.crontab.specs.Limits.{maxTable};
 ghost use Rattle.normal.specs.Meanings.{setting, entryItem};
 ghost use Rattle.normal.specs.Steps.{Within};
@@ -21,46 +22,9 @@ use normal::line::part;
 use schedule::Schedule;
 use schedule::Stars;
 
-// Length and kind.
-const HEAD: usize = 4;
-
-// ---- measured
-
-fn entry_length(when: When, command: &[u8]) -> usize
-    requires { ⌜ length (now command) ≤ maxTable ⌝ }
-    ensures { λ r. ⌜ (r ≡ length (itemRecord (entryItem when (now (command .entry))))) × (r ≤ maxTable + 24) ⌝ }
-{
-    match when {
-        When::Reboot => HEAD + command.len(),
-        When::Timed(_) => HEAD + SCHEDULE_SIZE + command.len(),
-    }
-}
-
-pub(crate) fn record_length(s: &[u8], item: Item) -> usize
-    requires { ⌜ (length (now s) ≤ maxTable) × Within (now s) item ⌝ }
-    ensures { λ r. ⌜ (r ≡ length (recordPart (now (s .entry)) item)) × (r ≤ 2 * maxTable + 24) ⌝ }
-{
-    match item {
-        Item::Nothing => 0,
-        Item::Setting { name, value } => {
-            let name = part(s, name.start, name.end);
-            let value = part(s, value.start, value.end);
-            HEAD + 2 + name.len() + value.len()
-        }
-        Item::Entry(e) => {
-            let command = part(s, e.start as usize, e.end as usize);
-            let when = e.when;
-            entry_length(when, command)
-        }
-        Item::Refused(_) => 0,
-    }
-}
-
-// ---- written at a place, where there is room for it. The place behind it is answered.
-
 // What stands before a body of so many bytes: the length counts the kind too.
 fn write_head(kind: u16, size: usize, out: &mut [u8], at: usize) -> usize
-    requires { ⌜ (at + 4 ≤ length (now out)) × (size ≤ length (now out)) ⌝ }
+    requires { ⌜ size ≤ 2 * maxTable + 20 ⌝ }
     ensures { λ r. ⌜ Wrote at (headOf kind size) (now (out .entry)) r (now (out .exit)) ⌝ }
 {
     let next = little_endian::write(out, at, 2 + size as u64, 2);
@@ -85,7 +49,6 @@ fn flags(s: Stars) -> u64
 }
 
 fn write_schedule(s: Schedule, out: &mut [u8], at: usize) -> usize
-    requires { ⌜ at + 20 ≤ length (now out) ⌝ }
     ensures { λ r. ⌜ Wrote at (scheduleBytes s) (now (out .entry)) r (now (out .exit)) ⌝ }
 {
     let stars = s.stars;
@@ -98,7 +61,7 @@ fn write_schedule(s: Schedule, out: &mut [u8], at: usize) -> usize
 }
 
 fn write_setting(kind: u16, name: &[u8], value: &[u8], out: &mut [u8], at: usize) -> usize
-    requires { ⌜ (kind ≡ settingKindOf (now name)) × (at + length (itemRecord (setting (now name) (now value))) ≤ length (now out)) ⌝ }
+    requires { ⌜ (kind ≡ settingKindOf (now name)) × (length (now name) ≤ maxTable) × (length (now value) ≤ maxTable) ⌝ }
     ensures { λ r. ⌜ Wrote at (itemRecord (setting (now (name .entry)) (now (value .entry)))) (now (out .entry)) r (now (out .exit)) ⌝ }
 {
     let at = write_head(kind, 2 + name.len() + value.len(), out, at);
@@ -108,7 +71,7 @@ fn write_setting(kind: u16, name: &[u8], value: &[u8], out: &mut [u8], at: usize
 }
 
 fn write_entry(when: When, command: &[u8], out: &mut [u8], at: usize) -> usize
-    requires { ⌜ at + length (itemRecord (entryItem when (now command))) ≤ length (now out) ⌝ }
+    requires { ⌜ length (now command) ≤ maxTable ⌝ }
     ensures { λ r. ⌜ Wrote at (itemRecord (entryItem when (now (command .entry)))) (now (out .entry)) r (now (out .exit)) ⌝ }
 {
     match when {
@@ -125,7 +88,7 @@ fn write_entry(when: When, command: &[u8], out: &mut [u8], at: usize) -> usize
 }
 
 pub(crate) fn write_record(s: &[u8], item: Item, out: &mut [u8], at: usize) -> usize
-    requires { ⌜ Within (now s) item × (at + length (recordPart (now s) item) ≤ length (now out)) ⌝ }
+    requires { ⌜ (length (now s) ≤ maxTable) × Within (now s) item ⌝ }
     ensures { λ r. ⌜ Wrote at (recordPart (now (s .entry)) item) (now (out .entry)) r (now (out .exit)) ⌝ }
 {
     match item {

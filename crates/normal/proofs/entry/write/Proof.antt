@@ -1,29 +1,10 @@
 -- `normal::entry::write` meets its contract, by when the entry fires: one text behind the other.
 -- Assumes nothing.
-use mathlib.Core.Path.{ap}
-use native.Mathlib.Omega.{arith}
 use borrow.Author.Needs.{needs}
-use lib.ListN.{length}
 use Rattle.bytes.proofs.Written.{wrote-next}
-use Rattle.normal.proofs.Writing.{boot-text, timed-text, timed-length, command-room}
+use Rattle.normal.proofs.Writing.{boot-text, timed-text}
 use Rattle.normal.proofs.entry.write.Statement.{statement}
 use Rattle.normal.proofs.entry.write.Tie as tie
-
-copy-requires : tie.Need-copy-requires
-copy-requires c κs = omega (arith, ap length (boot-text _ (c .before .before .before .before .before .before .args .command .now) (c .before .before .enum-told .given .1)))
-
-copy-requires-2 : tie.Need-copy-requires-2
-copy-requires-2 c κs =
-    let w = c .before .before .before .copy .ensures in
-    omega (arith, ap length (boot-text _ (c .before .before .before .before .before .before .before .before .before .before .args .command .now) (c .before .before .before .before .before .before .enum-told .given .1)), w .size, w .place)
-
-write-schedule-requires : tie.Need-write-schedule-requires
-write-schedule-requires c κs = omega (arith, timed-length _ (c .before .before .before .before .before .before .args .command .now) (c .before .before .when .given .1))
-
-copy-requires-3 : tie.Need-copy-requires-3
-copy-requires-3 c κs =
-    let b = c .before .before .before .before .before .before in
-    command-room _ _ (b .when .given .1) (c .before .before .before .write-schedule .ensures) (b .before .before .before .before .pre)
 
 returns : tie.Need-returns
 returns c =
@@ -39,11 +20,11 @@ write-spec =
     (tie.spec
     (λ c. search needs)
     (λ c. search needs)
-    copy-requires
-    copy-requires-2
+    (λ c κs. tt)
+    (λ c κs. tt)
     (λ c. search needs)
-    write-schedule-requires
-    copy-requires-3
+    (λ c κs. tt)
+    (λ c κs. tt)
     (λ c. search needs)
     returns
     (λ c. search needs)

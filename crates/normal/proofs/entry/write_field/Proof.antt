@@ -12,4 +12,4 @@ returns c = wrote-next (c .before .before .before .before .before .before .write
 
 pub write-field-spec : {M : Type 1} → statement M
 write-field-spec =
-    tie.close (tie.spec (λ c κs. search needs) (λ c κs. search needs) (λ c. search needs) returns)
+    tie.close (tie.spec (λ c κs. search needs) (λ c κs. tt) (λ c. search needs) returns)

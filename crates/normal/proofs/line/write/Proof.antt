@@ -3,48 +3,24 @@
 use native.Mathlib.Omega.{arith}
 use borrow.Author.Needs.{needs}
 use Rattle.bytes.proofs.Written.{wrote-none, wrote-next}
-use Rattle.normal.proofs.Writing.{line-none, line-refused, setting-within, line-setting, line-setting-length}
-use Rattle.normal.proofs.Writing.{entry-within, line-entry, line-entry-length}
+use Rattle.normal.proofs.Writing.{line-none, line-refused, setting-within, line-setting}
+use Rattle.normal.proofs.Writing.{entry-within, line-entry}
 use Rattle.normal.proofs.line.write.Statement.{statement}
 use Rattle.normal.proofs.line.write.Tie as tie
 
 part-requires : tie.Need-part-requires
-part-requires c κs = setting-within _ _ (c .before .item .given .1) (c .before .before .before .before .before .pre .0) .0
+part-requires c κs = setting-within _ _ (c .before .item .given .1) (c .before .before .before .before .before .pre) .0
 
 part-requires-2 : tie.Need-part-requires-2
-part-requires-2 c κs = setting-within _ _ (c .before .before .item .given .1) (c .before .before .before .before .before .before .pre .0) .1
-
-write-requires : tie.Need-write-requires
-write-requires c κs =
-    let b = c .before .before .before .before .before .before .before .before in
-    rw (c .before .before .part .ensures .0, c .before .part2 .ensures .0)
-    (omega (arith, line-setting-length (b .args .s .now) (b .args .item) (c .before .before .before .before .item .given .1), b .pre .1))
-
-byte-requires : tie.Need-byte-requires
-byte-requires c κs =
-    let b = c .before .before .before .before .before .before .before .before .before .before .before .before in
-    let w = rw (c .before .before .before .before .before .before .part .ensures .0, c .before .before .before .before .before .part2 .ensures .0) at (c .before .before .before .write .ensures) in
-    omega (arith, line-setting-length (b .args .s .now) (b .args .item) (c .before .before .before .before .before .before .before .before .item .given .1), b .pre .1, w .size, w .place)
+part-requires-2 c κs = setting-within _ _ (c .before .before .item .given .1) (c .before .before .before .before .before .before .pre) .1
 
 part-requires-3 : tie.Need-part-requires-3
-part-requires-3 c κs = entry-within _ _ (c .before .before .before .item2 .given .1) (c .before .before .before .before .before .before .before .pre .0)
-
-write-requires-2 : tie.Need-write-requires-2
-write-requires-2 c κs =
-    let b = c .before .before .before .before .before .before .before .before .before in
-    rw (c .before .part3 .ensures .0)
-    (omega (arith, line-entry-length (b .args .s .now) (b .args .item) (c .before .before .before .before .before .item2 .given .1), b .pre .1))
-
-byte-requires-2 : tie.Need-byte-requires-2
-byte-requires-2 c κs =
-    let b = c .before .before .before .before .before .before .before .before .before .before .before .before .before in
-    let w = rw (c .before .before .before .before .before .part3 .ensures .0) at (c .before .before .before .write2 .ensures) in
-    omega (arith, line-entry-length (b .args .s .now) (b .args .item) (c .before .before .before .before .before .before .before .before .before .item2 .given .1), b .pre .1, w .size, w .place)
+part-requires-3 c κs = entry-within _ _ (c .before .before .before .item2 .given .1) (c .before .before .before .before .before .before .before .pre)
 
 returns : tie.Need-returns
 returns c =
     let b = c .before .before .before .before in
-    rw (line-none _ _ (c .enum-told .given .1)) (wrote-none (b .args .at) (b .args .out .now) (omega (arith, b .pre .1)))
+    rw (line-none _ _ (c .enum-told .given .1)) (wrote-none (b .args .at) (b .args .out .now) (omega arith) (omega arith))
 
 returns-2 : tie.Need-returns-2
 returns-2 c =
@@ -59,7 +35,7 @@ returns-3 c =
 returns-4 : tie.Need-returns-4
 returns-4 c =
     let b = c .before .before .before .before in
-    rw (line-refused _ _ (c .enum-told2 .given .1)) (wrote-none (b .args .at) (b .args .out .now) (omega (arith, b .pre .1)))
+    rw (line-refused _ _ (c .enum-told2 .given .1)) (wrote-none (b .args .at) (b .args .out .now) (omega arith) (omega arith))
 
 pub write-spec : {M : Type 1} → statement M
 write-spec =
@@ -69,14 +45,14 @@ write-spec =
     (λ c. search needs)
     part-requires
     part-requires-2
-    write-requires
-    byte-requires
+    (λ c κs. tt)
+    (λ c κs. tt)
     (λ c. search needs)
     (λ c. search needs)
     (λ c. search needs)
     part-requires-3
-    write-requires-2
-    byte-requires-2
+    (λ c κs. tt)
+    (λ c κs. tt)
     (λ c. search needs)
     returns
     (λ c. search needs)

@@ -1,96 +1,88 @@
--- `records::compile::measure` meets its contract: what is measured and what is left of the items always give the same.
+-- `records::compile::measure` meets its contract: normal text and records of the lines up to a cursor are measured, and those from there on are left.
 -- Assumes nothing.
-use mathlib.Core.Path.{_≡_, sym, _∙_}
+use mathlib.Core.Path.{_≡_, refl, sym, _∙_}
 use Prim.Native.Nat.{_+_, _-_, _*_, _≤_}
 use native.Mathlib.Omega.{arith}
 use borrow.Author.Needs.{needs}
-use borrow.Author.Tests.{lt-ltb}
 use lib.ListN.{length}
 use Rattle.crontab.specs.Limits.{maxTable}
-use Rattle.crontab.specs.Items.{itemsOf}
-use Rattle.crontab.specs.Steps.{itemsAt}
-use Rattle.crontab.proofs.Items.{items-start, items-end}
-use Rattle.normal.specs.Meanings.{ofUser, meanings, meaningOf}
-use Rattle.normal.specs.Steps.{measured}
 use Rattle.crontab.proofs.Walks.{step-less}
-use Rattle.normal.proofs.Walks.{last-variant, not-refused, Going, going-starts, going-within, going-next, answered, measureFrom}
-use Rattle.normal.proofs.Walks.{measure-whole, measure-next, measure-refused, size-starts, size-next, size-ends}
+use Rattle.normal.specs.Meanings.{meaningOf}
+use Rattle.normal.proofs.Walks.{table-long, last-variant, not-refused, Going, going-starts, going-within, going-next, going-refused, refused-some, going-good}
+use Rattle.normal.proofs.Walks.{itemsLeft, left-starts, left-ends, left-none, text-parts, parts-next, short-next}
+use Rattle.normal.proofs.Forms.{Lined, lined-starts, lined-next, lined-ends, lined-onward, Judged, judged-starts, judged-next, judged-ends, resized, refused-alike, refused-measured, text-refused, text-good}
 use Rattle.records.specs.Formats.{recordsOf}
-use Rattle.records.proofs.Compiling.{record-parts, packed-refused, packed-written}
+use Rattle.records.proofs.Compiling.{record-parts, record-short, near-next, near-size}
 use Rattle.records.proofs.compile.measure.Statement.{statement}
 use Rattle.records.proofs.compile.measure.Tie as tie
 
 abbrev Inv-loop : tie.InvT-loop
-Inv-loop s rules text₀ size₀ short₀ c₀ text size short c =
-    (measureFrom s short text (itemsAt (ofUser (rules .dialect)) s c) ≡ measured (rules .dialect) s)
-    × Going (rules .dialect) s c
-    × (text ≤ (2 * maxTable + 434) * c .at)
-    × (size + length (recordsOf (meanings s (itemsAt (ofUser (rules .dialect)) s c))) ≡ length (recordsOf (meaningOf (rules .dialect) s)))
+Inv-loop s rules no-text₀ no-records₀ text₀ size₀ short₀ c₀ no-text no-records text size short c =
+    let d = rules .dialect in
+    Going d s c
+    × Judged (meaningOf d s) (itemsLeft d s c) no-text₀ text no-text short
+    × Lined recordsOf (meaningOf d s) (itemsLeft d s c) no-records₀ size no-records
     × (size ≤ (2 * maxTable + 24) * c .at)
+    × (length no-text ≡ 1)
+    × (length no-records ≡ 1)
 
 abbrev μ-loop : tie.MeasureT-loop
-μ-loop s rules text₀ size₀ short₀ c₀ text size short c = length s + 1 - c .at
+μ-loop s rules no-text₀ no-records₀ text₀ size₀ short₀ c₀ no-text no-records text size short c = length s + 1 - c .at
 
 returns : tie.Need-returns Inv-loop μ-loop
-unfolding itemsOf measureFrom
-returns c = packed-refused _ _ (sym (sym (measure-whole _ _) ∙ rw (lt-ltb _ _ (c .if1 .taken))))
+returns c = refused-measured _ (text-refused _ _ 1 (table-long _ _ (c .if1 .taken)) (λ z. omega (arith, z))) (λ z. omega (arith, z))
 
 loop-holds : tie.Need-loop-holds Inv-loop μ-loop
 loop-holds c =
-    let short = c .if1 .left in (
-      rw (items-start _ _ short) (measure-whole _ _),
-      going-starts _ _ short,
-      omega arith,
-      size-starts (record-parts _) _ short,
-      omega arith,
-    )
+    let short = c .if1 .left in
+    (going-starts _ _ short, judged-starts _ (left-starts _ _ short) (omega arith), lined-starts recordsOf _ (left-starts _ _ short) (omega arith), omega arith, refl, refl)
 
 advance-requires : tie.Need-advance-requires Inv-loop μ-loop
-advance-requires c κs = (c .before .before .loop .inv .1 .reached, c .if2 .taken)
+advance-requires c κs = (c .before .before .loop .inv .0 .reached, c .if2 .taken)
 
 returns-2 : tie.Need-returns-2 Inv-loop μ-loop
 returns-2 c =
-    let at = c .before .before .before .before .before .before .before .loop in
-    packed-refused _ _ (measure-refused _ (c .before .before .before .before .advance .ensures) (at .short) (at .text) (c .before .item .given .1) ∙ at .inv .0)
+    let going = c .before .before .before .before .before .before .before .loop .inv .0 in
+    let step = c .before .before .before .before .advance .ensures in
+    let is = c .before .item .given .1 in
+    let some = refused-some step going is in
+    refused-measured _ (text-refused _ _ _ (going-refused step going is) some) some
 
-text-length-requires : tie.Need-text-length-requires Inv-loop μ-loop
-text-length-requires c κs =
-    let going = c .before .before .before .before .before .loop .inv .1 in
-    (going .reached .short, going-within (c .before .before .advance .ensures) going)
+write-requires : tie.Need-write-requires Inv-loop μ-loop
+write-requires c κs = going-within (c .before .before .before .advance .ensures) (c .before .before .before .before .before .before .loop .inv .0)
 
-add-text : tie.Need-add-text Inv-loop μ-loop
-add-text c = let inv = c .before .before .before .before .before .before .loop .inv in omega (arith, inv .1 .reached .short, inv .2, c .text-length .ensures .1)
+sub-short : tie.Need-sub-short Inv-loop μ-loop
+sub-short c = lined-onward (c .before .before .before .before .before .before .before .before .loop .inv .1 .lined) (c .before .write .ensures)
 
-record-length-requires : tie.Need-record-length-requires Inv-loop μ-loop
-record-length-requires c κs =
-    let going = c .before .before .before .before .before .before .loop .inv .1 in
-    (going .reached .short, going-within (c .before .before .before .advance .ensures) going)
-
-add-size : tie.Need-add-size Inv-loop μ-loop
-add-size c = let inv = c .before .before .before .before .before .before .before .loop .inv in omega (arith, inv .1 .reached .short, inv .4, c .record-length .ensures .1)
+write-record-requires : tie.Need-write-record-requires Inv-loop μ-loop
+write-record-requires c κs =
+    let going = c .before .before .before .before .before .before .before .before .before .loop .inv .0 in
+    (going .reached .short, going-within (c .before .before .before .before .before .before .advance .ensures) going)
 
 loop-again : tie.Need-loop-again Inv-loop μ-loop
 loop-again c =
-    let at = c .before .before .before .before .before .before .before .loop in
-    let step = c .before .before .before .before .advance .ensures in
-    let kept = not-refused (c .before .before .before .before .advance .result .item) (λ f is. last-variant (rw is at (c .before .before .match .keys2))) in (
-      rw (c .before .text-length .ensures .0) (measure-next _ step (at .short) (at .text) kept ∙ at .inv .0),
-      going-next step (at .inv .1) kept,
-      omega (arith, step .onward, at .inv .2, c .before .text-length .ensures .1),
-      rw (c .record-length .ensures .0) (size-next (record-parts _) step kept (at .size) ∙ at .inv .3),
-      omega (arith, step .onward, at .inv .4, c .record-length .ensures .1),
-    )
+    let inv = c .before .before .before .before .before .before .before .before .before .before .before .loop .inv in
+    let step = c .before .before .before .before .before .before .before .before .advance .ensures in
+    let kept = not-refused (c .before .before .before .before .before .before .before .before .advance .result .item) (λ f is. last-variant (rw is at (c .before .before .before .before .before .before .match .keys2))) in
+    let text = judged-next (inv .1) (parts-next step kept (text-parts _)) (short-next step kept) (c .before .before .before .before .write .ensures) in
+    let wrote = c .before .write-record .ensures in
+    let records = lined-next (inv .2) (parts-next step kept (record-parts _)) wrote in
+    let near = near-next wrote (record-short _ (inv .0 .reached .short) _ (going-within step (inv .0))) in
+    (going-next step (inv .0) kept, text, records, omega (arith, near, inv .3, step .onward), text .lined .wrote .size, records .wrote .size)
 
 returns-3 : tie.Need-returns-3 Inv-loop μ-loop
-unfolding measureFrom answered
 returns-3 c =
     let at = c .before .before .before .loop in
     let end = c .before .if2 .left in
-    packed-written _ _ (rw (items-end _ _ (at .c) end, c .if3 .taken) at (at .inv .0)) (sym (size-ends (record-parts _) _ (at .c) (at .size) end) ∙ at .inv .3)
+    let going = at .inv .0 in
+    let size = near-size (lined-ends (at .inv .2) (left-none (record-parts _) _ (at .c) end)) (omega (arith, at .inv .3, going .reached .place, going .reached .short)) in
+    rw size (resized _ _ _ (rw (c .if3 .taken) at (judged-ends (at .inv .1) (left-ends _ _ (at .c) end) (text-good _ _ (going-good going end)) .is)))
 
 returns-4 : tie.Need-returns-4 Inv-loop μ-loop
-unfolding measureFrom answered
-returns-4 c = let at = c .before .before .before .loop in packed-refused _ _ (rw (items-end _ _ (at .c) (c .before .if2 .left), c .if3 .left) at (at .inv .0))
+returns-4 c =
+    let at = c .before .before .before .loop in
+    let end = c .before .if2 .left in
+    refused-alike _ _ _ (rw (c .if3 .left) at (judged-ends (at .inv .1) (left-ends _ _ (at .c) end) (text-good _ _ (going-good (at .inv .0) end)) .is))
 
 pub measure-spec : {M : Type 1} → statement M
 measure-spec =
@@ -103,12 +95,13 @@ measure-spec =
     advance-requires
     (λ c. search needs)
     returns-2
-    text-length-requires
-    add-text
+    (λ c. search needs)
+    write-requires
+    sub-short
     (λ c. omega arith)
-    record-length-requires
-    add-size
-    (λ c. step-less (c .before .before .before .before .advance .ensures))
+    (λ c. search needs)
+    write-record-requires
+    (λ c. step-less (c .before .before .before .before .before .before .before .before .advance .ensures))
     loop-again
     returns-3
     returns-4)

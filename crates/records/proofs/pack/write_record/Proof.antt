@@ -9,25 +9,26 @@ use Rattle.records.proofs.pack.write_record.Statement.{statement}
 use Rattle.records.proofs.pack.write_record.Tie as tie
 
 part-requires : tie.Need-part-requires
-part-requires c κs = setting-within _ _ (c .before .item .given .1) (c .before .before .before .before .before .pre .0) .0
+part-requires c κs = setting-within _ _ (c .before .item .given .1) (c .before .before .before .before .before .pre .1) .0
 
 part-requires-2 : tie.Need-part-requires-2
-part-requires-2 c κs = setting-within _ _ (c .before .before .item .given .1) (c .before .before .before .before .before .before .pre .0) .1
+part-requires-2 c κs = setting-within _ _ (c .before .before .item .given .1) (c .before .before .before .before .before .before .pre .1) .1
 
 write-setting-requires : tie.Need-write-setting-requires
 write-setting-requires c κs =
-    (c .before .of-setting .ensures, rw (c .before .before .before .part .ensures .0, c .before .before .part2 .ensures .0) (rw (part-setting _ _ (c .before .before .before .before .before .item .given .1)) at (c .before .before .before .before .before .before .before .before .before .pre .1)))
+    let short = c .before .before .before .before .before .before .before .before .before .pre .0 in
+    (c .before .of-setting .ensures, omega (arith, short, c .before .before .before .part .ensures .1), omega (arith, short, c .before .before .part2 .ensures .1))
 
 part-requires-3 : tie.Need-part-requires-3
-part-requires-3 c κs = entry-within _ _ (c .before .before .before .item2 .given .1) (c .before .before .before .before .before .before .before .pre .0)
+part-requires-3 c κs = entry-within _ _ (c .before .before .before .item2 .given .1) (c .before .before .before .before .before .before .before .pre .1)
 
 write-entry-requires : tie.Need-write-entry-requires
-write-entry-requires c κs = rw (c .before .part3 .ensures .0) (rw (part-entry _ _ (c .before .before .before .before .before .item2 .given .1)) at (c .before .before .before .before .before .before .before .before .before .pre .1))
+write-entry-requires c κs = omega (arith, c .before .part3 .ensures .1, c .before .before .before .before .before .before .before .before .before .pre .0)
 
 returns : tie.Need-returns
 returns c =
     let b = c .before .before .before .before in
-    rw (part-none _ _ (c .enum-told .given .1)) (wrote-none (b .args .at) (b .args .out .now) (omega (arith, b .pre .1)))
+    rw (part-none _ _ (c .enum-told .given .1)) (wrote-none (b .args .at) (b .args .out .now) (omega arith) (omega arith))
 
 returns-2 : tie.Need-returns-2
 returns-2 c =
@@ -39,7 +40,7 @@ returns-3 c = rw (part-entry _ _ (c .before .before .before .before .before .bef
 returns-4 : tie.Need-returns-4
 returns-4 c =
     let b = c .before .before .before .before in
-    rw (part-refused _ _ (c .enum-told2 .given .1)) (wrote-none (b .args .at) (b .args .out .now) (omega (arith, b .pre .1)))
+    rw (part-refused _ _ (c .enum-told2 .given .1)) (wrote-none (b .args .at) (b .args .out .now) (omega arith) (omega arith))
 
 pub write-record-spec : {M : Type 1} → statement M
 write-record-spec =
