@@ -10,8 +10,8 @@ use native.Mathlib.Omega.{arith}
 use lib.ListN.{length, getD, take, drop, length-append, List·getD-eq-default}
 use lib.Seq.{take-append-seam, drop-append-seam}
 use Rattle.bytes.specs.Laid as front
-use Rattle.bytes.specs.Laid.{Wrote}
-use Rattle.bytes.proofs.Written.{written-none, written-front, wrote-next}
+use Rattle.bytes.specs.Clipped.{lastPlace, Wrote}
+use Rattle.bytes.proofs.Written.{clipped-laid, wrote-none, wrote-next, saturated-small}
 use Rattle.io.specs.Digits.{glyph, digits, Fewest}
 use Rattle.crontab_firings.specs.Lines.{space, newline, Line, Lines}
 
@@ -41,13 +41,13 @@ pub record Written (minutes entries : List ℕ) (i : ℕ) (before : List ℕ) (a
   pub wrote : Wrote 0 so-far before at now
 
 module _ (minutes entries before : List ℕ) where
-  pub written-start : Written minutes entries 0 before 0 before
-  written-start =
+  pub written-start : length before ≤ lastPlace → Written minutes entries 0 before 0 before
+  written-start h =
       record {
         so-far = [];
         lines = refl;
         small = omega arith;
-        wrote = record { room = omega arith; bytes = sym (written-none 0 before); size = refl; place = refl };
+        wrote = wrote-none 0 before (omega arith) h;
       }
 
   pub written-more : {i at next : ℕ} {text now : List ℕ} → Written minutes entries i before at text
@@ -62,23 +62,30 @@ module _ (minutes entries before : List ℕ) where
         wrote = wrote-next (w .wrote) more;
       })
 
-  whole : {i at : ℕ} {text : List ℕ} (w : Written minutes entries i before at text) → (at ≡ length (w .so-far)) × (text ≡ w .so-far ++ drop (length (w .so-far)) before)
-  unfolding front.laid
-  whole w = (omega (arith, w .wrote .place), w .wrote .bytes ∙ written-front (w .so-far) before)
+  -- where all of them have room
+  module _ {i at : ℕ} {text : List ℕ} (w : Written minutes entries i before at text) (room : i * 42 ≤ length before) where
+    whole : (at ≡ length (w .so-far)) × (text ≡ w .so-far ++ drop (length (w .so-far)) before)
+    unfolding front.laid
+    whole =
+        let few : length (w .so-far) ≤ length before = omega (arith, w .small, room) in
+        (omega (arith, w .wrote .place, saturated-small (0 + length (w .so-far)) (omega (arith, few, w .wrote .short))), w .wrote .bytes ∙ clipped-laid (w .so-far) before few)
 
-  -- the bytes after them stay
-  pub written-rest : {i at : ℕ} {text : List ℕ} → Written minutes entries i before at text → drop at text ≡ drop at before
-  written-rest {i} {at} {text} w =
-      let (place, is) = whole w in
-      rw place (ap (drop (length (w .so-far))) is ∙ drop-append-seam (w .so-far) (drop (length (w .so-far)) before))
+    pub written-within : at ≤ length text
+    written-within = omega (arith, whole .0, w .small, room, w .wrote .size)
 
-  -- so many bytes are just the lines
-  pub written-text : {i at : ℕ} {text : List ℕ} → Written minutes entries i before at text → Lines minutes entries i (take at text)
-  written-text {i} {at} {text} w =
-      let (place, is) = whole w in
-      let e : take at text ≡ w .so-far =
-      ap (λ (n : ℕ). take n text) place ∙ ap (take (length (w .so-far))) is ∙ take-append-seam (w .so-far) (drop (length (w .so-far)) before) in
-      rw e (w .lines)
+    -- the bytes after them stay
+    pub written-rest : drop at text ≡ drop at before
+    written-rest =
+        let (place, is) = whole in
+        rw place (ap (drop (length (w .so-far))) is ∙ drop-append-seam (w .so-far) (drop (length (w .so-far)) before))
+
+    -- so many bytes are just the lines
+    pub written-text : Lines minutes entries i (take at text)
+    written-text =
+        let (place, is) = whole in
+        let e : take at text ≡ w .so-far =
+        ap (λ (n : ℕ). take n text) place ∙ ap (take (length (w .so-far))) is ∙ take-append-seam (w .so-far) (drop (length (w .so-far)) before) in
+        rw e (w .lines)
 
 -- ---- minutes of firings
 

@@ -1,9 +1,9 @@
 // Firings as lines of text: minute, space, entry number.
 ghost use mathlib.Core.Path.{_≡_};
 ghost use mathlib.Core.List.{List, _∷_};
-ghost use Prim.Native.Nat.{ℕ, _+_, _/_, _≤_, min};
+ghost use Prim.Native.Nat.{ℕ, _/_, _≤_, min};
 ghost use lib.ListN.{length, take, drop, getD};
-ghost use Rattle.bytes.specs.Laid.{Wrote};
+ghost use Rattle.bytes.specs.Clipped.{Wrote};
 ghost use Rattle.io.specs.Counts.{Counts};
 ghost use Rattle.crontab_firings.specs.Lines.{Decimal, Line, Lines, Before};
 use bytes::size::lesser;
@@ -14,7 +14,6 @@ pub const LINE: usize = 42;
 
 // A number at a place; the place after it is answered.
 fn decimal(text: &mut [u8], at: usize, n: u64) -> usize
-    requires { ⌜ at + 20 ≤ length (now text) ⌝ }
     ensures { λ r. ⌜ ((t : List ℕ) × Decimal n t × (length t ≤ 20) × Wrote at t (now (text .entry)) r (now (text .exit))) ⌝ }
 {
     let mut digits = [0u8; 20];
@@ -23,7 +22,6 @@ fn decimal(text: &mut [u8], at: usize, n: u64) -> usize
 }
 
 fn line(text: &mut [u8], at: usize, minute: u32, entry: u16) -> usize
-    requires { ⌜ at + 42 ≤ length (now text) ⌝ }
     ensures { λ r. ⌜ ((t : List ℕ) × Line minute entry t × (length t ≤ 42) × Wrote at t (now (text .entry)) r (now (text .exit))) ⌝ }
 {
     let space = decimal(text, at, minute as u64);

@@ -13,6 +13,8 @@ use native.Mathlib.Nat.{lt-of-not-le}
 use native.Mathlib.Decide.{decLe}
 use borrow.Author.Tests.{leb-true, le-leb, lt-leb, eqb-true}
 use Rattle.bytes.specs.Laid as front
+use Rattle.bytes.specs.Clipped.{clipped}
+use Rattle.bytes.proofs.Written.{clipped-laid}
 use Rattle.bytes.specs.Runs.{between}
 use Rattle.bytes.specs.LittleEndian.{littleEndian, numberOf}
 use Rattle.bytes.proofs.LittleEndian.{Bytes, length-littleEndian, number-back, bytes-take, bytes-drop, bytes-back}
@@ -215,7 +217,10 @@ module _ (s : List ℕ) (long : headSize ≤ length s) where
       rw (h, e, none, append-nil) (sym (laid-parts (record { mark = m; waiting = w }) s))
 
   -- a room with another head
-  module _ (m : Mark) {after : List ℕ} (e : after ≡ front.laid (head m) s) where
+  module _ (m : Mark) {after : List ℕ} (wrote : after ≡ clipped 0 (head m) s) where
+    e : after ≡ front.laid (head m) s
+    e = wrote ∙ clipped-laid (head m) s (omega (arith, length-head m))
+
     pub headed-length : length after ≡ length s
     headed-length = rw e (front-length (head m) s (omega (arith, length-head m)))
 

@@ -4,7 +4,7 @@ ghost use mathlib.Core.Bool.{true, _&&_};
 ghost use Prim.Native.Nat.{_≤_};
 ghost use lib.Dec.{eqb};
 ghost use lib.ListN.{length};
-ghost use Rattle.bytes.specs.Laid as front;
+ghost use Rattle.bytes.specs.Clipped.{clipped};
 ghost use Rattle.schedule.specs.Jumps.{isMark};
 ghost use Rattle.fifo.specs.Layout.{headSize, markNumber, formatNumber, head, formatOf, markOf};
 use bytes::little_endian;
@@ -28,10 +28,10 @@ fn mark_number(mark: Mark) -> u64
     }
 }
 
-// Writes the head with a mark at the front of a room.
+// Writes the head with a mark at the front of a room, as far as it fits.
 pub(crate) fn write(room: &mut [u8], mark: Mark)
-    requires { ⌜ (headSize ≤ length (now room)) × (isMark mark ≡ true) ⌝ }
-    ensures { λ _. ⌜ now (room .exit) ≡ front.laid (head mark) (now (room .entry)) ⌝ }
+    requires { ⌜ isMark mark ≡ true ⌝ }
+    ensures { λ _. ⌜ now (room .exit) ≡ clipped 0 (head mark) (now (room .entry)) ⌝ }
 {
     let next = little_endian::write(room, 0, FORMAT, MARK_AT);
     little_endian::write(room, next, mark_number(mark), MARK_AT);

@@ -18,7 +18,7 @@ long c = let a = c .before .before .before .before in
     omega (arith, headed-length (a .args .room .now) (long-line _ _ (a .pre .0)) (a .args .mark) (c .write .ensures), long-line _ _ (a .pre .0))
 
 write-requires : tie.Need-write-requires
-write-requires c κs = (long-line _ _ (c .before .before .before .pre .0), c .before .before .before .pre .2)
+write-requires c κs = c .before .before .before .pre .2
 
 sub-join : tie.Need-sub-join
 sub-join c = long (c .before .before)

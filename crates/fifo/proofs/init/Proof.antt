@@ -26,9 +26,7 @@ long c =
     omega (arith, headed-length (h .before .before .before .before .before .args .room .now) (wide _ _ r) None (c .write .ensures), wide _ _ r)
 
 write-requires : tie.Need-write-requires
-write-requires c κs =
-    let h = c .before in
-    (wide _ _ (sym (h .before .has-room .ensures) ∙ h .if1 .taken), refl)
+write-requires c κs = refl
 
 sub-fill : tie.Need-sub-fill
 sub-fill c = long (c .before .before)

@@ -8,11 +8,6 @@ use native.Mathlib.Omega.{arith}
 use Rattle.crontab_firings.proofs.lines.decimal.Statement.{statement}
 use Rattle.crontab_firings.proofs.lines.decimal.Tie as tie
 
-copy-requires : tie.Need-copy-requires
-copy-requires c κs =
-    let d = c .before .before .decimal in
-    omega (arith, d .ensures .0 .0, d .ensures .0 .1, few-digits (c .before .before .before .before .before .args .n) (d .result) (omega arith) (d .ensures .1 .0), c .before .before .before .before .before .pre)
-
 returns : tie.Need-returns
 returns c =
     let d = c .before .before .before .before .before .decimal in
@@ -25,4 +20,4 @@ returns c =
     )
 
 pub decimal-spec : {M : Type 1} → statement M
-decimal-spec = tie.close (tie.spec (λ c κs. search needs) (λ c. search needs) (λ c. search needs) copy-requires (λ c. search needs) returns)
+decimal-spec = tie.close (tie.spec (λ c κs. search needs) (λ c. search needs) (λ c. search needs) (λ c κs. search needs) (λ c. search needs) returns)
