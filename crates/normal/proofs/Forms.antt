@@ -114,9 +114,9 @@ module _ {items left : List Item} {before : List ℕ} {at : ℕ} {now : List ℕ
       record {
         lined = lined-next (so .lined) e w;
         lines =
-          λ h. let whole = rw (length-append (so .lined .text) part) at h in
-          rw (wrote-size (so .lined .wrote) w whole)
-          (and-assoc short (leb (length part) (maxLine + 1)) (areShort later) ∙ ap (λ (b : Bool). short && b) f ∙ so .lines (omega (arith, whole)));
+            λ h. let whole = rw (length-append (so .lined .text) part) at h in
+            rw (wrote-size (so .lined .wrote) w whole)
+            (and-assoc short (leb (length part) (maxLine + 1)) (areShort later) ∙ ap (λ (b : Bool). short && b) f ∙ so .lines (omega (arith, whole)));
       }
 
   -- what is answered where nothing else refuses it

@@ -184,7 +184,6 @@ module _ (body : List ℕ) (x : held.Content) where
     unfolding lineFound
     found-entry = rw (e, between-rest body start)
 
-
   module _ {value : ℕ} (e : x ≡ Setting value) where
     pub setting-within : Within body x → (2 ≤ value) × (value ≤ length body)
     setting-within h = rw e at h
@@ -192,4 +191,3 @@ module _ (body : List ℕ) (x : held.Content) where
     pub found-setting : lineFound body x ≡ itemText (setting (between body 2 value) (between body value (length body))) ++ 10 ∷ []
     unfolding lineFound
     found-setting = rw (e, between-rest body value)
-
