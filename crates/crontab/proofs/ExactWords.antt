@@ -1,7 +1,7 @@
 -- The bytes that have a meaning, and no others: the eight words, and the name `CRON_TZ`. Of any bytes, so of every letter in them.
 -- Assumes nothing.
 use mathlib.Core.Path.{_≡_, refl, sym, ap, _∙_}
-use mathlib.Core.Bool.{Bool, true, false, cond, and-eq-true-iff, _&&_, true≢false}
+use mathlib.Core.Bool.{Bool, true, false, cond, and-eq-true-iff, true≢false}
 use mathlib.Core.Logic.{_⊎_, inl, inr}
 use mathlib.Core.List.{List, [], _∷_}
 use Prim.Native.Nat.{ℕ}
@@ -15,7 +15,6 @@ use Rattle.crontab.specs.declared.word.Word.{Word}
 use Rattle.crontab.specs.declared.word.Word.the-variants.{Known, Unknown}
 use Rattle.crontab.specs.declared.offset.Zone.{Zone}
 use Rattle.crontab.specs.declared.offset.Zone.the-variants.{Same, Offset}
-use Rattle.crontab.specs.declared.line.Line.{Line}
 use Rattle.crontab.specs.declared.line.Line.the-variants.{Setting}
 use Rattle.crontab.specs.Words.{same, Named, meanings, chosen, wordIn, wordOf}
 use Rattle.crontab.specs.Offsets.{zoneName, offsetOf, zoneOf}

@@ -4,16 +4,15 @@
 use mathlib.Core.Path.{_≡_, refl, ap}
 use mathlib.Core.Logic.{_⊎_, inl, inr}
 use mathlib.Core.List.{List, [], _∷_}
-use Prim.Native.Nat.{ℕ, _-_, _≤_, _<_}
+use Prim.Native.Nat.{ℕ, _-_, _<_}
 use native.Mathlib.Decide.{decLe}
 use native.Mathlib.Omega.{arith}
 use lib.ListN.{length, getD}
 use Rattle.field.specs.declared.Dialect.the-variants.{Rising, Wrapping}
 use Rattle.field.specs.Refusals.{reversed}
 use Rattle.crontab.specs.declared.Kind.{Kind}
-use Rattle.crontab.specs.declared.Kind.the-variants.{User, System}
+use Rattle.crontab.specs.declared.Kind.the-variants.{System}
 use Rattle.crontab.specs.declared.Rules.{Rules}
-use Rattle.crontab.specs.declared.table.Table.{Table}
 use Rattle.crontab.specs.declared.setting.LineAnswer.the-variants.{At}
 use Rattle.crontab.specs.Items.{itemsOf}
 use Rattle.crontab.specs.Tables.{blankEntry, tableOf, entryIn}

@@ -5,14 +5,12 @@ use mathlib.Core.Path.{_≡_, refl, sym, ap, _∙_}
 use mathlib.Core.Bool.{Bool, true, false, cond}
 use mathlib.Core.List.{List, [], _∷_}
 use Prim.Native.Nat.{ℕ, _+_}
-use native.Mathlib.Omega.{arith}
 use lib.ListN.{length, getD}
 use lib.Dec.{eqb, leb, ltb}
 use lib.IntN.{ℤ}
 use Rattle.bytes.specs.declared.class.Class.the-variants.{Blank, InLine}
 use Rattle.bytes.specs.Runs.{skipped}
 use Rattle.field.specs.declared.Dialect.{Dialect}
-use Rattle.field.specs.declared.Dialect.the-variants.{Rising, Wrapping}
 use Rattle.crontab.specs.declared.Rules.{Rules}
 use Rattle.crontab.specs.declared.Kind.{Kind}
 use Rattle.crontab.specs.declared.Kind.the-variants.{User, System}
@@ -33,8 +31,8 @@ use Rattle.crontab.specs.declared.assignment.Text.the-variants as text
 use Rattle.crontab.specs.Offsets.{utc, inForce, zoneOf, mayStand}
 use Rattle.crontab.specs.Settings.{partBytes}
 use Rattle.crontab.specs.Assignments.{nameAt, valueAt, afterEquals, afterName, settingAt}
-use Rattle.crontab.specs.Lines.{linesOf, isLast, isCut, startsEntry, contentFrom, contentOf, byteFault, readLine}
-use Rattle.crontab.specs.Items.{Items, done, fault, setting, entry, afterLine, lastFault, itemsFrom, itemsOf}
+use Rattle.crontab.specs.Lines.{linesOf, isCut, startsEntry, contentFrom, contentOf, byteFault, readLine}
+use Rattle.crontab.specs.Items.{Items, afterLine, itemsFrom, itemsOf}
 use Rattle.crontab.specs.Tables.{tableOf}
 use Rattle.crontab.proofs.LineViews.{contentStart}
 use Rattle.crontab.proofs.TimeViews.{time-view}

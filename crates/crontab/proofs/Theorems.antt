@@ -27,6 +27,7 @@
 -- What has a meaning, and nothing else:
 --   known-word: a word that is known is one of the eight; offset-name: a setting changes the offset exactly if its name is `CRON_TZ`
 -- "Matching, next firing and the line are proved once over both": all the others here hold of any rules, whatever their dialect.
+-- Extremes uses table-sound, cut-refused, next-setting, first-dialect-same and never-reversed for system tables, their last entry and a line past the last.
 -- Assumes nothing.
 use mathlib.Core.Path.{_≡_, refl}
 use mathlib.Core.Bool.{Bool, true, false, cond}

@@ -8,7 +8,6 @@ use Rattle.bytes.specs.Texts.{text}
 use Rattle.bytes.specs.Rows.{Hold}
 use Rattle.bytes.specs.Sets.{setOf, upTo}
 use Rattle.field.specs.declared.Dialect.{Dialect}
-use Rattle.schedule.specs.declared.Schedule.{Schedule}
 use Rattle.crontab.specs.declared.Kind.the-variants.{User, System}
 use Rattle.crontab.specs.declared.time.When.{When}
 use Rattle.crontab.specs.declared.time.When.the-variants.{Reboot, Timed}

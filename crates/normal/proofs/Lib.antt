@@ -9,3 +9,4 @@ pub mod Tables
 pub mod Writing
 pub mod Walks
 pub mod Theorems
+pub mod Extremes

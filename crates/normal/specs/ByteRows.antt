@@ -12,9 +12,7 @@ use Rattle.bytes.specs.Texts.{text}
 use Rattle.bytes.specs.Rows.{Hold}
 use Rattle.bytes.specs.AllBytes.{Range, LeadAmong, Lead, one, range, each, oneOf, trying}
 use Rattle.bytes.specs.Sets.{setOf, upTo}
-use Rattle.field.specs.declared.Dialect.{Dialect}
 use Rattle.field.specs.declared.Dialect.the-variants.{Rising, Wrapping}
-use Rattle.schedule.specs.declared.Schedule.{Schedule}
 use Rattle.normal.specs.declared.NormalAnswer.{NormalAnswer}
 use Rattle.normal.specs.declared.NormalAnswer.the-variants.{Written, Refused}
 use Rattle.normal.specs.Meanings.{Item, setting, boot, timed, entriesIn, meaningOf, lineItems}
