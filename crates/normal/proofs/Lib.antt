@@ -10,3 +10,4 @@ pub mod Writing
 pub mod Walks
 pub mod Theorems
 pub mod Extremes
+pub mod NotMet
