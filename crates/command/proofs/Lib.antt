@@ -3,3 +3,4 @@ pub mod Ahead
 pub mod Sizes
 pub mod Filling
 pub mod Buffers
+pub mod Extremes

@@ -20,4 +20,8 @@ pub mod Clocks
 pub mod Choices
 pub mod Reversed
 pub mod FirstDialect
+pub mod KindsDialects
+pub mod ExactWords
 pub mod Theorems
+pub mod Extremes
+pub mod NotMet

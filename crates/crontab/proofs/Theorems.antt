@@ -19,7 +19,15 @@
 --   never-reversed, verdict-never-reversed: never for a table in the second dialect, whatever its bytes
 -- "In the first dialect nothing changes":
 --   first-dialect-same: a table is in it what it was before there was a second, entry by entry and fault by fault
+-- Kind and dialect act apart from each other:
+--   system-line: a system's line is the user's up to the end of its time, in each dialect; so a user's refusal is the system's, with its column
+--   dialect-line, time-ends: where both dialects read the time, the lines differ in its sets alone, in each kind
+--   word-line, other-line: a word is the same in both dialects, and a line that doesn't start as an entry under all rules
+--   items-alike, table-alike: rules act on each line apart from the others; untimed-table: a table of settings and words is the same in both dialects
+-- What has a meaning, and nothing else:
+--   known-word: a word that is known is one of the eight; offset-name: a setting changes the offset exactly if its name is `CRON_TZ`
 -- "Matching, next firing and the line are proved once over both": all the others here hold of any rules, whatever their dialect.
+-- Extremes uses table-sound, cut-refused, next-setting, first-dialect-same and never-reversed for system tables, their last entry and a line past the last.
 -- Assumes nothing.
 use mathlib.Core.Path.{_≡_, refl}
 use mathlib.Core.Bool.{Bool, true, false, cond}
@@ -77,6 +85,8 @@ pub use Rattle.crontab.proofs.Cuts.{cut-refused}
 pub use Rattle.crontab.proofs.Owners.{ShownAt, OwnerJudged, owner-judged, owner-named}
 pub use Rattle.crontab.proofs.Reversed.{never-reversed, verdict-never-reversed}
 pub use Rattle.crontab.proofs.FirstDialect.{first-dialect-same}
+pub use Rattle.crontab.proofs.KindsDialects.{withColumn, system-line, withWhen, time-ends, dialect-line, word-line, other-line, ReadAlike, items-alike, table-alike, Untimed, untimed-table}
+pub use Rattle.crontab.proofs.ExactWords.{AnyOf, known-word, offset-name}
 pub use Rattle.crontab.proofs.EntryViews.{FoundEntry, FoundView, found-view, entry-sound, entry-on-line}
 pub use Rattle.crontab.proofs.LineNumbers.{HasSetting, HasNone, NextSetting, next-setting}
 pub use Rattle.crontab.proofs.Zones.{zoned-is}

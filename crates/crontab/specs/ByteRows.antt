@@ -1,5 +1,5 @@
 -- Every decision that a line's next byte makes, over all 256 bytes; the lists of words and of refusals whole; and lines that are almost of
--- their form, or just too long. In the comments `B` is the byte.
+-- their form, or just too long.
 -- In the comments `?` is the byte that is tried.
 -- Assumes nothing.
 use Prim.Native.Nat.{ℕ, _+_, _-_, _*_}
@@ -21,9 +21,7 @@ use Rattle.crontab.specs.declared.line.Line.{Line}
 use Rattle.crontab.specs.declared.line.Line.the-variants.{Ignored, Setting, Entry, Refused}
 use Rattle.crontab.specs.declared.offset.Zone.the-variants.{Same, Offset}
 use Rattle.crontab.specs.Refusals.{tableTooLong, lineTooLong, nulByte, tooFewFields, noCommand, unknownWord, badSetting, tooManyEntries, noSuchEntry, atBootOnly, noSetting, badUser, badOffset, cutTable, controlByte}
-use Rattle.crontab.specs.declared.word.Word.{Word}
-use Rattle.crontab.specs.declared.word.Word.the-variants.{Known, Unknown}
-use Rattle.crontab.specs.Words.{Named, meanings, wordOf}
+use Rattle.crontab.specs.Words.{Named, meanings}
 use Rattle.crontab.specs.Lines.{readLine}
 use Rattle.crontab.specs.Tables.{tableOf}
 use Rattle.crontab.specs.Computing.{reading}
@@ -95,7 +93,7 @@ first-after-blanks : Leads (λ b. text " \t" ++ b ∷ text "=c") 3
 unfolding trying reading
 first-after-blanks = refl
 
--- `B`: alone, an entry has too few fields, and a setting no `=`
+-- `?`: alone, an entry has too few fields, and a setting no `=`
 only-byte : Leads (λ b. b ∷ []) 1
     (digit (always (refused 4 2)) ++ one 42 (always (refused 4 2)) ∷ one 64 (always (refused 10 1)) ∷ one 35 (always Ignored) ∷ blank (always Ignored))
     (always (refused 11 1))
@@ -400,20 +398,8 @@ word-list : map (λ (n : Named). n .word) meanings
 unfolding meanings
 word-list = refl
 
-abbrev isKnown : Word → Bool
-isKnown (Known when) = true
-isKnown Unknown = false
-
 abbrev itself : List ℕ → List (List ℕ)
 itself s = map (λ b. b ∷ []) s
-
--- for each byte of a word, the bytes that make a word in its place: itself alone
-abbrev letters : ℕ × List ℕ → List (List ℕ)
-letters (n, word) = passingAt (λ s. isKnown (wordOf s)) word 0 n
-
-word-letters : Hold letters (((7, text "@reboot"), itself (text "@reboot")) ∷ ((6, text "@daily"), itself (text "@daily")) ∷ [])
-unfolding trying reading
-word-letters = refl
 
 -- a byte more, a byte less, other cases, and words of other crons
 no-words : Hold lines

@@ -19,3 +19,4 @@ pub mod Steps
 pub mod Computing
 pub mod Examples
 pub mod ByteRows
+pub mod WordRows

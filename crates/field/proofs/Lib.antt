@@ -23,3 +23,4 @@ pub mod FieldTests
 pub mod TextBytes
 pub mod Writing
 pub mod Theorems
+pub mod Extremes

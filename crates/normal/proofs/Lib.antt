@@ -10,3 +10,5 @@ pub mod Writing
 pub mod Walks
 pub mod Forms
 pub mod Theorems
+pub mod Extremes
+pub mod NotMet

@@ -13,6 +13,7 @@
 --   form-told: a refused call changes no byte, and any call keeps the buffer's length
 --   schedule-small, schedule-long: the sets of a schedule that passes the test fit the bytes that they have, and its text has 9 bytes or more
 --   shortest-step: the n of a field's `*/n` is the smallest that gives its set, over any limits; `field` has it
+-- Extremes uses them for the second dialect, and for a table with quoted settings, offsets and a range over the join.
 -- Assumes nothing.
 use mathlib.Core.Path.{_≡_, refl, sym, ap, _∙_}
 use mathlib.Core.Bool.{Bool, true, false, cond, and-eq-true-iff}

@@ -6,3 +6,4 @@ pub mod NormalForms
 pub mod Steps
 pub mod Computing
 pub mod Examples
+pub mod ByteRows

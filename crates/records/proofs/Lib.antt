@@ -8,3 +8,4 @@ pub mod Compiling
 pub mod Readers
 pub mod Decompiling
 pub mod Theorems
+pub mod Extremes

@@ -9,6 +9,7 @@
 --   equal-records: tables that mean the same have the same records
 --   decompile-written: and they are read where the text has room
 --   compiled-told, decompiled-told, fault-told: a refused call changes no byte, and any call keeps the buffer's length; a bad record is one of them
+-- Extremes uses them for each kind and both directions, the second dialect, any buffers, and a list with every kind of record.
 -- Assumes nothing.
 use mathlib.Core.Path.{_≡_, refl, sym, ap, _∙_}
 use mathlib.Core.Bool.{Bool, true, false, cond, and-eq-true-iff, _&&_}

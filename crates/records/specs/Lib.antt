@@ -8,3 +8,5 @@ pub mod ReaderSteps
 pub mod Computing
 pub mod Examples
 pub mod ByteRows
+pub mod BodyRows
+pub mod NotMet
