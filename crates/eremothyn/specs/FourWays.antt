@@ -3,7 +3,7 @@
 -- quoted setting and an offset; the name, the value, the command and its input are longer than 255 bytes, so that every answer which can be above 255
 -- is. Above 65,535 can only be minutes: a table has at most 49,152 bytes and 512 entries.
 -- Assumes nothing.
-use mathlib.Core.Path.{_≡_, refl}
+use mathlib.Core.Path.{refl}
 use mathlib.Core.List.{List, [], _∷_, _++_}
 use Prim.Native.Nat.{ℕ, zero, suc}
 use lib.ListN.{replicate}

@@ -10,7 +10,7 @@ use lib.ListN.{replicate}
 use Rattle.bytes.specs.Texts.{text}
 use Rattle.eremothyn.specs.Calls.{dueCall, entryLineCall, commandOffsetCall, groupOffsetCall, firingsRun, mergedFiringsMinutes, mergedFiringsEntries}
 use Rattle.eremothyn.specs.Computing.{answering}
-use Rattle.eremothyn.specs.FourWays.{repeated, unmarked, marked, Ask, init, tick, pop, look, run}
+use Rattle.eremothyn.specs.FourWays.{repeated, unmarked, marked, init, tick, pop, look, run}
 
 -- each boot entry has 12 bytes, so that line 257 begins at byte 3,072
 abbrev many : List ℕ
