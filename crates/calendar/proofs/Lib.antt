@@ -7,3 +7,4 @@ pub mod Dates
 pub mod Minutes
 pub mod Months
 pub mod Theorems
+pub mod Extremes

@@ -5,3 +5,4 @@ pub mod Dates
 pub mod Order
 pub mod Computing
 pub mod Examples
+pub mod CounterExamples

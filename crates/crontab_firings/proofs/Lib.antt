@@ -1,3 +1,4 @@
 pub mod Numbers
 pub mod Texts
 pub mod Pieces
+pub mod Extremes

@@ -2,3 +2,4 @@ pub mod DateRuns
 pub mod Apart
 pub mod Demand
 pub mod Theorems
+pub mod Extremes

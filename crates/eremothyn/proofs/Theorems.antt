@@ -14,6 +14,7 @@
 --   next-near: a next firing is at most 21,036,960 minutes ahead, whatever the table, the entry and the minute; next-near-first: used from minute 0
 --   told-apart: EREMOTHYN_IS_REFUSED is true of an answer exactly when the call was refused, and the refusal's number is what is left; granted-told: used
 --   refused-stays: and then no byte and no number was changed
+--   Extremes uses these two for every call: dates-told, table-told, firing-told, parts-told, written-told, queue-told; lent-stays, queue-stays, lists-stay
 -- Assumes nothing.
 use mathlib.Core.Path.{_≡_, refl, sym, ap, subst, _∙_}
 use mathlib.Core.Bool.{false, true≢false}

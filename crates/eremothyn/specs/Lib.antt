@@ -12,6 +12,8 @@ pub mod Lists
 pub mod Calls
 pub mod Computing
 pub mod Examples
+pub mod FourWays
+pub mod ManyEntries
 pub mod KnownDays
 pub mod Apart
 pub mod Demand

@@ -16,3 +16,4 @@ pub mod Buffer
 pub mod Steady
 pub mod Quiet
 pub mod Theorems
+pub mod Extremes

@@ -9,3 +9,4 @@ pub mod Counts
 pub mod Runs
 pub mod Pieces
 pub mod Theorems
+pub mod Extremes

@@ -13,6 +13,7 @@
 --   piece-ends: where more remain, those before the last minute are just the firings up to the minute before it
 --   merged-room: the room is the shorter run, as long as a 32-bit number counts its places
 --   firings-kept, merged-kept: a refused call changes no number of a run
+--   Extremes uses these at their edges: entry-list-ends, entry-list-rises, table-list-ends, table-list-rises, split-ends, runs-all, piece-least
 -- Assumes nothing.
 use mathlib.Core.Path.{_≡_, refl, sym, ap, subst, _∙_}
 use mathlib.Core.Bool.{Bool, true, false, cond, true≢false}

@@ -4,3 +4,4 @@ pub mod Keys
 pub mod Rising
 pub mod Computing
 pub mod Examples
+pub mod CounterExamples

@@ -3,3 +3,4 @@ pub mod Targets
 pub mod Reloads
 pub mod Exits
 pub mod Theorems
+pub mod Extremes

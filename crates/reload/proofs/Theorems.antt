@@ -7,6 +7,7 @@
 --   same-table: reloading the same table changes no byte
 --   reload-leaves, reload-fair: what it leaves is a line of the new table, and demand 3 goes on from there
 --   reload-told, reload-stays: what it can answer, and that a refused call leaves the room as it was
+--   Extremes uses these at their edges: same-last, target-511, still-511, leaves-511, fair-511, same-bytes
 -- Assumes nothing.
 use mathlib.Core.Path.{_≡_, refl}
 use mathlib.Core.Logic.{_↔_}

@@ -3,3 +3,4 @@ pub mod Steps
 pub mod Targets
 pub mod Calls
 pub mod Computing
+pub mod Examples

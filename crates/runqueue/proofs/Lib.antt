@@ -8,3 +8,4 @@ pub mod Shifts
 pub mod ChainCases
 pub mod Reached
 pub mod Theorems
+pub mod Extremes

@@ -23,6 +23,8 @@
 --   front-stands, request-moves: a look at place 0 tells who a request names, and a request moves everybody a place on
 --   init-told, tick-told, pop-told, entry-told: what the calls can answer
 --   init-stays, tick-stays, pop-stays: a refused call leaves the room as it was
+--   Extremes uses these at their edges: fair-east, refused-four, due-last, chain-last, chain-ends, chain-goes-to-end, ticks-last, goes-on-last, shifts-ends,
+--     moves-last
 -- Assumes nothing.
 use Rattle.fifo.specs.declared.Ticked.the-variants.{Refused as NotTicked}
 use Rattle.fifo.specs.declared.Popped.the-variants.{Refused as NotPopped}

@@ -3,3 +3,4 @@ pub mod Calls
 pub mod Demand
 pub mod Waits
 pub mod Chain
+pub mod Examples

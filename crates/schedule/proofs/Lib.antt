@@ -20,3 +20,4 @@ pub mod Quick
 pub mod KnownDays
 pub mod KnownLocalDays
 pub mod Theorems
+pub mod Extremes
