@@ -6,32 +6,34 @@ use Prim.Native.Nat.{ℕ, _<_}
 use native.Mathlib.Omega.{arith}
 use lib.ListN.{length, getD}
 use Rattle.bytes.specs.Texts.{text}
-use Rattle.bytes.specs.Laid.{written, Wrote}
+use Rattle.bytes.specs.Clipped.{clippedFront, clipped, saturated, Wrote}
 use Rattle.bytes.specs.Refusals.{IsRefusal}
 use Rattle.bytes.proofs.Each.{Each}
 use Rattle.bytes.proofs.LittleEndian.{Bytes}
 use Rattle.bytes.proofs.Places.{Stands}
 
--- an `a` at place 1 of `123`
-wrote : Wrote 1 (text "a") (text "123") 2 (text "1a3")
-unfolding written
-wrote = record { room = omega arith; bytes = refl; size = refl; place = refl }
+-- an `a` at place 1 of `123`, and where there is no room for it
+wrote : Wrote 1 (text "a") (text "123") 2 (text "1a3") × Wrote 3 (text "a") (text "123") 4 (text "123")
+unfolding clipped clippedFront saturated
+wrote = (record { short = omega arith; bytes = refl; size = refl; place = refl }, record { short = omega arith; bytes = refl; size = refl; place = refl })
 
--- a byte before it or after it changed, another text, no room, another size, another place
+-- a byte before it or after it changed, another text, another size, another place, with room and without
 not-wrote :
     (Wrote 1 (text "a") (text "123") 2 (text "0a3") → ⊥)
     × (Wrote 1 (text "a") (text "123") 2 (text "1a0") → ⊥)
     × (Wrote 1 (text "a") (text "123") 2 (text "1b3") → ⊥)
-    × (Wrote 3 (text "a") (text "123") 4 (text "123") → ⊥)
     × (Wrote 1 (text "a") (text "123") 2 (text "1a34") → ⊥)
     × (Wrote 1 (text "a") (text "123") 3 (text "1a3") → ⊥)
-unfolding written
+    × (Wrote 3 (text "a") (text "123") 4 (text "12a") → ⊥)
+    × (Wrote 3 (text "a") (text "123") 3 (text "123") → ⊥)
+unfolding clipped clippedFront saturated
 not-wrote = (
   (λ w. let e = ap (λ (s : List ℕ). getD s 0 0) (w .bytes) in omega (arith, e)),
   (λ w. let e = ap (λ (s : List ℕ). getD s 2 0) (w .bytes) in omega (arith, e)),
   (λ w. let e = ap (λ (s : List ℕ). getD s 1 0) (w .bytes) in omega (arith, e)),
-  (λ w. omega (arith, w .room)),
   (λ w. omega (arith, w .size)),
+  (λ w. omega (arith, w .place)),
+  (λ w. let e = ap (λ (s : List ℕ). getD s 2 0) (w .bytes) in omega (arith, e)),
   (λ w. omega (arith, w .place)),
 )
 

@@ -167,6 +167,22 @@ wrote-fits {next} {t} w most h = go (leb (length t) lastPlace) refl
         let k = leb-false (length t) lastPlace e in
         lt-leb next most (omega (arith, w .place, saturated-past (0 + length t) (omega (arith, k)))) ∙ sym (lt-leb (length t) most (omega (arith, k)))
 
+-- the place after a short text is near
+pub near-next : {size next most : ℕ} {part before now : List ℕ} → Wrote size part before next now → length part ≤ most → next ≤ size + most
+near-next {size} {next} {most} {part} w h = go (leb (size + length part) lastPlace) refl
+  where
+    go : (b : Bool) → leb (size + length part) lastPlace ≡ b → next ≤ size + most
+    go true e = omega (arith, w .place, saturated-small (size + length part) (leb-true (size + length part) lastPlace e))
+    go false e = omega (arith, w .place, saturated-past (size + length part) (leb-false (size + length part) lastPlace e), leb-false (size + length part) lastPlace e)
+
+-- and a place that is near is the text's length
+pub near-size : {size : ℕ} {t before now : List ℕ} → Wrote 0 t before size now → size < lastPlace → size ≡ length t
+near-size {size} {t} w h = go (leb (0 + length t) lastPlace) refl
+  where
+    go : (b : Bool) → leb (0 + length t) lastPlace ≡ b → size ≡ length t
+    go true e = omega (arith, w .place, saturated-small (0 + length t) (leb-true (0 + length t) lastPlace e))
+    go false e = absurd (omega (arith, w .place, saturated-past (0 + length t) (leb-false (0 + length t) lastPlace e)))
+
 -- ---- as much of a part as fits, byte by byte
 
 module _ (at : ℕ) (t b : List ℕ) where

@@ -10,7 +10,7 @@ use Rattle.bytes.specs.AllBytes.{bytesWhere, trying}
 use Rattle.bytes.specs.Classes.{isBlank, isQuote, isAccount, isControl, ofClass}
 use Rattle.bytes.specs.declared.class.Class.the-variants.{InLine}
 use Rattle.bytes.specs.Laid.{laid}
-use Rattle.bytes.specs.Clipped.{clippedFront, clipped, saturated, Wrote}
+use Rattle.bytes.specs.Clipped.{clippedFront, clipped, saturated}
 use Rattle.bytes.specs.LittleEndian.{littleEndian, numberOf, width}
 use Rattle.bytes.specs.Rows.{Hold}
 use Rattle.bytes.specs.Sets.{upTo}
@@ -79,20 +79,6 @@ places : Hold saturated
     ∷ [])
 unfolding saturated
 places = refl
-
--- one byte more than was written, another one, another place after it
-not-wrote :
-    (Wrote 1 (7 ∷ []) (1 ∷ 2 ∷ 3 ∷ []) 2 (1 ∷ 7 ∷ 7 ∷ []) → ⊥)
-    × (Wrote 1 (7 ∷ []) (1 ∷ 2 ∷ 3 ∷ []) 2 (7 ∷ 2 ∷ 3 ∷ []) → ⊥)
-    × (Wrote 1 (7 ∷ []) (1 ∷ 2 ∷ 3 ∷ []) 1 (1 ∷ 7 ∷ 3 ∷ []) → ⊥)
-    × (Wrote 3 (7 ∷ []) (1 ∷ 2 ∷ 3 ∷ []) 3 (1 ∷ 2 ∷ 3 ∷ []) → ⊥)
-unfolding clipped clippedFront saturated
-not-wrote = (
-  (λ w. omega (arith, ap (λ (l : List ℕ). getD l 2 0) (w .bytes))),
-  (λ w. omega (arith, ap (λ (l : List ℕ). getD l 0 0) (w .bytes))),
-  (λ w. omega (arith, w .place)),
-  (λ w. omega (arith, w .place)),
-)
 
 -- ---- rows: one that is wrong is found, first or last
 

@@ -1,17 +1,12 @@
 -- Laws of the two walks that compile a table: its records are the parts of its lines, none of them is too long, and what comes back.
 -- Assumes nothing.
 use mathlib.Core.Path.{_≡_, refl}
-use mathlib.Core.Bool.{Bool, true, false}
 use mathlib.Core.List.{List, _++_}
-use Prim.Native.Nat.{ℕ, _+_, _*_, _≤_, _<_}
+use Prim.Native.Nat.{ℕ, _+_, _*_, _≤_}
 use native.Mathlib.Omega.{arith}
 use lib.ListN.{length}
-use lib.Dec.{leb}
-use borrow.Author.Tests.{leb-true, leb-false}
 use Rattle.bytes.specs.Runs.{between}
-use Rattle.bytes.specs.Clipped.{lastPlace, Wrote}
 use Rattle.bytes.proofs.Places.{between-length}
-use Rattle.bytes.proofs.Written.{saturated-small, saturated-past}
 use Rattle.field.specs.declared.Dialect.{Dialect}
 use Rattle.crontab.specs.declared.time.When.{When}
 use Rattle.crontab.specs.declared.time.When.the-variants.{Reboot, Timed}
@@ -63,22 +58,6 @@ module _ (s : List ℕ) (short : length s ≤ maxTable) where
       go Reboot is h = omega (arith, boot-length (e .when) (between s (e .start) (e .end)) is)
       go (Timed x) is h = omega (arith, timed-length (e .when) (between s (e .start) (e .end)) is)
   record-short (Refused f) w = omega arith
-
--- so a place after records is near
-pub near-next : {size next most : ℕ} {part before now : List ℕ} → Wrote size part before next now → length part ≤ most → next ≤ size + most
-near-next {size} {next} {most} {part} w h = go (leb (size + length part) lastPlace) refl
-  where
-    go : (b : Bool) → leb (size + length part) lastPlace ≡ b → next ≤ size + most
-    go true e = omega (arith, w .place, saturated-small (size + length part) (leb-true (size + length part) lastPlace e))
-    go false e = omega (arith, w .place, saturated-past (size + length part) (leb-false (size + length part) lastPlace e), leb-false (size + length part) lastPlace e)
-
--- and one that is near is the text's length
-pub near-size : {size : ℕ} {t before now : List ℕ} → Wrote 0 t before size now → size < lastPlace → size ≡ length t
-near-size {size} {t} w h = go (leb (0 + length t) lastPlace) refl
-  where
-    go : (b : Bool) → leb (0 + length t) lastPlace ≡ b → size ≡ length t
-    go true e = omega (arith, w .place, saturated-small (0 + length t) (leb-true (0 + length t) lastPlace e))
-    go false e = absurd (omega (arith, w .place, saturated-past (0 + length t) (leb-false (0 + length t) lastPlace e)))
 
 -- ---- what comes back
 

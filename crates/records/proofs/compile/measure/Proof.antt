@@ -5,6 +5,7 @@ use Prim.Native.Nat.{_+_, _-_, _*_, _≤_}
 use native.Mathlib.Omega.{arith}
 use borrow.Author.Needs.{needs}
 use lib.ListN.{length}
+use Rattle.bytes.proofs.Written.{near-next, near-size}
 use Rattle.crontab.specs.Limits.{maxTable}
 use Rattle.crontab.proofs.Walks.{step-less}
 use Rattle.normal.specs.Meanings.{meaningOf}
@@ -12,7 +13,7 @@ use Rattle.normal.proofs.Walks.{table-long, last-variant, not-refused, Going, g
 use Rattle.normal.proofs.Walks.{itemsLeft, left-starts, left-ends, left-none, text-parts, parts-next, short-next}
 use Rattle.normal.proofs.Forms.{Lined, lined-starts, lined-next, lined-ends, lined-onward, Judged, judged-starts, judged-next, judged-ends, resized, refused-alike, refused-measured, text-refused, text-good}
 use Rattle.records.specs.Formats.{recordsOf}
-use Rattle.records.proofs.Compiling.{record-parts, record-short, near-next, near-size}
+use Rattle.records.proofs.Compiling.{record-parts, record-short}
 use Rattle.records.proofs.compile.measure.Statement.{statement}
 use Rattle.records.proofs.compile.measure.Tie as tie
 
