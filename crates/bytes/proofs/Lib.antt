@@ -10,4 +10,4 @@ pub mod Together
 pub mod LittleEndian
 pub mod Marks
 pub mod Written
-pub mod NotMet
+pub mod CounterExamples

@@ -24,4 +24,4 @@ pub mod KindsDialects
 pub mod ExactWords
 pub mod Theorems
 pub mod Extremes
-pub mod NotMet
+pub mod CounterExamples

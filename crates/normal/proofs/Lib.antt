@@ -11,4 +11,4 @@ pub mod Walks
 pub mod Forms
 pub mod Theorems
 pub mod Extremes
-pub mod NotMet
+pub mod CounterExamples

@@ -9,4 +9,4 @@ pub mod Computing
 pub mod Examples
 pub mod ByteRows
 pub mod BodyRows
-pub mod NotMet
+pub mod CounterExamples
