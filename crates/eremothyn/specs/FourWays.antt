@@ -22,11 +22,11 @@ sunday zero = text "7"
 sunday (suc d) = text "0"
 
 -- Line 302 has a name at byte 304 and a value at 608, line 303 an offset with its name at 911 and its value at 919. Entry 0 is on line 304, and entry 1
--- on line 305, which begins at byte 944; their user columns are at 934 and 957, and commands after those at 940 and 963.
+-- on line 305, which begins at byte 947; their user columns are at 934 and 960, and commands after those at 943 and 969.
 abbrev longTable : ℕ → List ℕ
 longTable dialect =
-    replicate 300 10 ++ text "# c\n" ++ replicate 300 65 ++ text " = \"" ++ replicate 301 98 ++ text "\"\nCRON_TZ=+01:00\n@reboot u:g/c a%b\n0 12 * * 5-" ++ sunday dialect
-    ++ text " u:g/c " ++ replicate 302 101 ++ text "%" ++ replicate 303 105 ++ text "\n"
+    replicate 300 10 ++ text "# c\n" ++ replicate 300 65 ++ text " = \"" ++ replicate 301 98 ++ text "\"\nCRON_TZ=+01:00\n@reboot u:gg/ccc a%b\n0 12 * * 5-" ++ sunday dialect
+    ++ text " u:gg/ccc " ++ replicate 302 101 ++ text "%" ++ replicate 303 105 ++ text "\n"
 
 -- ---- checks
 
@@ -60,12 +60,12 @@ placed (i, (k, d)) =
 
 -- in a user's table what looks like a user column belongs to the command
 entries : Hold placed
-    (((0, (0, 0)), 304 ∷ 934 ∷ 9 ∷ 0 ∷ 0 ∷ 0 ∷ 0 ∷ 0 ∷ 0 ∷ 1 ∷ [])
-    ∷ ((0, (1, 1)), 304 ∷ 940 ∷ 3 ∷ 934 ∷ 1 ∷ 936 ∷ 1 ∷ 938 ∷ 1 ∷ 1 ∷ [])
-    ∷ ((1, (0, 0)), 305 ∷ 957 ∷ 612 ∷ 0 ∷ 0 ∷ 0 ∷ 0 ∷ 0 ∷ 0 ∷ 303 ∷ [])
-    ∷ ((1, (0, 1)), 305 ∷ 957 ∷ 612 ∷ 0 ∷ 0 ∷ 0 ∷ 0 ∷ 0 ∷ 0 ∷ 303 ∷ [])
-    ∷ ((1, (1, 0)), 305 ∷ 963 ∷ 606 ∷ 957 ∷ 1 ∷ 959 ∷ 1 ∷ 961 ∷ 1 ∷ 303 ∷ [])
-    ∷ ((1, (1, 1)), 305 ∷ 963 ∷ 606 ∷ 957 ∷ 1 ∷ 959 ∷ 1 ∷ 961 ∷ 1 ∷ 303 ∷ [])
+    (((0, (0, 0)), 304 ∷ 934 ∷ 12 ∷ 0 ∷ 0 ∷ 0 ∷ 0 ∷ 0 ∷ 0 ∷ 1 ∷ [])
+    ∷ ((0, (1, 1)), 304 ∷ 943 ∷ 3 ∷ 934 ∷ 1 ∷ 936 ∷ 2 ∷ 939 ∷ 3 ∷ 1 ∷ [])
+    ∷ ((1, (0, 0)), 305 ∷ 960 ∷ 615 ∷ 0 ∷ 0 ∷ 0 ∷ 0 ∷ 0 ∷ 0 ∷ 303 ∷ [])
+    ∷ ((1, (0, 1)), 305 ∷ 960 ∷ 615 ∷ 0 ∷ 0 ∷ 0 ∷ 0 ∷ 0 ∷ 0 ∷ 303 ∷ [])
+    ∷ ((1, (1, 0)), 305 ∷ 969 ∷ 606 ∷ 960 ∷ 1 ∷ 962 ∷ 2 ∷ 965 ∷ 3 ∷ 303 ∷ [])
+    ∷ ((1, (1, 1)), 305 ∷ 969 ∷ 606 ∷ 960 ∷ 1 ∷ 962 ∷ 2 ∷ 965 ∷ 3 ∷ 303 ∷ [])
     ∷ [])
 unfolding answering
 entries = refl
@@ -99,17 +99,17 @@ splitInto (shellSize, inputSize, (k, d)) =
     (splitCommandCall s k d 1 shell input, splitCommandShell s k d 1 shell input, splitCommandInput s k d 1 shell input)
 
 abbrev userSplit : ℕ × List ℕ × List ℕ
-userSplit = (308, text "u:g/c " ++ replicate 302 101 ++ text "--", replicate 303 105 ++ text "==")
+userSplit = (311, text "u:gg/ccc " ++ replicate 302 101 ++ text "--", replicate 303 105 ++ text "==")
 
 abbrev systemSplit : ℕ × List ℕ × List ℕ
 systemSplit = (302, replicate 302 101 ++ text "--", replicate 303 105 ++ text "==")
 
 splits : Hold splitInto
-    (((310, 305, (0, 0)), userSplit)
-    ∷ ((310, 305, (0, 1)), userSplit)
+    (((313, 305, (0, 0)), userSplit)
+    ∷ ((313, 305, (0, 1)), userSplit)
     ∷ ((304, 305, (1, 0)), systemSplit)
     ∷ ((304, 305, (1, 1)), systemSplit)
-    ∷ ((307, 303, (0, 1)), (4294967314, replicate 307 45, replicate 303 61))
+    ∷ ((310, 303, (0, 1)), (4294967314, replicate 310 45, replicate 303 61))
     ∷ ((302, 302, (1, 0)), (4294967314, replicate 302 45, replicate 302 61))
     ∷ [])
 unfolding answering
@@ -119,7 +119,7 @@ splits = refl
 
 abbrev normalText : List ℕ
 normalText =
-    replicate 300 65 ++ text "=" ++ replicate 301 98 ++ text "\nCRON_TZ=+01:00\n@reboot u:g/c a%b\n0 12 * * 0,5,6 u:g/c " ++ replicate 302 101 ++ text "%" ++ replicate 303 105
+    replicate 300 65 ++ text "=" ++ replicate 301 98 ++ text "\nCRON_TZ=+01:00\n@reboot u:gg/ccc a%b\n0 12 * * 0,5,6 u:gg/ccc " ++ replicate 302 101 ++ text "%" ++ replicate 303 105
     ++ text "\n"
 
 -- each a length and a kind of two bytes, and a body: the setting, with its name's length, 300; the offset; the boot entry; and the other, of minute 0,
@@ -128,20 +128,20 @@ abbrev records : List ℕ
 records =
     93 ∷ 2 ∷ 3 ∷ 0 ∷ 44 ∷ 1 ∷ replicate 300 65 ++ replicate 301 98
     ++ 17 ∷ 0 ∷ 4 ∷ 0 ∷ 7 ∷ 0 ∷ text "CRON_TZ+01:00"
-    ++ 11 ∷ 0 ∷ 2 ∷ 0 ∷ text "u:g/c a%b"
-    ++ 122 ∷ 2 ∷ 1 ∷ 0 ∷ 1 ∷ 0 ∷ 0 ∷ 0 ∷ 0 ∷ 0 ∷ 0 ∷ 0 ∷ 0 ∷ 16 ∷ 0 ∷ 0 ∷ 254 ∷ 255 ∷ 255 ∷ 255 ∷ 254 ∷ 31 ∷ 97 ∷ 12
-    ∷ text "u:g/c " ++ replicate 302 101 ++ text "%" ++ replicate 303 105
+    ++ 14 ∷ 0 ∷ 2 ∷ 0 ∷ text "u:gg/ccc a%b"
+    ++ 125 ∷ 2 ∷ 1 ∷ 0 ∷ 1 ∷ 0 ∷ 0 ∷ 0 ∷ 0 ∷ 0 ∷ 0 ∷ 0 ∷ 0 ∷ 16 ∷ 0 ∷ 0 ∷ 254 ∷ 255 ∷ 255 ∷ 255 ∷ 254 ∷ 31 ∷ 97 ∷ 12
+    ∷ text "u:gg/ccc " ++ replicate 302 101 ++ text "%" ++ replicate 303 105
 
 abbrev written : ℕ → (ℕ × List ℕ) × (ℕ × List ℕ)
 written d =
     let s = longTable d in (
-      (normalFormCall s d (replicate 1266 45), normalFormText s d (replicate 1266 45)),
-      (compileCall s d (replicate 1277 45), compileRecords s d (replicate 1277 45)),
+      (normalFormCall s d (replicate 1272 45), normalFormText s d (replicate 1272 45)),
+      (compileCall s d (replicate 1283 45), compileRecords s d (replicate 1283 45)),
     )
 
 writes : Hold written
-    ((0, ((1264, normalText ++ text "--"), (1275, records ++ text "--")))
-    ∷ (1, ((1264, normalText ++ text "--"), (1275, records ++ text "--")))
+    ((0, ((1270, normalText ++ text "--"), (1281, records ++ text "--")))
+    ∷ (1, ((1270, normalText ++ text "--"), (1281, records ++ text "--")))
     ∷ [])
 unfolding answering
 writes = refl
@@ -154,7 +154,7 @@ repeated zero s = []
 repeated (suc n) s = s ++ repeated n s
 
 reads-back : Hold readBack
-    (((records, replicate 1266 45), (1264, normalText ++ text "--", 0))
+    (((records, replicate 1272 45), (1270, normalText ++ text "--", 0))
     -- a bad record after 300 that are skipped
     ∷ ((repeated 300 (2 ∷ 0 ∷ 0 ∷ 128 ∷ []) ++ 2 ∷ 0 ∷ 5 ∷ 0 ∷ [], text "-"), (4294967319, text "-", 301))
     ∷ [])
@@ -163,7 +163,7 @@ reads-back = refl
 
 -- ---- a short table of the same kind, for firings and the queue
 
-abbrev short : ℕ → List ℕ
+abbrev pub short : ℕ → List ℕ
 short dialect = text "# c\nA = 'b'\nCRON_TZ=+01:00\n@reboot u:g/c a%b\n0 12 * * 5-" ++ sunday dialect ++ text " u:g/c e%i\n"
 
 -- ---- firings: 12:00 at +01:00 is 11:00 in UTC; day 50 is a Friday, and minute 72,660 its 11:00
