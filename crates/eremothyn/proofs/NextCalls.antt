@@ -4,7 +4,7 @@
 use mathlib.Core.Path.{_≡_, refl, ap, _∙_}
 use mathlib.Core.Bool.{true, false}
 use mathlib.Core.List.{List, [], _∷_, _++_}
-use Prim.Native.Nat.{ℕ, _<_, _≤_}
+use Prim.Native.Nat.{ℕ, _+_, _<_, _≤_}
 use native.Mathlib.Omega.{arith}
 use lib.IntN.{pos}
 use borrow.Author.Tests.{le-leb}
@@ -47,12 +47,12 @@ noons =
 
 -- entry 1 of the short table, whose command is after the user column in a system's
 abbrev noon : ℕ → ℕ → Entry
-noon start end = record { when = Timed noons; line = 5; at = 49; start = start; end = end; offset = pos 60 }
+noon start end = record { when = Timed noons; line = 5; at = 45; start = start; end = end; offset = pos 60 }
 
-read : (entryIn (tableOf (rulesOf 0 0) (short 0)) 1 ≡ Found (noon 62 71))
-    × (entryIn (tableOf (rulesOf 0 1) (short 1)) 1 ≡ Found (noon 62 71))
-    × (entryIn (tableOf (rulesOf 1 0) (short 0)) 1 ≡ Found (noon 68 71))
-    × (entryIn (tableOf (rulesOf 1 1) (short 1)) 1 ≡ Found (noon 68 71))
+read : (entryIn (tableOf (rulesOf 0 0) (short 0)) 1 ≡ Found (noon 58 67))
+    × (entryIn (tableOf (rulesOf 0 1) (short 1)) 1 ≡ Found (noon 58 67))
+    × (entryIn (tableOf (rulesOf 1 0) (short 0)) 1 ≡ Found (noon 64 67))
+    × (entryIn (tableOf (rulesOf 1 1) (short 1)) 1 ≡ Found (noon 64 67))
 unfolding reading rulesOf
 read = (refl, refl, refl, refl)
 
@@ -64,8 +64,8 @@ matches = refl
 pub next-four-ways :
     (nextCall (short 0) 0 0 1 72659 ≡ 72660) × (nextCall (short 1) 0 1 1 72659 ≡ 72660) × (nextCall (short 0) 1 0 1 72659 ≡ 72660) × (nextCall (short 1) 1 1 1 72659 ≡ 72660)
 next-four-ways = (
-  next-minute (rulesOf 0 0) (short 0) 1 (noon 62 71) noons 72659 72660 (read .0) refl (omega arith) (omega arith) (omega arith) matches,
-  next-minute (rulesOf 0 1) (short 1) 1 (noon 62 71) noons 72659 72660 (read .1) refl (omega arith) (omega arith) (omega arith) matches,
-  next-minute (rulesOf 1 0) (short 0) 1 (noon 68 71) noons 72659 72660 (read .2) refl (omega arith) (omega arith) (omega arith) matches,
-  next-minute (rulesOf 1 1) (short 1) 1 (noon 68 71) noons 72659 72660 (read .3) refl (omega arith) (omega arith) (omega arith) matches,
+  next-minute (rulesOf 0 0) (short 0) 1 (noon 58 67) noons 72659 72660 (read .0) refl (omega arith) (omega arith) (omega arith) matches,
+  next-minute (rulesOf 0 1) (short 1) 1 (noon 58 67) noons 72659 72660 (read .1) refl (omega arith) (omega arith) (omega arith) matches,
+  next-minute (rulesOf 1 0) (short 0) 1 (noon 64 67) noons 72659 72660 (read .2) refl (omega arith) (omega arith) (omega arith) matches,
+  next-minute (rulesOf 1 1) (short 1) 1 (noon 64 67) noons 72659 72660 (read .3) refl (omega arith) (omega arith) (omega arith) matches,
 )
