@@ -20,3 +20,4 @@ pub mod Computing
 pub mod Examples
 pub mod ByteRows
 pub mod WordRows
+pub mod FarColumns
