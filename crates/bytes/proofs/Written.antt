@@ -123,8 +123,9 @@ wrote-byte at x b h k =
     let e = one at x b h in
     record { short = k; bytes = e; size = ap length e ∙ clipped-length at (x ∷ []) b; place = sym (saturated-small (at + 1) (omega arith)) }
 
-pub wrote-past : (at x next : ℕ) (b : List ℕ) → length b ≤ at → length b ≤ lastPlace → next ≡ saturated (at + 1) → Wrote at (x ∷ []) b next b
-wrote-past at x next b h k e = record { short = k; bytes = sym (past at (x ∷ []) b h); size = refl; place = e }
+-- nothing fits
+pub wrote-past : (at : ℕ) (t : List ℕ) (next : ℕ) (b : List ℕ) → length b ≤ at → length b ≤ lastPlace → next ≡ saturated (at + length t) → Wrote at t b next b
+wrote-past at t next b h k e = record { short = k; bytes = sym (past at t b h); size = refl; place = e }
 
 pub wrote-next : {at mid next : ℕ} {t u before between now : List ℕ} → Wrote at t before mid between → Wrote mid u between next now
     → Wrote at (t ++ u) before next now

@@ -60,6 +60,9 @@ pub fn number(out: &mut [u8], at: usize, n: u8) -> usize
     if n < 10 {
         return byte(out, at, b'0' + n);
     }
+    if out.len() <= at {
+        return after(at, 2);
+    }
     let next = byte(out, at, b'0' + n / 10);
     byte(out, next, b'0' + n % 10)
 }

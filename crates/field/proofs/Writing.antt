@@ -1,10 +1,11 @@
 -- Laws of a field's text as the functions write it: step by step, and value by value.
 -- Assumes nothing.
 use mathlib.Core.Path.{_≡_, refl, sym, ap, _∙_}
-use mathlib.Core.Bool.{Bool, true, false, cond, not, _&&_, and-true, and-false, true≢false}
+use mathlib.Core.Bool.{Bool, true, false, cond, true≢false}
 use mathlib.Core.List.{List, [], _∷_, _++_, append-nil, append-assoc}
-use Prim.Native.Nat.{ℕ, suc, _+_, _-_, _≤_, _<_}
-use native.Mathlib.Nat.{mod-self}
+use Prim.Native.Nat.{ℕ, zero, suc, _+_, _-_, _≤_, _<_}
+use native.Mathlib.Nat.{mod-self, lt-of-not-le}
+use native.Mathlib.Decide.{decLe}
 use native.Mathlib.Numerals.{add-one}
 use native.Mathlib.Omega.{arith}
 use lib.Dec.{ltb}
@@ -13,6 +14,8 @@ use borrow.Author.Tests.{le-leb, eq-eqb, ne-eqb, ltb-false}
 use Rattle.bytes.specs.Digits.{numberText}
 use Rattle.bytes.specs.Clipped.{lastPlace, Wrote}
 use Rattle.bytes.specs.Sets.{hasBit, fromOn}
+use Rattle.bytes.specs.Search.{from}
+use Rattle.bytes.proofs.Search.{from-least, from-past}
 use Rattle.bytes.proofs.Written.{wrote-none, wrote-next}
 use Rattle.field.specs.declared.Limits.{Limits}
 use Rattle.field.specs.Values.{valuesOf, bitOf}
@@ -59,31 +62,15 @@ star-more n e = rw (ne-eqb n 1 e)
 
 -- ---- a value of a list
 
-module _ (set v : ℕ) where
-  pub member-first : hasBit set v ≡ true → memberText true set v ≡ numberText v
-  unfolding memberText listRest having listText afterCommas
-  member-first e = rw e (append-nil (numberText v))
+pub member-first : (v : ℕ) → memberText true v ≡ numberText v
+unfolding memberText listRest listText afterCommas
+member-first v = append-nil (numberText v)
 
-  pub member-later : hasBit set v ≡ true → memberText false set v ≡ 44 ∷ numberText v
-  unfolding memberText listRest having afterCommas
-  member-later e = rw e (ap (λ (s : List ℕ). 44 ∷ s) (append-nil (numberText v)))
+pub member-later : (v : ℕ) → memberText false v ≡ 44 ∷ numberText v
+unfolding memberText listRest afterCommas
+member-later v = ap (λ (s : List ℕ). 44 ∷ s) (append-nil (numberText v))
 
-  pub member-none : (first : Bool) → hasBit set v ≡ false → memberText first set v ≡ []
-  unfolding memberText listRest having listText afterCommas
-  member-none true e = rw e
-  member-none false e = rw e
-
-  -- the value in front of others
-  member-front : (first : Bool) (vs : List ℕ) → hasBit set v ≡ true → listRest first (having set (v ∷ vs)) ≡ memberText first set v ++ listRest false (having set vs)
-  unfolding listRest having listText afterCommas
-  member-front true vs e = rw (member-first e, e)
-  member-front false vs e = rw (member-later e, e)
-
-  member-skipped : (first : Bool) (vs : List ℕ) → hasBit set v ≡ false → listRest first (having set (v ∷ vs)) ≡ memberText first set v ++ listRest first (having set vs)
-  unfolding having
-  member-skipped first vs e = rw (member-none first e, e)
-
--- ---- value by value
+-- ---- from one value to the next
 
 from-next : (v n : ℕ) → v < n → fromOn v (n - v) ≡ v ∷ fromOn (v + 1) (n - (v + 1))
 unfolding fromOn
@@ -93,30 +80,50 @@ from-next v n h = let e : n - v ≡ suc (n - (v + 1)) = omega arith in rw (e, ad
 abbrev pub left : Bool → ℕ → ℕ → ℕ → List ℕ
 left first set n v = listRest first (having set (fromOn v (n - v)))
 
-module _ (set n v : ℕ) where
-  pub left-ends : (first : Bool) → n ≤ v → left first set n v ≡ []
+module _ (set n : ℕ) where
+  pub left-ends : (v : ℕ) (first : Bool) → n ≤ v → left first set n v ≡ []
   unfolding listRest having fromOn listText afterCommas
-  left-ends true h = let e : n - v ≡ 0 = omega arith in rw e
-  left-ends false h = let e : n - v ≡ 0 = omega arith in rw e
+  left-ends v true h = let e : n - v ≡ 0 = omega arith in rw e
+  left-ends v false h = let e : n - v ≡ 0 = omega arith in rw e
 
-  left-by : (first later : Bool) → (hasBit set v ≡ true → later ≡ false) → (hasBit set v ≡ false → later ≡ first) → v < n
-      → left first set n v ≡ memberText first set v ++ left later set n (v + 1)
-  left-by first later put skipped h = rw (from-next v n h) (go (hasBit set v) refl)
+  -- a value of the set
+  pub left-member : (v : ℕ) (first : Bool) → v < n → hasBit set v ≡ true → left first set n v ≡ memberText first v ++ left false set n (v + 1)
+  unfolding listRest having listText afterCommas
+  left-member v true h e = rw (from-next v n h, e, member-first v)
+  left-member v false h e = rw (from-next v n h, e, member-later v)
+
+  left-skip : (v : ℕ) (first : Bool) → v < n → hasBit set v ≡ false → left first set n v ≡ left first set n (v + 1)
+  unfolding having
+  left-skip v first h e = rw (from-next v n h, e)
+
+  -- those that aren't in it are skipped
+  skip-all : (d v : ℕ) (first : Bool) → v + d ≤ n → ((k : ℕ) → v ≤ k → k < v + d → hasBit set k ≡ false) → left first set n v ≡ left first set n (v + d)
+  skip-all zero v first h none = let e : v + 0 ≡ v = omega arith in rw e
+  skip-all (suc d) v first h none =
+      let e : v + 1 + d ≡ v + suc d = omega arith in
+      left-skip v first (omega arith) (none v (omega arith) (omega arith))
+      ∙ skip-all d (v + 1) first (omega arith) (λ k low high. none k (omega arith) (omega arith))
+      ∙ rw e
+
+  pub left-from : (v : ℕ) (first : Bool) → left first set n v ≡ left first set n (from (hasBit set) n v)
+  left-from v first = elim (decLe v n) [ yes h ↦ inside h | no h ↦ (let e = from-past (hasBit set) n v (omega (arith, lt-of-not-le h)) in rw (← e)) ]
     where
-      go : (t : Bool) → hasBit set v ≡ t
-          → listRest first (having set (v ∷ fromOn (v + 1) (n - (v + 1)))) ≡ memberText first set v ++ left later set n (v + 1)
-      go true e = rw (put e) (member-front set v first _ e)
-      go false e = rw (skipped e) (member-skipped set v first _ e)
+      inside : v ≤ n → left first set n v ≡ left first set n (from (hasBit set) n v)
+      inside h =
+          let l = from-least (hasBit set) n v h in
+          let e : v + (from (hasBit set) n v - v) ≡ from (hasBit set) n v = omega (arith, l .low) in
+          skip-all (from (hasBit set) n v - v) v first (omega (arith, e, l .high)) (λ k low high. l .none k low (omega (arith, e, high))) ∙ rw e
 
-  pub left-turn : (first : Bool) → v < n → left first set n v ≡ memberText first set v ++ left (first && not (hasBit set v)) set n (v + 1)
-  left-turn first h = left-by first _ (λ e. rw e (and-false first)) (λ e. rw e (and-true first)) h
+  -- and the value that comes next is one
+  pub from-has : (v : ℕ) → from (hasBit set) n v < n → hasBit set (from (hasBit set) n v) ≡ true
+  from-has v h = elim (decLe v n) [ yes k ↦ from-least (hasBit set) n v k .passes h | no k ↦ absurd (omega (arith, h, from-past (hasBit set) n v (omega (arith, lt-of-not-le k)), lt-of-not-le k)) ]
 
 -- ---- a whole list
 
 module _ (l : Limits) (set : ℕ) where
-  pub whole : listText (members l set) ≡ left true set (l .bits) (l .first)
+  pub whole : {v : ℕ} → v ≡ from (hasBit set) (l .bits) (l .first) → listText (members l set) ≡ left true set (l .bits) v
   unfolding members listRest
-  whole = refl
+  whole e = left-from set (l .bits) (l .first) true ∙ rw (← e)
 
 -- the values from `from` up to v are written
 pub record Listing (set n from start : ℕ) (before : List ℕ) (v : ℕ) (first : Bool) (at : ℕ) (now : List ℕ) : Type 0 where
@@ -124,25 +131,28 @@ pub record Listing (set n from start : ℕ) (before : List ℕ) (v : ℕ) (first
   pub put : Wrote start text before at now
   pub rest : text ++ left first set n v ≡ left true set n from
 
-module _ (set n from start : ℕ) (before : List ℕ) where
-  pub listing-starts : start ≤ lastPlace → length before ≤ lastPlace → Listing set n from start before from true start before
+module _ (set n low start : ℕ) (before : List ℕ) where
+  pub listing-starts : start ≤ lastPlace → length before ≤ lastPlace → Listing set n low start before low true start before
   listing-starts h k = record { text = []; put = wrote-none start before h k; rest = refl }
 
-  module _ (v : ℕ) (first : Bool) (at : ℕ) (now : List ℕ) (so : Listing set n from start before v first at now) where
-    pub listing-next : {at' : ℕ} {now' : List ℕ} {later : Bool} → v < n → later ≡ (first && not (hasBit set v)) → Wrote at (memberText first set v) now at' now'
-        → Listing set n from start before (v + 1) later at' now'
-    listing-next h is w =
+  module _ (v : ℕ) (first : Bool) (at : ℕ) (now : List ℕ) (so : Listing set n low start before v first at now) where
+    pub listing-next : {at' later : ℕ} {now' : List ℕ} → v < n → hasBit set v ≡ true → later ≡ from (hasBit set) n (v + 1) → Wrote at (memberText first v) now at' now'
+        → Listing set n low start before later false at' now'
+    listing-next h has e w =
         record {
-          text = so .text ++ memberText first set v;
+          text = so .text ++ memberText first v;
           put = wrote-next (so .put) w;
           rest =
-              rw is (append-assoc (so .text) (memberText first set v) _
-              ∙ ap (λ (s : List ℕ). so .text ++ s) (sym (left-turn set n v first h)) ∙ so .rest);
+              rw e
+              (append-assoc (so .text) (memberText first v) _
+              ∙ ap (λ (s : List ℕ). so .text ++ (memberText first v ++ s)) (sym (left-from set n (v + 1) false))
+              ∙ ap (λ (s : List ℕ). so .text ++ s) (sym (left-member set n v first h has))
+              ∙ so .rest);
         }
 
-    pub listing-ends : n ≤ v → Wrote start (left true set n from) before at now
+    pub listing-ends : n ≤ v → Wrote start (left true set n low) before at now
     listing-ends h =
-        let all : so .text ≡ left true set n from =
+        let all : so .text ≡ left true set n low =
         sym (append-nil (so .text)) ∙ ap (λ (s : List ℕ). so .text ++ s) (sym (left-ends set n v first h)) ∙ so .rest in
         rw all at (so .put)
 

@@ -5,7 +5,7 @@ use mathlib.Core.Bool.{Bool, true, false, cond, _&&_}
 use mathlib.Core.List.{List, [], _∷_}
 use lib.Dec.{eqb, ltb}
 use Rattle.field.specs.declared.Limits.{Limits}
-use Rattle.field.specs.Written.{having, afterCommas, listText}
+use Rattle.field.specs.Written.{afterCommas, listText}
 
 -- the last value of a range that says something new: where all bits are in it, the value after the last doesn't
 unfoldable pub lastNew : Limits → ℕ → ℕ → ℕ
@@ -20,6 +20,6 @@ unfoldable pub listRest : Bool → List ℕ → List ℕ
 listRest true vs = listText vs
 listRest false vs = afterCommas vs
 
--- a value alone, if the set has it
-unfoldable pub memberText : Bool → ℕ → ℕ → List ℕ
-memberText first set v = listRest first (having set (v ∷ []))
+-- a value alone
+unfoldable pub memberText : Bool → ℕ → List ℕ
+memberText first v = listRest first (v ∷ [])

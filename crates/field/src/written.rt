@@ -1,7 +1,7 @@
-// The text of a field's set and flag (ticket 2026-06), written to a lent buffer as far as there is room; and whether a field may mean them. The
+// The text of a field's set and flag (ticket 2026-06), written to a lent buffer as far as it fits; and whether a field may mean them. The
 // limits are such as the five fields have: their values have bits in a word.
 ghost use mathlib.Core.Path.{_≡_};
-ghost use Prim.Native.Nat.{_<_};
+ghost use Prim.Native.Nat.{_<_, _≤_};
 ghost use Rattle.bytes.specs.Clipped.{Wrote};
 ghost use Rattle.field.specs.Steps.{InWord, memberText};
 ghost use Rattle.field.specs.Written.{gives, stepOf, starText, members, listText, fieldText, isField};
@@ -52,38 +52,37 @@ fn write_star(n: u8, out: &mut [u8], at: usize) -> usize
     write::number(out, next, n)
 }
 
-// A value, if the set has it; with a comma in front unless it is the first.
-fn write_member(set: u64, value: u8, first: bool, out: &mut [u8], at: usize) -> usize
-    ensures { λ r. ⌜ Wrote at (memberText first set value) (now (out .entry)) r (now (out .exit)) ⌝ }
+// A value of a list, with a comma in front unless it is the first.
+fn write_member(value: u8, first: bool, out: &mut [u8], at: usize) -> usize
+    ensures { λ r. ⌜ Wrote at (memberText first value) (now (out .entry)) r (now (out .exit)) ⌝ }
 {
-    if set::has(set, value as u64) {
-        if first {
-            return write::number(out, at, value);
-        }
-        let next = write::byte(out, at, b',');
-        return write::number(out, next, value);
+    if first {
+        return write::number(out, at, value);
     }
-    at
+    let next = write::byte(out, at, b',');
+    write::number(out, next, value)
 }
 
+// The values of the set, from one to the next.
 fn write_list(limits: Limits, set: u64, out: &mut [u8], start: usize) -> usize
+    requires { ⌜ limits .bits ≤ 64 ⌝ }
     ensures { λ r. ⌜ Wrote start (listText (members limits set)) (now (out .entry)) r (now (out .exit)) ⌝ }
 {
-    let bits = limits.bits;
-    let mut value = limits.first;
+    let bits = limits.bits as u64;
+    let mut value = set::next(set, limits.first as u64, bits);
     let mut first = true;
     let mut at = start;
     while value < bits {
-        at = write_member(set, value, first, out, at);
-        first = first & !set::has(set, value as u64);
-        value += 1;
+        at = write_member(value as u8, first, out, at);
+        first = false;
+        value = set::next(set, value + 1, bits);
     }
     at
 }
 
-// Writes the text at a place, as far as there is room for it, and answers the place behind it.
+// Writes the text at a place, as far as it fits, and answers the place after it.
 pub fn write(limits: Limits, set: u64, star: bool, out: &mut [u8], at: usize) -> usize
-    requires { ⌜ InWord limits ⌝ }
+    requires { ⌜ InWord limits × (limits .bits ≤ 64) ⌝ }
     ensures { λ r. ⌜ Wrote at (fieldText limits set star) (now (out .entry)) r (now (out .exit)) ⌝ }
 {
     if star {

@@ -1,4 +1,5 @@
 // An entry's line (ticket 2026-06), `@reboot` or five fields and then the raw command, measured, and written to a lent buffer.
+ghost use Prim.Native.Nat.{_≤_};
 ghost use Rattle.bytes.specs.Clipped.{Wrote};
 ghost use Rattle.field.specs.Steps.{InWord};
 ghost use Rattle.field.specs.Written.{fieldText};
@@ -15,7 +16,7 @@ const REBOOT: [u8; 8] = *b"@reboot ";
 
 // A field, and a space behind it.
 fn write_field(limits: Limits, set: u64, star: bool, out: &mut [u8], at: usize) -> usize
-    requires { ⌜ InWord limits ⌝ }
+    requires { ⌜ InWord limits × (limits .bits ≤ 64) ⌝ }
     ensures { λ r. ⌜ Wrote at (spaced (fieldText limits set star)) (now (out .entry)) r (now (out .exit)) ⌝ }
 {
     let next = written::write(limits, set, star, out, at);

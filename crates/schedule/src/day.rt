@@ -6,8 +6,8 @@ ghost use Rattle.schedule.specs.Match.{bothMust, matchesDay, matchesOn};
 ghost use Rattle.schedule.specs.Search.{from};
 ghost use Rattle.schedule.specs.Days.{matchesInMonth, monthSet, MonthAfter};
 use crate::Schedule;
-use crate::set::next;
 use bytes::set::has;
+use bytes::set::next;
 use calendar::CALENDAR_DAYS;
 use calendar::DAY_MINUTES;
 

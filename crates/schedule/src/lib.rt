@@ -4,7 +4,6 @@ mod day;
 pub mod jump;
 pub mod local;
 mod never;
-mod set;
 mod time;
 
 ghost use mathlib.Core.Path.{_≡_};

@@ -5,9 +5,9 @@ ghost use Rattle.schedule.specs.Days.{hasDate, someDay};
 ghost use Rattle.schedule.specs.Next.{canFire};
 use crate::Schedule;
 use crate::day::both_must;
-use crate::set::next;
 use crate::time::time_from;
 use bytes::set::has;
+use bytes::set::next;
 use calendar::DAY_MINUTES;
 
 // A leap year, in which each month is as long as it ever is.

@@ -4,8 +4,8 @@ ghost use Prim.Native.Nat.{_<_};
 ghost use Rattle.schedule.specs.Match.{matchesAt};
 ghost use Rattle.schedule.specs.Search.{from};
 use crate::Schedule;
-use crate::set::next;
 use bytes::set::has;
+use bytes::set::next;
 use calendar::DAY_MINUTES;
 
 // The least minute of the day from `t` on whose hour and minute are in their sets, or 1,440.

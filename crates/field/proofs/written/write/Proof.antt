@@ -15,4 +15,4 @@ returns-2 c =
     rw (field-listed _ _ _ (c .before .before .before .before .if1 .left)) (c .before .before .write-list .ensures)
 
 pub write-spec : {M : Type 1} → statement M
-write-spec = tie.close (tie.spec (λ c κs. search needs) (λ c κs. tt) (λ c. search needs) returns (λ c κs. tt) (λ c. search needs) returns-2)
+write-spec = tie.close (tie.spec (λ c κs. search needs) (λ c κs. tt) (λ c. search needs) returns (λ c κs. search needs) (λ c. search needs) returns-2)

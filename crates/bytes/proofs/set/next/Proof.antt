@@ -1,14 +1,14 @@
--- `schedule::set::next` meets its contract: the zeros below the least value, up to the end.
+-- `bytes::set::next` meets its contract: the zeros below the least value, up to the end.
 -- Assumes nothing.
 use mathlib.Core.Path.{_≡_, sym}
 use Prim.Native.Nat.{_+_, _-_, _/_, _^_, min}
 use native.Mathlib.Omega.{arith}
 use lib.Count.{trailingZeros, trailing-le}
 use borrow.Author.Needs.{needs}
 use Rattle.bytes.proofs.LeastBit.{least-zeros}
-use Rattle.schedule.proofs.Search.{from-past}
-use Rattle.schedule.proofs.set.next.Statement.{statement}
-use Rattle.schedule.proofs.set.next.Tie as tie
+use Rattle.bytes.proofs.Search.{from-past}
+use Rattle.bytes.proofs.set.next.Statement.{statement}
+use Rattle.bytes.proofs.set.next.Tie as tie
 
 returns : tie.Need-returns
 returns c = from-past _ _ _ (c .if1 .taken)
