@@ -25,8 +25,7 @@ use Rattle.fifo.specs.declared.Ticked.{Ticked}
 use Rattle.fifo.specs.declared.Ticked.the-variants as tick
 use Rattle.fifo.specs.declared.Popped.{Popped}
 use Rattle.fifo.specs.declared.Popped.the-variants as pop
-use Rattle.fifo.specs.Queue.{limit}
-use Rattle.fifo.specs.Layout.{lineOf, laid, roomy, isLine}
+use Rattle.fifo.specs.Layout.{limit, lineOf, laid, roomy, isLine}
 use Rattle.fifo.specs.Refusals.{tickRefusal, popRefusal}
 use Rattle.fifo.specs.Steps.{Jobs, Step, fresh, initStep, standing, entryStep}
 use Rattle.fifo.specs.Fairness.{Call, tick, pop, roomAfter, refusal, isRefused, unrefused, Paced, upTo, Names}

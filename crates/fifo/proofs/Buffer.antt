@@ -13,15 +13,13 @@ use borrow.Author.Tests.{leb-true}
 use Rattle.bytes.specs.Laid as front
 use Rattle.bytes.proofs.LittleEndian.{Bytes, bytes-take}
 use Rattle.fifo.specs.WaitingLine.{Line, proper}
-use Rattle.fifo.specs.Queue.{limit}
-use Rattle.fifo.specs.Layout.{lineOf, image, laid, lineSize, roomy, isLine}
+use Rattle.fifo.specs.Layout.{limit, lineOf, image, laid, queueSize, roomy, isLine}
 use Rattle.fifo.specs.Steps.{Jobs, fresh, initStep}
 use Rattle.fifo.specs.Fairness.{Call, roomOf, roomAfter, isRefused, lineAfter, Holds, Follows}
 use Rattle.fifo.specs.Buffer.{Use, tickIn, popIn, lent, callOn, bufferAfter, callsOn, bufferAfterAll, started}
 use Rattle.fifo.proofs.WaitingLines.{entries-length}
-use Rattle.fifo.proofs.Lines.{length-line, lineOf-laid, is-line, is-proper, make-proper}
-use Rattle.fifo.proofs.Looks.{laid-line}
-use Rattle.fifo.proofs.Calls.{fresh-proper, holds-front, holds-laid, Undone, Done, effect, outcome, after-proper}
+use Rattle.fifo.proofs.Queues.{length-image, lineOf-laid, holds-laid, is-line, laid-line, is-proper, make-proper}
+use Rattle.fifo.proofs.Calls.{fresh-proper, holds-front, Undone, Done, effect, outcome, after-proper}
 
 -- ---- a line at the front of a buffer
 
@@ -54,9 +52,9 @@ module _ (jobs : Jobs) (h : jobs .count < limit) where
       → roomy (jobs .count) (roomOf (callOn buffer u)) ≡ true → Holds l (roomOf (callOn buffer u))
   unfolding roomy
   on-holds buffer l u e held r =
-      let k : lineSize (jobs .count) ≤ length (take (lent u) buffer) = leb-true _ _ (rw (room-on buffer u) at r) in
+      let k : queueSize (jobs .count) ≤ length (take (lent u) buffer) = leb-true _ _ (rw (room-on buffer u) at r) in
       let fits : length (image l) ≤ lent u =
-      omega (arith, length-line l, entries-length (jobs .count) (l .waiting) (is-proper (jobs .count) l e .1), length-take (lent u) buffer) in
+      omega (arith, length-image l, entries-length (jobs .count) (l .waiting) (is-proper (jobs .count) l e .1), length-take (lent u) buffer) in
       rw (room-on buffer u) (holds-part l buffer (lent u) held fits)
 
   -- the buffer has the line that the call leaves

@@ -8,31 +8,26 @@ use mathlib.Core.List.{List, [], _∷_, _++_}
 use Prim.Native.Nat.{ℕ, _≤_, _<_}
 use native.Mathlib.Nat.{le-refl}
 use lib.Dec.{leb}
-use lib.ListN.{length}
 use lib.Seq.{drop-append-seam}
 use borrow.Author.Tests.{leb-true}
 use Rattle.bytes.specs.Laid as front
 use Rattle.calendar.specs.Dates.{lastMinute}
 use Rattle.schedule.proofs.Theorems.{mark-stays}
 use Rattle.fifo.specs.WaitingLine.{Line, standsIn, entriesOf, proper}
-use Rattle.fifo.specs.Queue.{limit}
-use Rattle.fifo.specs.Layout.{lineOf, image, laid, roomy, isLine}
+use Rattle.fifo.specs.Layout.{limit, lineOf, image, laid, roomy, isLine}
 use Rattle.fifo.specs.Refusals.{tickRefusal, popRefusal}
 use Rattle.fifo.specs.Steps.{Jobs, fresh, joins, joiners, ticked, tickStep, front, popped, popStep}
 use Rattle.fifo.specs.Fairness.{Call, tick, pop, roomOf, roomAfter, refusal, isRefused, lineAfter, Holds, Follows}
 use Rattle.fifo.specs.RefusedCalls.{expected, Expected}
 use Rattle.fifo.proofs.WaitingLines.{entries-behind, entries-pick}
 use Rattle.fifo.proofs.Filling.{joins-new}
-use Rattle.fifo.proofs.Lines.{lineOf-laid, isLine-laid, laid-laid, small-line, is-proper, make-proper}
+use Rattle.fifo.proofs.Queues.{lineOf-laid, isLine-laid, small-line, is-proper, make-proper}
 
 -- ---- rooms that hold a line
 
 pub holds-front : (l : Line) (s : List ℕ) → Holds l (image l ++ s)
 unfolding laid front.laid
 holds-front l s = rw (drop-append-seam (image l) s)
-
-pub holds-laid : (l : Line) (s : List ℕ) → Holds l (laid l s)
-holds-laid l s = laid-laid l l s (le-refl (length (l .waiting)))
 
 module _ (n : ℕ) (l : Line) (room : List ℕ) (h : n < limit) (e : proper n l ≡ true) (held : Holds l room) where
   pub holds-line : lineOf room ≡ l

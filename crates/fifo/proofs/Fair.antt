@@ -15,12 +15,12 @@ use borrow.Author.Tests.{eqb-true, lt-ltb}
 use Rattle.schedule.specs.declared.jump.Mark.{Mark}
 use Rattle.schedule.specs.Jumps.{markAfter}
 use Rattle.fifo.specs.WaitingLine.{Line, standsIn, entriesOf, proper}
-use Rattle.fifo.specs.Queue.{limit}
+use Rattle.fifo.specs.Layout.{limit}
 use Rattle.fifo.specs.Steps.{Jobs, calls, joins, joiners, ticked, front, behind, popped, popStep}
 use Rattle.fifo.specs.Fairness.{Call, tick, pop, roomOf, isRefused, unrefused, lineAfter, Follows, Paced, upTo, Names, marks}
 use Rattle.fifo.specs.FairEvery.{PacedEvery}
 use Rattle.fifo.proofs.WaitingLines.{stands-append, stands-pick, entries-length, entries-behind}
-use Rattle.fifo.proofs.Lines.{lineOf-laid}
+use Rattle.fifo.proofs.Queues.{lineOf-laid}
 use Rattle.fifo.proofs.Calls.{Undone, Done, effect, outcome, ticked-entries, after-proper}
 
 -- ---- where an entry stands

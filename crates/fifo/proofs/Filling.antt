@@ -1,98 +1,84 @@
--- A line that grows entry by entry, as a loop over the entries makes it: those below i that pass a test have joined.
+-- A queue that grows entry by entry, as a loop over the entries makes it: those below i that pass a test have joined.
 -- Assumes nothing.
-use mathlib.Core.Path.{_≡_, refl, sym, ap, _∙_}
+use mathlib.Core.Path.{_≡_, refl, sym, _∙_}
 use mathlib.Core.Bool.{Bool, true, false, not, cond, _&&_, and-true, and-eq-true-iff, or-false}
 use mathlib.Core.List.{List, [], _∷_, _++_, append-assoc, append-nil}
-use Prim.Native.Nat.{ℕ, suc, _+_, _≤_, _<_}
+use Prim.Native.Nat.{ℕ, _+_, _≤_, _<_}
 use native.Mathlib.Numerals.{add-one}
 use native.Mathlib.Nat.{lt-of-not-le}
 use native.Mathlib.Decide.{decLe}
 use native.Mathlib.Omega.{arith}
-use lib.Dec.{leb, ltb}
 use lib.ListN.{length, length-append}
-use borrow.Author.Tests.{not-true, le-leb, lt-leb, lt-ltb, le-ltb}
+use borrow.Author.Tests.{not-true, le-leb, lt-leb, le-ltb}
 use Rattle.bytes.specs.Marks.{marked}
 use Rattle.calendar.specs.Dates.{lastMinute}
 use Rattle.schedule.specs.Jumps.{markAfter}
 use Rattle.fifo.specs.declared.Ticked.the-variants.{Joined}
-use Rattle.fifo.specs.WaitingLine.{Line, standsIn, entriesOf, pick}
-use Rattle.fifo.specs.Queue.{isQueue, queueOf, queueLaid, queueSize, queueRoomy, limit}
-use Rattle.fifo.specs.Layout.{lineOf, laid, isLine}
+use Rattle.fifo.specs.WaitingLine.{Line, standsIn, proper, pick}
+use Rattle.fifo.specs.Layout.{limit, lineOf, laid, roomy, isLine}
 use Rattle.fifo.specs.Steps.{Jobs, fresh, initStep, calls, joins, joiners, ticked, tickStep}
-use Rattle.fifo.specs.SmallSteps.{canPush, pushed, callees, initCalled, joined, tickCalled}
+use Rattle.fifo.specs.SmallSteps.{CanPush, pushed, callees, initCalled, joined, tickCalled}
 use Rattle.fifo.proofs.WaitingLines.{stands-append, stands-pick, pick-same, entries-length, entries-snoc, entries-pick}
-use Rattle.fifo.proofs.Rooms.{is-queue}
-use Rattle.fifo.proofs.Queues.{isQueue-laid, queueOf-laid, laid-laid}
+use Rattle.fifo.proofs.Queues.{is-proper, make-proper, roomy-size, line-known, lineOf-laid, length-laid, laid-laid, holds-laid}
 
 -- ---- one entry more
 
--- in a room that holds a line of n entries there is room for one that doesn't wait
-pub push-room : (n : ℕ) (room : List ℕ) (e : ℕ) → n < limit → isQueue n room ≡ true → e < n → standsIn e (queueOf room) ≡ false
-    → (canPush room ≡ true) × (pushed e room ≡ queueLaid (queueOf room ++ e ∷ []) room)
-unfolding canPush pushed queueRoomy
-push-room n room e h q below out =
-    let l = queueOf room in
-    let i = is-queue n room q in
-    let more = entries-length n (l ++ e ∷ []) (entries-snoc n l e (i .entries-is) below out) in
-    let one = length-append l (e ∷ []) in
-    let fits : leb (queueSize (suc (length l))) (length room) ≡ true = le-leb (queueSize (suc (length l))) (length room) (omega (arith, i .size-is)) in
-    let small : ltb (suc (length l)) limit ≡ true = lt-ltb (suc (length l)) limit (omega arith) in
-    (rw (fits, small), rw (fits, small))
-
--- the same of a line that was laid
-pub push-laid : (n : ℕ) (l room : List ℕ) (e : ℕ) → n < limit → queueRoomy n room ≡ true → entriesOf n l ≡ true → e < n → standsIn e l ≡ false
-    → (canPush (queueLaid l room) ≡ true) × (pushed e (queueLaid l room) ≡ queueLaid (l ++ e ∷ []) room)
+-- in a buffer that a queue of n entries was written to there is room for an entry that doesn't wait
+pub push-laid : (n : ℕ) (l : Line) (room : List ℕ) (e : ℕ) → n < limit → roomy n room ≡ true → proper n l ≡ true → e < n → standsIn e (l .waiting) ≡ false
+    → CanPush (laid l room) × (laid (pushed e (lineOf (laid l room))) (laid l room) ≡ laid (pushed e l) room)
+unfolding pushed
 push-laid n l room e h r g below out =
-    let line : queueOf (queueLaid l room) ≡ l = queueOf-laid n l room h g in
-    let one = length-append l (e ∷ []) in
-    let step = push-room n (queueLaid l room) e h (isQueue-laid n l room h g r) below (rw line out) in
-    (step .0, step .1 ∙ rw line (laid-laid (l ++ e ∷ []) l room (omega arith)))
+    let p = is-proper n l g in
+    let more = entries-length n (l .waiting ++ e ∷ []) (entries-snoc n (l .waiting) e (p .1) below out) in
+    let one = length-append (l .waiting) (e ∷ []) in
+    let size = length-laid l room (omega (arith, roomy-size n room r)) in
+    rw (lineOf-laid n l room h g)
+    ((holds-laid l room, omega (arith, roomy-size n room r), omega arith), laid-laid (record { mark = l .mark; waiting = l .waiting ++ e ∷ [] }) l room (omega arith))
 
 -- ---- entry by entry
 
-module _ (l room : List ℕ) (p : ℕ → Bool) where
-  -- the room after the entries below i
-  abbrev pub filled : ℕ → List ℕ
-  filled i = queueLaid (l ++ pick p i) room
+module _ (l : Line) (room : List ℕ) (p : ℕ → Bool) where
+  -- the queue after the entries below i, and its buffer
+  abbrev pub grown : ℕ → Line
+  grown i = record { mark = l .mark; waiting = l .waiting ++ pick p i }
 
-  pub filled-none : filled 0 ≡ queueLaid l room
+  abbrev pub filled : ℕ → List ℕ
+  filled i = laid (grown i) room
+
+  pub filled-none : filled 0 ≡ laid l room
   unfolding pick
-  filled-none = rw append-nil
+  filled-none = rw (append-nil (l .waiting))
 
   -- an entry that fails the test is passed over
   pub filled-pass : (i : ℕ) → p i ≡ false → filled i ≡ filled (i + 1)
   unfolding pick
   filled-pass i q = rw (add-one i, q, append-nil (pick p i))
 
-  module _ (n : ℕ) (h : n < limit) (r : queueRoomy n room ≡ true) (g : entriesOf n l ≡ true)
-      (new : (e : ℕ) → p e ≡ true → standsIn e l ≡ false) where
-    filled-entries : (i : ℕ) → i ≤ n → entriesOf n (l ++ pick p i) ≡ true
-    filled-entries i k = entries-pick n l p new g i k
-
-    pub filled-line : (i : ℕ) → i ≤ n → queueOf (filled i) ≡ l ++ pick p i
-    filled-line i k = queueOf-laid n (l ++ pick p i) room h (filled-entries i k)
+  module _ (n : ℕ) (h : n < limit) (r : roomy n room ≡ true) (g : proper n l ≡ true)
+      (new : (e : ℕ) → p e ≡ true → standsIn e (l .waiting) ≡ false) where
+    grown-proper : (i : ℕ) → i ≤ n → proper n (grown i) ≡ true
+    grown-proper i k = make-proper n (grown i) (is-proper n l g .0) (entries-pick n (l .waiting) p new (is-proper n l g .1) i k)
 
     -- entry i waits there if it waited before
-    waits-before : (i : ℕ) → standsIn i (l ++ pick p i) ≡ standsIn i l
-    waits-before i = stands-append i l (pick p i) ∙ rw (stands-pick p i i, le-ltb i i (omega arith)) (or-false (standsIn i l))
+    waits-before : (i : ℕ) → standsIn i (l .waiting ++ pick p i) ≡ standsIn i (l .waiting)
+    waits-before i =
+        stands-append i (l .waiting) (pick p i) ∙ rw (stands-pick p i i, le-ltb i i (omega arith)) (or-false (standsIn i (l .waiting)))
 
-    pub filled-waits : (i : ℕ) → i ≤ n → standsIn i (queueOf (filled i)) ≡ standsIn i l
-    filled-waits i k = ap (standsIn i) (filled-line i k) ∙ waits-before i
-
-    -- an entry that passes joins
-    pub filled-push : (i : ℕ) → i < n → p i ≡ true → (canPush (filled i) ≡ true) × (pushed i (filled i) ≡ filled (i + 1))
-    unfolding pick
-    filled-push i k q =
-        let step = push-laid n (l ++ pick p i) room i h r (filled-entries i (omega arith)) k (waits-before i ∙ new i q) in
+    -- an entry that passes can join
+    pub filled-room : (i : ℕ) → i < n → p i ≡ true
+        → CanPush (filled i) × (laid (pushed i (lineOf (filled i))) (filled i) ≡ filled (i + 1))
+    unfolding pick pushed
+    filled-room i k q =
+        let step = push-laid n (grown i) room i h r (grown-proper i (omega arith)) k (waits-before i ∙ new i q) in
         (step .0, rw (add-one i, q, ← append-assoc) (step .1))
 
     -- a turn of a loop over the entries: one that passes joins, any other is passed over
-    pub filled-next : (i : ℕ) → i < n → ((p i && canPush (filled i)) ≡ p i) × (cond (p i) (pushed i (filled i)) (filled i) ≡ filled (i + 1))
+    pub filled-next : (i : ℕ) → i < n → cond (p i) (laid (pushed i (lineOf (filled i))) (filled i)) (filled i) ≡ filled (i + 1)
     filled-next i k = go (p i) refl
       where
-        go : (b : Bool) → p i ≡ b → ((b && canPush (filled i)) ≡ b) × (cond b (pushed i (filled i)) (filled i) ≡ filled (i + 1))
-        go true q = filled-push i k q
-        go false q = (refl, filled-pass i q)
+        go : (b : Bool) → p i ≡ b → cond b (laid (pushed i (lineOf (filled i))) (filled i)) (filled i) ≡ filled (i + 1)
+        go true q = filled-room i k q .1
+        go false q = filled-pass i q
 
 -- how many have joined
 pub length-pick : (p : ℕ → Bool) (i : ℕ) → length (pick p (i + 1)) ≡ length (pick p i) + cond (p i) 1 0
@@ -110,15 +96,15 @@ one-most false = omega arith
 -- ---- a loop over the entries
 
 -- what holds after the entries below i: the room, and how many joined
-pub record Fills (l room₀ : List ℕ) (p : ℕ → Bool) (n i : ℕ) (room : List ℕ) (count : ℕ) : Type 0 where
+pub record Fills (l : Line) (room₀ : List ℕ) (p : ℕ → Bool) (n i : ℕ) (room : List ℕ) (count : ℕ) : Type 0 where
   pub upTo : i ≤ n
   pub room-is : room ≡ filled l room₀ p i
   pub length-is : length room ≡ length room₀
   pub count-is : count ≡ length (pick p i)
   pub count-most : count ≤ i
 
-module _ (l room₀ : List ℕ) (p : ℕ → Bool) (n : ℕ) where
-  pub fills-none : {room : List ℕ} → room ≡ queueLaid l room₀ → length room ≡ length room₀ → Fills l room₀ p n 0 room 0
+module _ (l : Line) (room₀ : List ℕ) (p : ℕ → Bool) (n : ℕ) where
+  pub fills-none : {room : List ℕ} → room ≡ laid l room₀ → length room ≡ length room₀ → Fills l room₀ p n 0 room 0
   unfolding pick
   fills-none e k =
       record {
@@ -144,30 +130,22 @@ module _ (l room₀ : List ℕ) (p : ℕ → Bool) (n : ℕ) where
 -- A turn of the loop: an entry that is called joins unless it waits.
 module _ (n : ℕ) (room called : List ℕ) where
   abbrev pub joinsNow : ℕ → Bool
-  joinsNow e = marked called e && not (standsIn e (queueOf room))
+  joinsNow e = marked called e && not (standsIn e (lineOf room .waiting))
 
-  now-new : (e : ℕ) → joinsNow e ≡ true → standsIn e (queueOf room) ≡ false
-  now-new e q = not-true (standsIn e (queueOf room)) (and-eq-true-iff (marked called e) (not (standsIn e (queueOf room))) .0 q .1)
+  now-new : (e : ℕ) → joinsNow e ≡ true → standsIn e (lineOf room .waiting) ≡ false
+  now-new e q = not-true (standsIn e (lineOf room .waiting)) (and-eq-true-iff (marked called e) (not (standsIn e (lineOf room .waiting))) .0 q .1)
 
-  pub join-next : (i : ℕ) → n < limit → isQueue n room ≡ true → i < n
-      → let at = filled (queueOf room) room joinsNow in
-      ((joinsNow i && canPush (at i)) ≡ joinsNow i) × (cond (joinsNow i) (pushed i (at i)) (at i) ≡ at (i + 1))
-  join-next i h q k =
-      let line = is-queue n room q in
-      filled-next (queueOf room) room joinsNow n h (line .roomy-is) (line .entries-is) now-new i k
+  module _ (i : ℕ) (h : n < limit) (q : isLine n room ≡ true) (k : i < n) where
+    pub join-room : joinsNow i ≡ true → CanPush (filled (lineOf room) room joinsNow i)
+    join-room j =
+        let line = line-known n room q in
+        filled-room (lineOf room) room joinsNow n h (line .roomy-is) (line .proper-is) now-new i k j .0
 
--- a room that was cleared holds the empty line, and what is laid there is as in the room before
-module _ (n : ℕ) (room x : List ℕ) (few : n < limit) (r : queueRoomy n room ≡ true) (e : x ≡ queueLaid [] room) where
-  pub emptied-queue : isQueue n x ≡ true
-  unfolding entriesOf
-  emptied-queue = rw e (isQueue-laid n [] room few refl r)
-
-  pub emptied : queueOf x ≡ []
-  unfolding entriesOf
-  emptied = rw e (queueOf-laid n [] room few refl)
-
-  pub laid-emptied : (l : List ℕ) → queueLaid l x ≡ queueLaid l room
-  laid-emptied l = ap (queueLaid l) e ∙ laid-laid l [] room (omega arith)
+    pub join-next : let at = filled (lineOf room) room joinsNow in
+        cond (joinsNow i) (laid (pushed i (lineOf (at i))) (at i)) (at i) ≡ at (i + 1)
+    join-next =
+        let line = line-known n room q in
+        filled-next (lineOf room) room joinsNow n h (line .roomy-is) (line .proper-is) now-new i k
 
 -- ---- a fresh line and an announced minute end in their steps
 

@@ -3,8 +3,6 @@ pub mod Numbers
 pub mod Queues
 pub mod Stores
 pub mod Gathered
-pub mod Rooms
-pub mod Lines
 pub mod Filling
 pub mod Looks
 pub mod Calls

@@ -1,4 +1,4 @@
--- Laws of a look at the line, and of a line that is filled anew, entry by entry.
+-- Laws of a look at the queue, and of a queue that is filled anew, entry by entry.
 -- Assumes nothing.
 use mathlib.Core.Path.{_≡_, refl, sym, ap, _∙_}
 use mathlib.Core.Bool.{Bool, true, false, true≢false}
@@ -7,19 +7,17 @@ use Prim.Native.Nat.{ℕ, zero, suc, _+_, _≤_, _<_}
 use native.Mathlib.Nat.{lt-of-not-le}
 use native.Mathlib.Decide.{decLe}
 use native.Mathlib.Omega.{arith}
-use lib.ListN.{length, getD, take, drop, drop-of-length-le, take-append-drop}
-use lib.Seq.{take-all}
+use lib.ListN.{length, getD, take}
 use Rattle.fifo.specs.declared.Popped.the-variants.{Entry, Nothing}
 use Rattle.fifo.specs.WaitingLine.{standsIn, entriesOf}
-use Rattle.fifo.specs.Queue.{numbers, counted, queueOf, queueLaid, queueRoomy, limit}
-use Rattle.fifo.specs.Layout.{headSize, lineOf, laid, isLine}
+use Rattle.schedule.specs.declared.jump.Mark.{Mark}
+use Rattle.schedule.specs.Jumps.{isMark}
+use Rattle.fifo.specs.Layout.{limit, lineOf, laid, roomy}
 use Rattle.fifo.specs.Steps.{front, standing}
-use Rattle.fifo.specs.SmallSteps.{pushed}
+use Rattle.fifo.specs.SmallSteps.{CanPush, pushed}
 use Rattle.fifo.proofs.WaitingLines.{entries-snoc, cut-over, cut-twice, take-next}
-use Rattle.fifo.proofs.Filling.{push-laid, laid-emptied}
-use Rattle.fifo.proofs.Rooms.{laid-queue}
-use Rattle.fifo.proofs.Lines.{laid-parts, head-kept, line-queue}
-use Rattle.bytes.proofs.LittleEndian.{Bytes, bytes-drop}
+use Rattle.fifo.proofs.Queues.{make-proper}
+use Rattle.fifo.proofs.Filling.{push-laid}
 
 -- ---- who stands at a place
 
@@ -35,12 +33,6 @@ standing-past [] zero h = refl
 standing-past [] (suc i) h = refl
 standing-past (x ∷ l) zero h = absurd (omega arith)
 standing-past (x ∷ l) (suc i) h = standing-past l i (omega arith)
-
--- ---- in a room too short for a head nobody waits
-
-pub short-waiting : (s : List ℕ) → length s < headSize → lineOf s .waiting ≡ []
-unfolding lineOf queueOf counted numbers
-short-waiting s h = ap queueOf (drop-of-length-le s (let k : length s ≤ headSize = omega arith in k))
 
 -- ---- a list, up to a place
 
@@ -65,25 +57,16 @@ entries-take n l e (suc i) h =
     rw (sym q) (ap (entriesOf n) (take-next l i (getD l i 0) (omega arith) refl)
     ∙ entries-snoc n (take i l) (getD l i 0) (entries-take n l e i (omega arith)) (t .0) (t .1))
 
+-- the buffer with a mark and the first entries of a list
+abbrev pub partly : Mark → List ℕ → List ℕ → ℕ → List ℕ
+partly m l room i = laid (record { mark = m; waiting = take i l }) room
+
 -- a turn of the loop: the next entry joins
-pub refill-next : (n : ℕ) (l room : List ℕ) (i : ℕ) → n < limit → queueRoomy n room ≡ true → entriesOf n l ≡ true → i < length l
-    → pushed (getD l i 0) (queueLaid (take i l) room) ≡ queueLaid (take (i + 1) l) room
-refill-next n l room i few r e h =
+pub refill-next : (n : ℕ) (m : Mark) (l room : List ℕ) (i : ℕ) → n < limit → isMark m ≡ true → roomy n room ≡ true → entriesOf n l ≡ true → i < length l
+    → CanPush (partly m l room i) × (laid (pushed (getD l i 0) (lineOf (partly m l room i))) (partly m l room i) ≡ partly m l room (i + 1))
+unfolding pushed
+refill-next n m l room i few is r e h =
     let t = entry-there n l i e h in
-    push-laid n (take i l) room (getD l i 0) few r (entries-take n l e i (omega arith)) (t .0) (t .1) .1
-    ∙ ap (λ (k : List ℕ). queueLaid k room) (sym (take-next l i (getD l i 0) h refl))
-
--- and at its end the whole list waits, in a room that was cleared
-pub refill-end : (n : ℕ) (l room x : List ℕ) (i : ℕ) {s : List ℕ} → n < limit → queueRoomy n room ≡ true → x ≡ queueLaid [] room → length l ≤ i
-    → s ≡ queueLaid (take i l) x → s ≡ queueLaid l room
-refill-end n l room x i few r cleared h e =
-    e ∙ ap (λ (k : List ℕ). queueLaid k x) (take-all i l h) ∙ laid-emptied n room x few r cleared l
-
--- ---- the room
-
--- a line laid where it stands changes nothing
-pub laid-line : (n : ℕ) (s : List ℕ) → Bytes s → isLine n s ≡ true → laid (lineOf s) s ≡ s
-unfolding lineOf
-laid-line n s f e =
-    laid-parts (lineOf s) s
-    ∙ rw (← head-kept n s f e, laid-queue n (drop headSize s) (bytes-drop headSize s f) (line-queue n s e)) (take-append-drop headSize s)
+    let good = make-proper n (record { mark = m; waiting = take i l }) is (entries-take n l e i (omega arith)) in
+    let step = push-laid n (record { mark = m; waiting = take i l }) room (getD l i 0) few r good (t .0) (t .1) in
+    (step .0, step .1 ∙ ap (λ (k : List ℕ). laid (record { mark = m; waiting = k }) room) (sym (take-next l i (getD l i 0) h refl)))

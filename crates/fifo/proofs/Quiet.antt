@@ -13,8 +13,7 @@ use Rattle.schedule.specs.Jumps.{markAfter}
 use Rattle.fifo.specs.declared.Popped.{Popped}
 use Rattle.fifo.specs.declared.Popped.the-variants.{Entry}
 use Rattle.fifo.specs.WaitingLine.{Line, pick}
-use Rattle.fifo.specs.Queue.{limit}
-use Rattle.fifo.specs.Layout.{roomy}
+use Rattle.fifo.specs.Layout.{limit, roomy}
 use Rattle.fifo.specs.Steps.{Jobs, fresh, calls, joins, joiners, ticked, front, behind, popped}
 use Rattle.fifo.specs.Fairness.{Call, tick, pop, isRefused, unrefused, Paced, upTo, Names, marks}
 use Rattle.fifo.specs.Buffer.{callsOn, bufferAfterAll, started}

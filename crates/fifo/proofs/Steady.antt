@@ -11,8 +11,7 @@ use lib.ListN.{length, take, drop, length-take, length-drop, length-append}
 use borrow.Author.Tests.{leb-true, leb-false, le-leb}
 use Rattle.calendar.specs.Dates.{lastMinute}
 use Rattle.fifo.specs.WaitingLine.{Line, proper}
-use Rattle.fifo.specs.Queue.{limit}
-use Rattle.fifo.specs.Layout.{laid, lineSize, roomy}
+use Rattle.fifo.specs.Layout.{limit, laid, queueSize, roomy}
 use Rattle.fifo.specs.Steps.{Jobs, fresh, initStep}
 use Rattle.fifo.specs.RefusedCalls.{expected}
 use Rattle.fifo.specs.Fairness.{Call, tick, pop, roomOf, roomAfter, refusal, isRefused, unrefused, lineAfter, Holds, Paced}
@@ -20,7 +19,7 @@ use Rattle.fifo.specs.Buffer.{Use, tickIn, popIn, lent, callOn, bufferAf
 use Rattle.fifo.specs.Steady.{steady}
 use Rattle.fifo.specs.FairEvery.{PacedEvery, steadyEvery}
 use Rattle.fifo.proofs.WaitingLines.{entries-length}
-use Rattle.fifo.proofs.Lines.{length-laid, is-proper}
+use Rattle.fifo.proofs.Queues.{length-laid, is-proper}
 use Rattle.fifo.proofs.Calls.{Done, effect, outcome, fresh-proper, after-proper}
 use Rattle.fifo.proofs.Fair.{one-paced}
 use Rattle.fifo.proofs.Buffer.{room-on, on-holds, on-after, started-holds}
@@ -73,7 +72,7 @@ module _ (jobs : Jobs) (h : jobs .count < limit) (n : ℕ) where
       where
         done : Done jobs (s .line) c → length (roomAfter jobs c) ≡ length (roomOf c)
         done d =
-            let k : lineSize (jobs .count) ≤ length (roomOf c) = leb-true _ _ (done-roomy (s .line) c d) in
+            let k : queueSize (jobs .count) ≤ length (roomOf c) = leb-true _ _ (done-roomy (s .line) c d) in
             let few = entries-length (jobs .count) (effect jobs (s .line) c .waiting) (is-proper (jobs .count) (effect jobs (s .line) c) (d .leaves) .1) in
             ap length (d .room) ∙ length-laid (effect jobs (s .line) c) (roomOf c) (omega arith)
 
@@ -103,17 +102,17 @@ module _ (jobs : Jobs) (h : jobs .count < limit) (n : ℕ) where
 
   -- ---- the list
 
-  module _ (room : lineSize (jobs .count) ≤ n) where
-    part-roomy : (size : ℕ) (buffer : List ℕ) → lineSize (jobs .count) ≤ size → Stands jobs n buffer → roomy (jobs .count) (take size buffer) ≡ true
+  module _ (room : queueSize (jobs .count) ≤ n) where
+    part-roomy : (size : ℕ) (buffer : List ℕ) → queueSize (jobs .count) ≤ size → Stands jobs n buffer → roomy (jobs .count) (take size buffer) ≡ true
     unfolding roomy
-    part-roomy size buffer large s = le-leb (lineSize (jobs .count)) (length (take size buffer)) (omega (arith, length-take size buffer, s .long))
+    part-roomy size buffer large s = le-leb (queueSize (jobs .count)) (length (take size buffer)) (omega (arith, length-take size buffer, s .long))
 
-    one-taken : (u : Use) (buffer : List ℕ) → Sound (lineSize (jobs .count)) u → Stands jobs n buffer → isRefused jobs (callOn buffer u) ≡ false
+    one-taken : (u : Use) (buffer : List ℕ) → Sound (queueSize (jobs .count)) u → Stands jobs n buffer → isRefused jobs (callOn buffer u) ≡ false
     unfolding expected callOn c
     one-taken (tickIn m size) buffer k s = taken buffer (tickIn m size) s (rw (part-roomy size buffer (k .0) s, le-leb m (lastMinute) (k .1)))
     one-taken (popIn size) buffer k s = taken buffer (popIn size) s (rw (part-roomy size buffer k s))
 
-    all-taken : (us : List Use) (buffer : List ℕ) → AllSound (lineSize (jobs .count)) us → Stands jobs n buffer
+    all-taken : (us : List Use) (buffer : List ℕ) → AllSound (queueSize (jobs .count)) us → Stands jobs n buffer
         → unrefused jobs (callsOn jobs buffer us) ≡ callsOn jobs buffer us
     unfolding callsOn unrefused
     all-taken [] buffer k s = refl
@@ -158,11 +157,11 @@ module _ (jobs : Jobs) (h : jobs .count < limit) (size : ℕ) (buffer : List ℕ
   at-first : Stands jobs (length begun) begun
   at-first = record { line = fresh jobs; entries = fresh-proper jobs; held = started-holds jobs h size buffer r; long = refl }
 
-  enough : lineSize (jobs .count) ≤ length (take size buffer)
+  enough : queueSize (jobs .count) ≤ length (take size buffer)
   unfolding roomy
   enough = leb-true _ _ r
 
-  begun-long : lineSize (jobs .count) ≤ length begun
+  begun-long : queueSize (jobs .count) ≤ length begun
   unfolding started initStep
   begun-long =
       let few = entries-length (jobs .count) (fresh jobs .waiting) (is-proper (jobs .count) (fresh jobs) (fresh-proper jobs) .1) in
@@ -174,7 +173,7 @@ module _ (jobs : Jobs) (h : jobs .count < limit) (size : ℕ) (buffer : List ℕ
       (unrefused jobs calls ≡ calls) × PacedEvery k (t + 1) n 0 calls
   every-from k t n first b some = (
     all-taken jobs h (length begun) begun-long (steadyEvery size k (t + 1) n 0) (bufferAfterAll jobs begun first)
-        (every-sound size k (lineSize (jobs .count)) n (t + 1) 0 (omega (arith, enough, length-take size buffer)) (omega arith))
+        (every-sound size k (queueSize (jobs .count)) n (t + 1) 0 (omega (arith, enough, length-take size buffer)) (omega arith))
         (end-stands jobs h (length begun) first begun at-first),
     every-paced size k jobs n (t + 1) 0 (bufferAfterAll jobs begun first) some,
   )

@@ -16,7 +16,7 @@ use Rattle.fifo.specs.declared.Ticked.the-variants.{Joined, Refused as N
 use Rattle.fifo.specs.declared.Popped.the-variants.{Entry, Nothing, Refused as NotPopped}
 use Rattle.calendar.specs.Dates.{lastMinute}
 use Rattle.fifo.specs.WaitingLine.{Line, entriesOf, proper}
-use Rattle.fifo.specs.Layout.{lineOf, laid, lineSize, roomy, isLine}
+use Rattle.fifo.specs.Layout.{limit, lineOf, laid, queueSize, roomy, isLine}
 use Rattle.fifo.specs.Steps.{Jobs, Step, fresh, initStep, joins, joiners, ticked, tickStep, front, behind, popped, popStep, standing, entryStep}
 use Rattle.fifo.specs.Fairness.{unrefused, Soon, bound, FairFrom, Fair}
 use Rattle.fifo.specs.RefusedCalls.{RefusedOnly}
@@ -24,8 +24,7 @@ use Rattle.fifo.specs.Buffer.{callsOn, bufferAfterAll, started, FairInBu
 use Rattle.fifo.specs.Steady.{steady, SteadyPaced, FairSteady}
 use Rattle.fifo.specs.FairEvery.{boundEvery, FairEveryFrom, FairEvery, CalledEvery, SteadyEveryPaced}
 use Rattle.fifo.proofs.WaitingLines.{entries-cons, entries-behind, pick-length}
-use Rattle.fifo.specs.Queue.{limit}
-use Rattle.fifo.proofs.Lines.{is-line, is-proper, make-proper, small-line, lineOf-laid, isLine-laid}
+use Rattle.fifo.proofs.Queues.{is-line, is-proper, make-proper, small-line, lineOf-laid, isLine-laid}
 use Rattle.fifo.proofs.Calls.{fresh-proper, goes-on, expected-all}
 use Rattle.fifo.proofs.Fair.{runs, runs-ticked, waits-named, called-named}
 use Rattle.fifo.proofs.Steady.{every-from, steady-from}
@@ -45,14 +44,14 @@ pub use Rattle.fifo.proofs.Fair.{Runs}
 pub use Rattle.fifo.proofs.Quiet.{quiet, two-run}
 -- lines of entries, and rooms that hold them
 pub use Rattle.fifo.proofs.WaitingLines.{entries-cons, entries-snoc, entries-length, stands-append, take-next}
-pub use Rattle.fifo.proofs.Lines.{is-line, make-proper}
-pub use Rattle.fifo.proofs.Calls.{holds-laid}
-pub use Rattle.fifo.proofs.Looks.{standing-at, entry-there, laid-line}
+pub use Rattle.fifo.proofs.Queues.{is-line, make-proper, laid-line}
+pub use Rattle.fifo.proofs.Queues.{holds-laid}
+pub use Rattle.fifo.proofs.Looks.{standing-at, entry-there}
 
 -- eight bytes for each entry and 64 more are always room enough
 pub room-enough : (n : ℕ) (s : List ℕ) → 8 * n + 64 ≤ length s → roomy n s ≡ true
 unfolding roomy
-room-enough n s h = le-leb (lineSize n) (length s) (omega arith)
+room-enough n s h = le-leb (queueSize n) (length s) (omega arith)
 
 -- ---- what a call of a table of n entries comes back with: no more than n join, and an entry that is named is one of them
 

@@ -16,7 +16,7 @@ use Rattle.fifo.specs.Steps.{Jobs, joiners, ticked, front, behind, poppe
 use Rattle.fifo.specs.Fairness.{Call, tick, pop, unrefused, Names}
 use Rattle.fifo.specs.Waits.{requests, upToRequest, WaitsExactly, WaitsAtMost, CalledWaits, WaitsEvery}
 use Rattle.fifo.proofs.WaitingLines.{entries-cons, entries-length}
-use Rattle.fifo.proofs.Lines.{is-proper}
+use Rattle.fifo.proofs.Queues.{is-proper}
 use Rattle.fifo.proofs.Calls.{ticked-entries}
 use Rattle.fifo.proofs.Fair.{At, here, there, at-append, at-length, at-stands, ticked-stands, Runs, runs, runs-ticked, paced-some, times-next, waiting-named}
 

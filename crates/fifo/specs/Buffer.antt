@@ -7,8 +7,7 @@ use Prim.Native.Nat.{ℕ, _+_, _<_}
 use mathlib.Core.Bool.{true, false}
 use mathlib.Core.List.{List, [], _∷_, _++_}
 use lib.ListN.{take, drop}
-use Rattle.fifo.specs.Queue.{limit}
-use Rattle.fifo.specs.Layout.{roomy}
+use Rattle.fifo.specs.Layout.{limit, roomy}
 use Rattle.fifo.specs.Steps.{Jobs, initStep}
 use Rattle.fifo.specs.Fairness.{Call, tick, pop, roomAfter, unrefused, Paced, upTo, Names, Soon, bound}
 

@@ -9,8 +9,6 @@ use native.Mathlib.Omega.{arith}
 use lib.Dec.{eqb}
 use lib.ListN.{replicate}
 use Rattle.bytes.specs.Laid as front
-use Rattle.bytes.specs.Runs.{between}
-use Rattle.bytes.specs.LittleEndian.{littleEndian, numberOf}
 use Rattle.bytes.specs.Search.{leastOf, from, passes}
 use Rattle.schedule.specs.Jumps.{caseOf, judged, markAfter}
 use Rattle.fifo.specs.declared.Ticked.{Ticked}
@@ -18,8 +16,7 @@ use Rattle.fifo.specs.declared.Popped.{Popped}
 use Rattle.fifo.specs.declared.Ticked.the-variants.{Joined, Refused as NotTicked}
 use Rattle.fifo.specs.declared.Popped.the-variants.{Entry, Nothing, Refused as NotPopped}
 use Rattle.fifo.specs.WaitingLine.{standsIn, entriesOf, pick}
-use Rattle.fifo.specs.Queue.{numbers, bytes, counted, queueOf, queueImage, queueLaid, queueRoomy, isQueue}
-use Rattle.fifo.specs.Layout.{head, formatOf, markOf, lineOf, image, laid, roomy, isLine}
+use Rattle.fifo.specs.Layout.{numbers, bytes, number32, layout, formatOf, markOf, countOf, lineOf, image, laid, roomy, isHead, isLine}
 use Rattle.fifo.specs.Steps.{Jobs, fresh, initStep, calls, joins, joiners, ticked, tickStep, front, behind, popped, popStep, standing, entryStep}
 use Rattle.fifo.specs.Refusals.{tickRefusal, popRefusal}
 use Rattle.fifo.specs.Fairness.{Call, tick, pop, roomOf, roomAfter, refusal, isRefused, unrefused, lineAfter, Follows, Paced, upTo, Names, bound}
@@ -45,8 +42,8 @@ answer jobs (pop room) = inr (popStep (jobs .count) room .answer)
 -- all that a run of calls is made of, to be computed
 unfoldable pub running : Unit {0}
 unfolding callsOn callOn bufferAfter lent roomAfter started initStep fresh tickStep ticked joiners joins calls popStep front behind popped standing entryStep
-    isLine roomy laid front.laid image lineOf head formatOf markOf between littleEndian numberOf caseOf judged markAfter passes from leastOf
-    isQueue queueRoomy queueOf queueImage queueLaid counted numbers bytes entriesOf standsIn pick
+    isLine isHead roomy laid front.laid image layout lineOf countOf formatOf markOf number32 caseOf judged markAfter passes from leastOf
+    numbers bytes entriesOf standsIn pick
 running = tt
 
 -- a request: entry 1. Announce 59: 1 joined. Announce 60: 1 joined. Requests: entry 0, entry 2, nothing.

@@ -10,8 +10,7 @@ use lib.Dec.{leb}
 use lib.ListN.{take}
 use Rattle.calendar.specs.Dates.{lastMinute}
 use Rattle.fifo.specs.WaitingLine.{Line, proper}
-use Rattle.fifo.specs.Queue.{limit}
-use Rattle.fifo.specs.Layout.{roomy}
+use Rattle.fifo.specs.Layout.{limit, roomy}
 use Rattle.fifo.specs.Steps.{Jobs, fresh, calls}
 use Rattle.fifo.specs.Fairness.{Call, tick, pop, isRefused, unrefused, Follows, upTo, Names, Soon}
 use Rattle.fifo.specs.Buffer.{Use, tickIn, popIn, callsOn, bufferAfterAll, started}

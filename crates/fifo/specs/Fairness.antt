@@ -11,8 +11,7 @@ use Rattle.fifo.specs.declared.Popped.the-variants.{Entry}
 use Rattle.schedule.specs.declared.jump.Mark.{Mark}
 use Rattle.schedule.specs.Jumps.{markAfter}
 use Rattle.fifo.specs.WaitingLine.{Line, proper}
-use Rattle.fifo.specs.Queue.{limit}
-use Rattle.fifo.specs.Layout.{lineOf, laid, roomy}
+use Rattle.fifo.specs.Layout.{limit, lineOf, laid, roomy}
 use Rattle.fifo.specs.Refusals.{tickRefusal, popRefusal}
 use Rattle.fifo.specs.Steps.{Jobs, fresh, calls, tickStep, popStep}
 

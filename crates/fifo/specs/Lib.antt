@@ -1,5 +1,4 @@
 pub mod WaitingLine
-pub mod Queue
 pub mod Layout
 pub mod Refusals
 pub mod Steps

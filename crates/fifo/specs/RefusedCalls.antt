@@ -8,8 +8,7 @@ use mathlib.Core.List.{List, [], _∷_}
 use lib.Dec.{leb}
 use Rattle.calendar.specs.Dates.{lastMinute}
 use Rattle.calendar.specs.Refusals.{notOnCalendar}
-use Rattle.fifo.specs.Queue.{limit}
-use Rattle.fifo.specs.Layout.{roomy}
+use Rattle.fifo.specs.Layout.{limit, roomy}
 use Rattle.fifo.specs.Refusals.{notALine}
 use Rattle.fifo.specs.Steps.{Jobs, fresh}
 use Rattle.fifo.specs.Fairness.{Call, tick, pop, refusal, Follows}

@@ -2,10 +2,10 @@
 -- Only the contracts of the functions that take them cite these; what a reader must believe is in Steps.
 -- Assumes nothing.
 use mathlib.Core.Path.{_≡_}
-use Prim.Native.Nat.{ℕ, suc, _+_, _*_, _/_, _%_}
-use mathlib.Core.Bool.{Bool, not, cond, _&&_}
+use Prim.Native.Nat.{ℕ, suc, _+_, _*_, _/_, _%_, _≤_, _<_}
+use mathlib.Core.Bool.{not, cond, _&&_}
 use mathlib.Core.List.{List, [], _∷_, _++_}
-use lib.Dec.{leb, ltb}
+use lib.Dec.{leb}
 use lib.ListN.{length, set}
 use Rattle.bytes.specs.Marks.{marked}
 use Rattle.calendar.specs.Dates.{lastMinute}
@@ -16,21 +16,24 @@ use Rattle.schedule.specs.Jumps.{markAfter}
 use Rattle.fifo.specs.declared.Ticked.{Ticked}
 use Rattle.fifo.specs.declared.Ticked.the-variants.{Joined, Refused as NotTicked}
 use Rattle.fifo.specs.WaitingLine.{Line, standsIn, pick}
-use Rattle.fifo.specs.Queue.{queueOf, queueLaid, queueRoomy, limit}
-use Rattle.fifo.specs.Layout.{lineOf, laid, roomy, isLine}
+use Rattle.fifo.specs.Layout.{limit, lineOf, laid, queueSize, roomy, isLine}
 use Rattle.fifo.specs.Refusals.{notALine}
 use Rattle.fifo.specs.Steps.{Step}
 
 -- the bytes with the number x at place i
-unfoldable pub stored : ℕ → ℕ → List ℕ → List ℕ
-stored i x s = set (set s (2 * i) (x % 256)) (2 * i + 1) (x / 256 % 256)
+unfoldable pub withNumber : ℕ → ℕ → List ℕ → List ℕ
+withNumber i x s = set (set s (2 * i) (x % 256)) (2 * i + 1) (x / 256 % 256)
 
--- whether there is room behind the line, and its count can grow
-unfoldable pub canPush : List ℕ → Bool
-canPush room = queueRoomy (suc (length (queueOf room))) room && ltb (suc (length (queueOf room))) limit
+-- the buffer holds its queue, has room for one entry more, and the count can grow
+abbrev pub CanPush : List ℕ → Type 0
+CanPush buffer =
+    (laid (lineOf buffer) buffer ≡ buffer)
+    × (queueSize (suc (length (lineOf buffer .waiting))) ≤ length buffer)
+    × (suc (length (lineOf buffer .waiting)) < limit)
 
-unfoldable pub pushed : ℕ → List ℕ → List ℕ
-pushed e room = cond (canPush room) (queueLaid (queueOf room ++ e ∷ []) room) room
+-- an entry more at the back
+unfoldable pub pushed : ℕ → Line → Line
+pushed e l = record { mark = l .mark; waiting = l .waiting ++ e ∷ [] }
 
 -- ---- who is called, by a set in words of 64 bits
 

@@ -8,8 +8,7 @@ use mathlib.Core.Bool.{true, false}
 use mathlib.Core.List.{List, [], _∷_}
 use lib.ListN.{take}
 use Rattle.calendar.specs.Dates.{lastMinute}
-use Rattle.fifo.specs.Queue.{limit}
-use Rattle.fifo.specs.Layout.{roomy}
+use Rattle.fifo.specs.Layout.{limit, roomy}
 use Rattle.fifo.specs.Steps.{Jobs}
 use Rattle.fifo.specs.Fairness.{unrefused, Paced, upTo, Names, Soon, bound}
 use Rattle.fifo.specs.Buffer.{Use, tickIn, popIn, callsOn, bufferAfterAll, started}

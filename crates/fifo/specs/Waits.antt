@@ -7,7 +7,7 @@ use mathlib.Core.Bool.{true, false}
 use mathlib.Core.List.{List, [], _∷_}
 use Rattle.fifo.specs.declared.Popped.the-variants.{Entry}
 use Rattle.fifo.specs.WaitingLine.{Line, standsIn, proper}
-use Rattle.fifo.specs.Queue.{limit}
+use Rattle.fifo.specs.Layout.{limit}
 use Rattle.fifo.specs.Steps.{Jobs, calls, standing}
 use Rattle.fifo.specs.Fairness.{Call, tick, pop, isRefused, unrefused, Follows, upTo, Names}
 use Rattle.fifo.specs.FairEvery.{PacedEvery}

@@ -98,7 +98,7 @@ pub fn reload(old: &[u8], new: &[u8], rules: Rules, room: &mut [u8]) -> Ticked
         return Ticked::Refused(after.refusal);
     }
     let n = after.count;
-    if fifo::is_line(room, before.count) & fifo::has_room(room, n as u16) {
+    if fifo::is_line(room, before.count) & fifo::has_room(room, n) {
         let kept = who_waits(old, new, rules, room, n);
         let count = kept.count;
         let entries = kept.entries;

@@ -21,8 +21,7 @@ use Rattle.crontab.specs.declared.table.EntryAnswer.the-variants.{Found, Refuse
 use Rattle.crontab.specs.Tables.{tableOf, entryIn, blankEntry}
 use Rattle.crontab.specs.Firings.{byWhen, isBoot, firesAt, dueAnswer, dueIn}
 use Rattle.fifo.specs.WaitingLine.{Line, standsIn}
-use Rattle.fifo.specs.Queue.{limit}
-use Rattle.fifo.specs.Layout.{lineOf, laid, isLine}
+use Rattle.fifo.specs.Layout.{limit, lineOf, laid, isLine}
 use Rattle.fifo.specs.declared.Ticked.{Ticked}
 use Rattle.fifo.specs.Steps.{Step, tickStep, refilled}
 use Rattle.fifo.proofs.Theorems.{isCalled, Before, without, emptied-line, emptied-is, announced-is, announced-mark, announced-stands}

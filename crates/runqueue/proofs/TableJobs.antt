@@ -29,7 +29,7 @@ use Rattle.crontab.specs.declared.firing.DueAnswer.the-variants as due
 use Rattle.crontab.specs.Tables.{tableOf, entryIn, blankEntry}
 use Rattle.crontab.specs.Firings.{byWhen, isBoot, firesAt, dueOf, dueAnswer, dueIn}
 use Rattle.crontab.proofs.Theorems.{table-sound}
-use Rattle.fifo.specs.Queue.{limit}
+use Rattle.fifo.specs.Layout.{limit}
 use Rattle.fifo.specs.Fairness.{Soon}
 use Rattle.fifo.proofs.Theorems.{soon-past-hold}
 use Rattle.runqueue.specs.Jobs.{jobAt, jobsOf}

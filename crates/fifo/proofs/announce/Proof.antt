@@ -1,54 +1,52 @@
--- `fifo::announce` meets its contract: the head is written, and the entries behind it join.
+-- `fifo::announce` meets its contract: the mark is set, and the entries that are called join.
 -- Assumes nothing.
-use Prim.Native.Nat.{ℕ, _≤_}
-use Rattle.fifo.proofs.Lines.{long-line, line-queue, rest-whole, put-line, headed-length, headed-head, headed-rest, headed-laid}
-use Rattle.fifo.specs.Queue.{queueOf}
-use Rattle.fifo.specs.Layout.{headSize, lineOf, laid}
-use Rattle.fifo.specs.SmallSteps.{callees, joined}
-use borrow.Author.Needs.{needs}
-use lib.ListN.{length}
-use mathlib.Core.Path.{ap, _∙_}
-use mathlib.Core.List.{List, _++_}
+use mathlib.Core.Path.{_≡_, _∙_}
+use mathlib.Core.Bool.{true}
 use native.Mathlib.Omega.{arith}
+use lib.ListN.{length-append}
+use borrow.Author.Needs.{needs}
+use Rattle.fifo.specs.WaitingLine.{proper}
+use Rattle.fifo.specs.Layout.{lineOf}
+use Rattle.fifo.specs.SmallSteps.{callees, joined}
+use Rattle.fifo.proofs.Queues.{line-known, make-proper, written-is, written, written-over}
 use Rattle.fifo.proofs.announce.Statement.{statement}
 use Rattle.fifo.proofs.announce.Tie as tie
 
-long : (c : tie.After-write) → headSize ≤ length (c .write .last .0)
-long c = let a = c .before .before .before .before in
-    omega (arith, headed-length (a .args .room .now) (long-line _ _ (a .pre .0)) (a .args .mark) (c .write .ensures), long-line _ _ (a .pre .0))
+-- the queue with its new mark
+marked : (c : tie.After-set-mark) → let a = c .before .before .before .before in
+    proper (a .args .n) (record { mark = a .args .mark; waiting = lineOf (a .args .buffer .now) .waiting }) ≡ true
+marked c =
+    let a = c .before .before .before .before in
+    make-proper (a .args .n) _ (a .pre .2) (line-known (a .args .n) (a .args .buffer .now) (a .pre .0) .entries-is)
 
-write-requires : tie.Need-write-requires
-write-requires c κs = c .before .before .before .pre .2
+read : (c : tie.After-set-mark) → let a = c .before .before .before .before in
+    lineOf (c .set-mark .last .0) ≡ record { mark = a .args .mark; waiting = lineOf (a .args .buffer .now) .waiting }
+read c =
+    let a = c .before .before .before .before in
+    written (a .args .n) _ (a .args .buffer .now) (omega arith) (line-known _ _ (a .pre .0) .roomy-is) (marked c) (c .set-mark .ensures)
 
-sub-join : tie.Need-sub-join
-sub-join c = long (c .before .before)
-
-part-join-start : tie.Need-part-join-start
-part-join-start c = long (c .before .before)
+set-mark-requires : tie.Need-set-mark-requires
+set-mark-requires c κs = let a = c .before .before .before in ((a .args .n, a .pre .0), a .pre .2)
 
 join-requires : tie.Need-join-requires
-unfolding lineOf
 join-requires c κs =
-    let w = c .before .before .before in
-    let a = w .before .before .before .before in
-    rw (rest-whole (w .write .last .0) (long w), headed-rest (a .args .room .now) (long-line _ _ (a .pre .0)) (a .args .mark) (w .write .ensures))
-    (line-queue (a .args .n) (a .args .room .now) (a .pre .0), a .pre .1)
+    let b = c .before .before .before in
+    let a = b .before .before .before .before in (
+      written-is (a .args .n) _ (a .args .buffer .now) (omega arith) (line-known _ _ (a .pre .0) .roomy-is) (marked b) (b .set-mark .ensures),
+      rw (read b) (a .pre .1),
+    )
 
 returns : tie.Need-returns
-unfolding lineOf joined
+unfolding joined
 returns c =
-    let w = c .before .before .before .before .before .before in
-    let a = w .before .before .before .before in
-    let s = a .args .room .now in
-    let wide = long-line _ s (a .pre .0) in
-    let j = rw (rest-whole (w .write .last .0) (long w)) at (c .before .before .join .ensures) in
-    let whole = put-line (w .write .last .0) (long w) (a .args .mark) _ (headed-head s wide (a .args .mark) (w .write .ensures)) (j .1) in
-    let rest = headed-rest s wide (a .args .mark) (w .write .ensures) in (
-      rw rest at (j .0),
-      whole
-          ∙ headed-laid s wide (a .args .mark) (w .write .ensures) _
-          ∙ ap (λ (d : List ℕ). laid (record { mark = a .args .mark; waiting = queueOf d ++ callees (a .args .n) (a .args .called .now) (queueOf d) }) s) rest,
+    let j = c .before .before in
+    let b = j .before .before .before .before in
+    let a = b .before .before .before .before in
+    let w = lineOf (a .args .buffer .now) .waiting in
+    let over = written-over (a .args .n) _ (a .args .buffer .now) (omega arith) (line-known _ _ (a .pre .0) .roomy-is) (marked b) (b .set-mark .ensures) in (
+      rw (read b) at (j .join .ensures .0),
+      (rw (read b) at (j .join .ensures .1)) ∙ over _ (omega (arith, length-append w (callees (a .args .n) (a .args .called .now) w))),
     )
 
 pub announce-spec : {M : Type 1} → statement M
-announce-spec = tie.close (tie.spec write-requires sub-join part-join-start (λ c. search needs) join-requires (λ c. search needs) returns)
+announce-spec = tie.close (tie.spec set-mark-requires join-requires (λ c. search needs) returns)

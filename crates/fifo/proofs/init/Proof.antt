@@ -1,58 +1,54 @@
--- `fifo::init` meets its contract: the head is written with no mark, and those who are called wait behind it.
+-- `fifo::init` meets its contract: an empty queue is written, and those who are called join.
 -- Assumes nothing.
-use Prim.Native.Nat.{ℕ, _≤_}
-use Rattle.fifo.proofs.Lines.{roomy-behind, rest-whole, put-line, headed-length, headed-head, headed-rest, headed-laid}
-use Rattle.fifo.specs.Layout.{headSize, lineSize, roomy}
-use Rattle.fifo.specs.SmallSteps.{initCalled}
-use Rattle.schedule.specs.declared.jump.Mark.the-variants.{None}
-use borrow.Author.Needs.{needs}
-use borrow.Author.Tests.{leb-true}
-use lib.ListN.{length}
+use mathlib.Core.Path.{_≡_, refl, sym, ap, _∙_}
 use mathlib.Core.Bool.{true}
-use mathlib.Core.List.{List}
-use mathlib.Core.Path.{_≡_, refl, sym, _∙_}
+use mathlib.Core.List.{[]}
 use native.Mathlib.Omega.{arith}
+use borrow.Author.Needs.{needs}
+use Rattle.schedule.specs.declared.jump.Mark.the-variants.{None}
+use Rattle.fifo.specs.declared.Ticked.the-variants.{Joined}
+use Rattle.fifo.specs.Layout.{lineOf, roomy}
+use Rattle.fifo.specs.SmallSteps.{joined, initCalled}
+use Rattle.fifo.proofs.Gathered.{gathered-none}
+use Rattle.fifo.proofs.Queues.{roomy-size, none-proper, written-is, written, written-over}
 use Rattle.fifo.proofs.init.Statement.{statement}
 use Rattle.fifo.proofs.init.Tie as tie
 
-wide : (n : ℕ) (s : List ℕ) → roomy n s ≡ true → headSize ≤ length s
-unfolding roomy
-wide n s r = omega (arith, leb-true (lineSize n) (length s) r)
+-- there is room
+enough : (c : tie.Then1) → let a = c .before .before .before .before .before in roomy (a .args .n) (a .args .buffer .now) ≡ true
+enough c = sym (c .before .has-room .ensures) ∙ c .if1 .taken
 
-long : (c : tie.After-write) → headSize ≤ length (c .write .last .0)
-long c =
-    let h = c .before .before in
-    let r = sym (h .before .has-room .ensures) ∙ h .if1 .taken in
-    omega (arith, headed-length (h .before .before .before .before .before .args .room .now) (wide _ _ r) None (c .write .ensures), wide _ _ r)
+-- the queue is empty
+emptied : (c : tie.After-clear) → lineOf (c .clear .last .0) ≡ record { mark = None; waiting = [] }
+emptied c =
+    let i = c .before .before in
+    let a = i .before .before .before .before .before in
+    written (a .args .n) _ (a .args .buffer .now) (omega arith) (enough i) (none-proper (a .args .n) None refl) (c .clear .ensures)
 
-write-requires : tie.Need-write-requires
-write-requires c κs = refl
+clear-requires : tie.Need-clear-requires
+clear-requires c κs = omega (arith, roomy-size _ _ (enough (c .before)))
 
-sub-fill : tie.Need-sub-fill
-sub-fill c = long (c .before .before)
-
-part-fill-start : tie.Need-part-fill-start
-part-fill-start c = long (c .before .before)
-
-fill-requires : tie.Need-fill-requires
-fill-requires c κs =
-    let w = c .before .before .before in
-    let h = w .before .before in
-    let a = h .before .before .before .before .before in
-    let r = sym (h .before .has-room .ensures) ∙ h .if1 .taken in
-    rw (rest-whole (w .write .last .0) (long w), headed-rest (a .args .room .now) (wide _ _ r) None (w .write .ensures)) (sym (roomy-behind (a .args .n) (a .args .room .now)) ∙ r)
+join-requires : tie.Need-join-requires
+join-requires c κs =
+    let b = c .before .before .before .before in
+    let i = b .before .before in
+    let a = i .before .before .before .before .before in (
+      written-is (a .args .n) _ (a .args .buffer .now) (omega arith) (enough i) (none-proper (a .args .n) None refl) (b .clear .ensures),
+      rw (emptied b) (gathered-none 1024),
+    )
 
 returns : tie.Need-returns
-unfolding initCalled
+unfolding initCalled joined
 returns c =
-    let w = c .before .before .before .before .before .before in
-    let h = w .before .before in
-    let a = h .before .before .before .before .before in
-    let s = a .args .room .now in
-    let r = sym (h .before .has-room .ensures) ∙ h .if1 .taken in
-    let f = rw (rest-whole (w .write .last .0) (long w)) at (c .before .before .fill .ensures) in
-    let whole = put-line (w .write .last .0) (long w) None _ (headed-head s (wide _ _ r) None (w .write .ensures)) (f .1) in
-    rw (r, f .0) (refl, whole ∙ headed-laid s (wide _ _ r) None (w .write .ensures) _)
+    let j = c .before .before in
+    let b = j .before .before .before .before .before in
+    let i = b .before .before in
+    let a = i .before .before .before .before .before in
+    let over = written-over (a .args .n) _ (a .args .buffer .now) (omega arith) (enough i) (none-proper (a .args .n) None refl) (b .clear .ensures) in
+    rw (enough i) (
+      ap Joined (rw (emptied b) at (j .join .ensures .0)),
+      (rw (emptied b) at (j .join .ensures .1)) ∙ over _ (omega arith),
+    )
 
 returns-2 : tie.Need-returns-2
 unfolding initCalled
@@ -61,14 +57,4 @@ returns-2 c = rw (sym (c .before .has-room .ensures) ∙ c .if1 .left) (refl, re
 pub init-spec : {M : Type 1} → statement M
 init-spec =
     tie.close
-    (tie.spec
-    (λ c κs. search needs)
-    write-requires
-    sub-fill
-    part-fill-start
-    (λ c. search needs)
-    fill-requires
-    (λ c. search needs)
-    returns
-    (λ c. search needs)
-    returns-2)
+    (tie.spec (λ c κs. search needs) clear-requires join-requires (λ c. search needs) returns (λ c. search needs) returns-2)

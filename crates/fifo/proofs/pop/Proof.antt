@@ -1,51 +1,73 @@
 -- `fifo::pop` meets its contract.
 -- Assumes nothing.
-use Rattle.fifo.proofs.Lines.{long-line, line-queue, head-kept, rest-whole, put-line}
-use Rattle.fifo.specs.Layout.{lineOf}
-use Rattle.fifo.specs.Steps.{popped, popStep}
-use borrow.Author.Needs.{needs}
-use mathlib.Core.Path.{refl, sym, _∙_}
+use mathlib.Core.Path.{_≡_, refl, sym, ap, _∙_}
+use mathlib.Core.Bool.{true}
+use Prim.Native.Nat.{_<_}
 use native.Mathlib.Omega.{arith}
+use lib.ListN.{length}
+use borrow.Author.Needs.{needs}
+use Rattle.fifo.specs.declared.Popped.the-variants.{Entry}
+use Rattle.fifo.specs.Layout.{countOf, lineOf, laid, isLine}
+use Rattle.fifo.specs.Steps.{standing, popStep}
+use Rattle.fifo.proofs.Numbers.{waiting-at}
+use Rattle.fifo.proofs.Queues.{line-known, laid-line}
+use Rattle.fifo.proofs.Stores.{laid-drop-none}
+use Rattle.fifo.proofs.Looks.{standing-at, standing-past}
 use Rattle.fifo.proofs.pop.Statement.{statement}
 use Rattle.fifo.proofs.pop.Tie as tie
 
-sub-take-front : tie.Need-sub-take-front
-sub-take-front c = long-line _ _ (sym (c .before .is-line .ensures) ∙ c .if1 .taken)
+-- the buffer holds a queue
+is : (c : tie.Then1) → let a = c .before .before .before .before in isLine (a .args .n) (a .args .buffer .now) ≡ true
+is c = sym (c .before .is-line .ensures) ∙ c .if1 .taken
 
-part-take-front-start : tie.Need-part-take-front-start
-part-take-front-start c = long-line _ _ (sym (c .before .is-line .ensures) ∙ c .if1 .taken)
+held : (c : tie.Then1) → let s = c .before .before .before .before .args .buffer .now in laid (lineOf s) s ≡ s
+held c =
+    let a = c .before .before .before .before in
+    laid-line (a .args .n) (a .args .buffer .now) (λ k. omega (arith, c .before .before .before .slice-known .given k)) (is c)
 
-take-front-requires : tie.Need-take-front-requires
-take-front-requires c κs =
-    let i = c .before in
-    let a = i .before .before .before .before in
-    let is = sym (i .before .is-line .ensures) ∙ i .if1 .taken in
-    (a .args .n, rw (rest-whole (a .args .room .now) (long-line _ _ is)) (line-queue (a .args .n) (a .args .room .now) is))
+-- the number that was read is how many wait
+counted : (c : tie.After-number) → c .number .result ≡ length (lineOf (c .before .before .before .before .before .before .args .buffer .now) .waiting)
+unfolding countOf
+counted c = c .number .ensures ∙ line-known _ _ (is (c .before .before)) .counted-is
 
 returns : tie.Need-returns
-unfolding popStep popped lineOf
+unfolding popStep standing
 returns c =
-    let i = c .before .before .before .before in
-    let a = i .before .before .before .before in
-    let s = a .args .room .now in
-    let is = sym (i .before .is-line .ensures) ∙ i .if1 .taken in
-    let t = rw (rest-whole s (long-line _ _ is)) at (c .before .before .take-front .ensures) in
-    rw is (t .0, put-line s (long-line _ _ is) _ _ (head-kept (a .args .n) s (λ k. omega (arith, i .before .before .before .slice-known .given k)) is) (t .1))
+    let i = c .before .before .before in
+    let s = i .before .before .before .before .args .buffer .now in
+    let none = sym (counted (c .before)) ∙ c .if2 .taken in
+    rw (is i) (standing-past (lineOf s .waiting) 0 (omega arith), laid-drop-none (lineOf s) s (held i) none)
+
+drop-front-requires : tie.Need-drop-front-requires
+drop-front-requires c κs =
+    let f = c .before .before .before in
+    (held (f .before .before .before), counted (f .before), omega (arith, f .if2 .left))
 
 returns-2 : tie.Need-returns-2
+unfolding popStep standing
+returns-2 c =
+    let d = c .before .before in
+    let f = d .before .before .before .before in
+    let i = f .before .before .before in
+    let s = i .before .before .before .before .args .buffer .now in
+    let some : 0 < length (lineOf s .waiting) = omega (arith, f .if2 .left, counted (f .before)) in
+    rw (is i) (ap Entry (d .before .before .number2 .ensures ∙ sym (waiting-at s 0 some)) ∙ standing-at (lineOf s .waiting) 0 some, d .drop-front .ensures)
+
+returns-3 : tie.Need-returns-3
 unfolding popStep
-returns-2 c = rw (sym (c .before .is-line .ensures) ∙ c .if1 .left) (refl, refl)
+returns-3 c = rw (sym (c .before .is-line .ensures) ∙ c .if1 .left) (refl, refl)
 
 pub pop-spec : {M : Type 1} → statement M
 pop-spec =
     tie.close
     (tie.spec
     (λ c κs. search needs)
-    sub-take-front
-    part-take-front-start
-    (λ c. search needs)
-    take-front-requires
+    (λ c κs. search needs)
     (λ c. search needs)
     returns
+    (λ c κs. search needs)
+    drop-front-requires
     (λ c. search needs)
-    returns-2)
+    returns-2
+    (λ c. search needs)
+    returns-3)

@@ -1,7 +1,7 @@
 -- `fifo::tick` meets its contract: who waits is gathered where the room holds a line.
 -- Assumes nothing.
 use Rattle.fifo.proofs.Gathered.{gathered-none}
-use Rattle.fifo.proofs.Lines.{is-line}
+use Rattle.fifo.proofs.Queues.{is-line}
 use Rattle.fifo.specs.Layout.{lineOf}
 use Rattle.fifo.specs.SmallSteps.{tickCalled}
 use Rattle.calendar.specs.Dates.{lastMinute}

@@ -32,12 +32,6 @@ returns-2 c =
     let f = c .before .before .check2 .ensures in
     rw f (reload-new _ _ _ _ (rw e at (c .before .before .before .if1 .left)) (rw f at (c .if2 .taken)))
 
-cast-has-room : tie.Need-cast-has-room
-unfolding verdictOf
-cast-has-room c =
-    let a = c .before .before .before .before .before .before .before .before .before .before .before .before .args in
-    rw (c .before .before .before .before .before .check2 .ensures) (omega (arith, table-sound (a .rules) (a .new .now) .few))
-
 who-waits-requires : tie.Need-who-waits-requires
 unfolding verdictOf
 who-waits-requires c κs =
@@ -101,7 +95,6 @@ reload-spec =
     (λ c κs. search needs)
     returns-2
     (λ c κs. search needs)
-    cast-has-room
     (λ c κs. search needs)
     who-waits-requires
     cast-refill

@@ -2,39 +2,43 @@
 -- Assumes nothing.
 use native.Mathlib.Omega.{arith}
 use borrow.Author.Needs.{needs}
-use Rattle.fifo.proofs.Numbers.{queue-short, queue-small}
-use Rattle.fifo.proofs.Rooms.{drop-done}
+use Rattle.fifo.proofs.Numbers.{waiting-length}
+use Rattle.fifo.proofs.Stores.{laid-drop}
 use Rattle.fifo.proofs.queue.drop_front.Statement.{statement}
 use Rattle.fifo.proofs.queue.drop_front.Tie as tie
 
-mul-move-up : tie.Need-mul-move-up
-mul-move-up c = omega (arith, queue-short (c .before .before .args .s .now))
+sub-move-up : tie.Need-sub-move-up
+sub-move-up c = omega (arith, c .before .before .pre .2)
 
 move-up-requires : tie.Need-move-up-requires
-move-up-requires c κs = omega (arith, queue-short (c .before .before .args .s .now))
+move-up-requires c κs =
+    let a = c .before .before in
+    omega (arith, waiting-length (a .args .buffer .now), a .pre .1, a .pre .2)
 
-cast-store : tie.Need-cast-store
-cast-store c =
-    let small = queue-small (c .before .before .before .before .before .before .args .s .now) (λ i. omega (arith, c .before .before .before .before .before .slice-known .given i)) in
-    omega (arith, c .before .before .before .before .before .before .pre .0)
+sub-store : tie.Need-sub-store
+sub-store c = omega (arith, c .before .before .before .before .before .before .pre .2)
 
 store-requires : tie.Need-store-requires
-store-requires c κs = omega (arith, queue-short (c .before .before .before .before .before .before .args .s .now), c .before .before .before .move-up .kept .0, c .before .before .before .before .before .before .pre .0, c .before .before .before .before .before .before .pre .1)
+store-requires c κs =
+    let m = c .before .before .before in
+    let a = m .before .before .before in
+    omega (arith, waiting-length (a .args .buffer .now), m .move-up .kept .0, a .pre .1, a .pre .2)
 
 returns : tie.Need-returns
 returns c =
-    rw (c .before .before .store .ensures, c .before .before .before .before .before .before .move-up .ensures)
-    (drop-done _ _ (λ i. omega (arith, c .before .before .before .before .before .before .before .before .slice-known .given i)) (c .before .before .before .before .before .before .before .before .before .pre .0) (c .before .before .before .before .before .before .before .before .before .pre .1))
+    let s = c .before .before in
+    let m = s .before .before .before .before in
+    let a = m .before .before .before in
+    rw (s .store .ensures, m .move-up .ensures) (laid-drop _ _ _ (a .pre .0) (a .pre .1) (a .pre .2))
 
 pub drop-front-spec : {M : Type 1} → statement M
 drop-front-spec =
     tie.close
     (tie.spec
-    mul-move-up
     (λ c. search needs)
+    sub-move-up
     move-up-requires
-    (λ c. search needs)
-    cast-store
+    sub-store
     store-requires
     (λ c. search needs)
     returns)

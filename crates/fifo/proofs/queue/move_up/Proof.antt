@@ -11,17 +11,17 @@ use Rattle.fifo.proofs.queue.move_up.Statement.{statement}
 use Rattle.fifo.proofs.queue.move_up.Tie as tie
 
 abbrev Inv-loop : tie.InvT-loop
-Inv-loop room₀ n i₀ room i = (room ≡ paste room₀ 2 (drop 4 room₀) i) × (length room ≡ length room₀) × (i ≤ n)
+Inv-loop buffer₀ n i₀ buffer i = (buffer ≡ paste buffer₀ 10 (drop 12 buffer₀) i) × (length buffer ≡ length buffer₀) × (i ≤ n)
 
 abbrev μ-loop : tie.MeasureT-loop
-μ-loop room₀ n i₀ room i = n - i
+μ-loop buffer₀ n i₀ buffer i = n - i
 
 loop-holds : tie.Need-loop-holds Inv-loop μ-loop
-loop-holds c = (paste-zero (c .args .s .now) 2 (drop 4 (c .args .s .now)), search needs, search needs)
+loop-holds c = (paste-zero (c .args .buffer .now) 10 (drop 12 (c .args .buffer .now)), search needs, search needs)
 
 loop-again : tie.Need-loop-again Inv-loop μ-loop
 loop-again c =
-    let s = c .before .before .before .args .s .now in
+    let s = c .before .before .before .args .buffer .now in
     let i = c .before .before .loop .i in
     let inv = c .before .before .loop .inv in
     (rw (inv .0) (paste-next s i (omega arith)), simp length-set (inv .1), omega arith)

@@ -1,41 +1,56 @@
 -- `fifo::queue::push` meets its contract.
 -- Assumes nothing.
+use mathlib.Core.Path.{_≡_}
 use native.Mathlib.Omega.{arith}
 use borrow.Author.Needs.{needs}
-use Rattle.fifo.proofs.Numbers.{queue-short}
-use Rattle.fifo.proofs.Rooms.{push-short, push-full, push-done}
+use lib.ListN.{length}
+use Rattle.fifo.specs.Layout.{countOf, lineOf}
+use Rattle.fifo.proofs.Numbers.{waiting-length}
+use Rattle.fifo.proofs.Stores.{laid-push}
 use Rattle.fifo.proofs.queue.push.Statement.{statement}
 use Rattle.fifo.proofs.queue.push.Tie as tie
 
-add-if1 : tie.Need-add-if1
-add-if1 c = omega (arith, queue-short (c .before .before .before .args .s .now), c .len .ensures)
+-- the number that was read is how many wait
+counted : (c : tie.After-number) → c .number .result ≡ length (lineOf (c .before .before .before .args .buffer .now) .waiting)
+unfolding countOf
+counted c =
+    let a = c .before .before .before in
+    let n : c .number .result ≡ countOf (a .args .buffer .now) = c .number .ensures in
+    omega (arith, n, waiting-length (a .args .buffer .now), a .pre .1)
+
+add-store : tie.Need-add-store
+add-store c = omega (arith, counted (c .before), c .before .before .before .before .pre .2)
+
+store-requires : tie.Need-store-requires
+store-requires c κs = omega (arith, counted (c .before), c .before .before .before .before .pre .1)
+
+add-store-2 : tie.Need-add-store-2
+add-store-2 c =
+    let n = c .before .before .before .before .before in
+    omega (arith, counted n, n .before .before .before .pre .2)
+
+store-requires-2 : tie.Need-store-requires-2
+store-requires-2 c κs =
+    let one = c .before .before .before in
+    omega (arith, one .store .kept .0, one .before .before .before .before .before .pre .1)
 
 returns : tie.Need-returns
-returns c = push-short _ _ _ (c .before .len .ensures) (c .if1 .taken)
-
-returns-2 : tie.Need-returns-2
-returns-2 c = push-full _ _ _ (c .before .before .len .ensures) (c .before .if1 .left) (c .if2 .taken)
-
-returns-3 : tie.Need-returns-3
-returns-3 c =
-    let d = c .before .before .before .before .before .before .before .before in
-    rw (c .before .before .store2 .ensures, c .before .before .before .before .before .before .store .ensures)
-    (push-done _ _ _ (d .before .before .len .ensures) (λ i. omega (arith, d .before .before .before .before .slice-known .given i)) (d .before .if1 .left) (d .if2 .left))
+returns c =
+    let two = c .before .before in
+    let one = two .before .before .before .before in
+    let n = one .before .before in
+    let a = n .before .before .before in
+    rw (two .store2 .ensures, one .store .ensures, counted n) (laid-push _ _ (a .pre .0) _ (a .pre .1))
 
 pub push-spec : {M : Type 1} → statement M
 push-spec =
     tie.close
     (tie.spec
     (λ c κs. search needs)
-    add-if1
     (λ c. search needs)
-    returns
+    add-store
+    store-requires
+    add-store-2
+    store-requires-2
     (λ c. search needs)
-    returns-2
-    (λ c. search needs)
-    (λ c κs. search needs)
-    (λ c. search needs)
-    (λ c. search needs)
-    (λ c κs. search needs)
-    (λ c. search needs)
-    returns-3)
+    returns)
