@@ -12,3 +12,4 @@ pub mod FairEvery
 pub mod Waits
 pub mod Examples
 pub mod CounterExamples
+pub mod WideExamples
