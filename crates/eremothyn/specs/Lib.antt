@@ -17,3 +17,4 @@ pub mod ManyEntries
 pub mod KnownDays
 pub mod Apart
 pub mod Demand
+pub mod GreatNumbers
