@@ -6,5 +6,6 @@ pub mod DirectDates
 pub mod Dates
 pub mod Minutes
 pub mod Months
+pub mod OffCalendar
 pub mod Theorems
 pub mod Extremes

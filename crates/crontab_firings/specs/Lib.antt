@@ -3,3 +3,4 @@ pub mod Lines
 pub mod Pieces
 pub mod Files
 pub mod CounterExamples
+pub mod WholeLines

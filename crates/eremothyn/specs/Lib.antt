@@ -18,3 +18,4 @@ pub mod KnownDays
 pub mod Apart
 pub mod Demand
 pub mod AnyNumbers
+pub mod GreatNumbers

@@ -13,5 +13,6 @@ pub mod OneByOne
 pub mod Buffer
 pub mod Steady
 pub mod Quiet
+pub mod Growth
 pub mod Theorems
 pub mod Extremes

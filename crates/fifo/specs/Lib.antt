@@ -11,3 +11,4 @@ pub mod FairEvery
 pub mod Waits
 pub mod Examples
 pub mod CounterExamples
+pub mod WideExamples

@@ -7,6 +7,7 @@ pub mod Keys
 pub mod Merging
 pub mod Counts
 pub mod Runs
+pub mod WholeRuns
 pub mod Pieces
 pub mod Theorems
 pub mod Extremes

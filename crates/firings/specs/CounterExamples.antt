@@ -3,14 +3,16 @@
 -- Assumes nothing.
 use mathlib.Core.List.{List, [], _∷_}
 use native.Mathlib.Omega.{arith}
+use mathlib.Core.Path.{ap}
+use lib.ListN.{getD}
 use Rattle.bytes.specs.Texts.{text}
 use Rattle.field.specs.declared.Dialect.the-variants.{Rising}
 use Rattle.crontab.specs.declared.Kind.the-variants.{User}
 use Rattle.crontab.specs.declared.table.Table.{Table}
 use Rattle.crontab.specs.Tables.{tableOf}
 use Prim.Native.Nat.{ℕ}
-use Rattle.firings.specs.declared.Filled.the-variants.{All, More}
-use Rattle.firings.specs.Rising.{Given, Runs}
+use Rattle.firings.specs.declared.Filled.the-variants.{All, More, Refused}
+use Rattle.firings.specs.Rising.{Given, Runs, FilledBy}
 use Rattle.firings.specs.Computing.{listing}
 
 abbrev tableIn : List ℕ → Table
@@ -43,4 +45,26 @@ not-runs = (
   (λ r. omega (arith, r .3)),
   (λ r. omega (arith, r .0 .to)),
   (λ r. omega (arith, r .0 .good)),
+)
+
+-- Two numbers in a run of three: a count that is less, another number, one after them changed; more where none is left, or where there is room; a refusal that
+-- changes one.
+not-filled :
+    (FilledBy (5 ∷ 6 ∷ []) 3 (7 ∷ 8 ∷ 9 ∷ []) (All 1) (5 ∷ 8 ∷ 9 ∷ []) → ⊥)
+    × (FilledBy (5 ∷ 6 ∷ []) 3 (7 ∷ 8 ∷ 9 ∷ []) (All 2) (5 ∷ 8 ∷ 9 ∷ []) → ⊥)
+    × (FilledBy (5 ∷ 6 ∷ []) 3 (7 ∷ 8 ∷ 9 ∷ []) (All 2) (5 ∷ 6 ∷ 0 ∷ []) → ⊥)
+    × (FilledBy (5 ∷ 6 ∷ []) 1 (7 ∷ []) (All 2) (5 ∷ 6 ∷ []) → ⊥)
+    × (FilledBy (5 ∷ 6 ∷ []) 2 (7 ∷ 8 ∷ []) (More 2) (5 ∷ 6 ∷ []) → ⊥)
+    × (FilledBy (5 ∷ 6 ∷ []) 2 (7 ∷ 8 ∷ []) (More 1) (5 ∷ 8 ∷ []) → ⊥)
+    × (FilledBy (5 ∷ 6 ∷ []) 1 (7 ∷ 8 ∷ []) (More 1) (5 ∷ 0 ∷ []) → ⊥)
+    × (FilledBy (5 ∷ 6 ∷ []) 1 (7 ∷ []) (Refused 14) (5 ∷ []) → ⊥)
+not-filled = (
+  (λ f. omega (arith, f .0)),
+  (λ f. omega (arith, ap (λ (l : List ℕ). getD l 1 0) (f .2))),
+  (λ f. omega (arith, ap (λ (l : List ℕ). getD l 2 0) (f .2))),
+  (λ f. omega (arith, f .1)),
+  (λ f. omega (arith, f .0)),
+  (λ f. omega (arith, f .1)),
+  (λ f. omega (arith, ap (λ (l : List ℕ). getD l 1 0) (f .2))),
+  (λ f. omega (arith, ap (λ (l : List ℕ). getD l 0 0) f)),
 )

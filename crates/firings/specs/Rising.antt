@@ -2,9 +2,9 @@
 -- Assumes nothing.
 use mathlib.Core.Path.{_≡_}
 use mathlib.Core.Logic.{_⊎_}
-use mathlib.Core.List.{List, [], _∷_}
+use mathlib.Core.List.{List, [], _∷_, _++_}
 use Prim.Native.Nat.{ℕ, _≤_, _<_}
-use lib.ListN.{length, take}
+use lib.ListN.{length, take, drop}
 use Rattle.calendar.specs.Dates.{lastMinute}
 use Rattle.crontab.specs.declared.table.Table.{Table}
 use Rattle.bytes.specs.Refusals.{IsRefusal}
@@ -60,3 +60,10 @@ abbrev pub Runs : Table → ℕ → ℕ → ℕ → Filled → List ℕ → List
 Runs t a b room (All n) minutes entries = Given t a b × FirstOf (mergedOf t a b) n minutes entries × (n ≡ length (mergedOf t a b)) × (n ≤ room)
 Runs t a b room (More n) minutes entries = Given t a b × FirstOf (mergedOf t a b) n minutes entries × (n < length (mergedOf t a b)) × (n ≡ room)
 Runs t a b room (Refused number) minutes entries = Unit {0}
+
+-- All of a run with room for so many, as an answer says it: the first numbers of a list, as many as are answered, and after them those that were there. A
+-- refused call leaves it.
+abbrev pub FilledBy : List ℕ → ℕ → List ℕ → Filled → List ℕ → Type 0
+FilledBy numbers room before (All n) after = (n ≡ length numbers) × (n ≤ room) × (after ≡ take n numbers ++ drop n before)
+FilledBy numbers room before (More n) after = (n < length numbers) × (n ≡ room) × (after ≡ take n numbers ++ drop n before)
+FilledBy numbers room before (Refused number) after = after ≡ before

@@ -4,3 +4,4 @@ pub mod Targets
 pub mod Calls
 pub mod Computing
 pub mod Examples
+pub mod LongTexts

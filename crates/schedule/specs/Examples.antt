@@ -90,6 +90,13 @@ numberedDays = fields (0 ∷ []) (0 ∷ []) (upTo 1 31) (upTo 1 12) (1 ∷ []) (
 abbrev numberedWeekdays : Schedule
 numberedWeekdays = fields (0 ∷ []) (0 ∷ []) (1 ∷ []) (upTo 1 12) (upTo 0 6) (starsAt false true false)
 
+-- `0 0 1 * *`, where the weekdays and the months begin with a star, and `0 0 * 2 1`, where the days do and the months don't
+abbrev firstDays : Schedule
+firstDays = fields (0 ∷ []) (0 ∷ []) (1 ∷ []) (upTo 1 12) (upTo 0 6) (starsAt false true true)
+
+abbrev februaryMondays : Schedule
+februaryMondays = fields (0 ∷ []) (0 ∷ []) (upTo 1 31) (2 ∷ []) (1 ∷ []) (starsAt true false false)
+
 -- which minutes match
 abbrev matched : Schedule × ℕ → Bool
 matched (s, m) = matches s m
@@ -123,6 +130,11 @@ matching : Hold matched
     -- a day field that has every value and doesn't begin with a star: either may match, so that every day does
     ∷ ((numberedDays, 0), true)
     ∷ ((numberedWeekdays, 1440), true)
+    -- one star among the day fields is enough, whether the months have one or not: 1970-01-01 and 1970-01-02; 1970-02-01, a Sunday, and 1970-02-02
+    ∷ ((firstDays, 0), true)
+    ∷ ((firstDays, 1440), false)
+    ∷ ((februaryMondays, 44640), false)
+    ∷ ((februaryMondays, 46080), true)
     ∷ [])
 unfolding schedules
 matching = refl

@@ -33,6 +33,14 @@ cases : Hold beside
     -- a clock that falls to 1970, and one that comes back
     ∷ ((At 29738970, 0), (Anew, At 0))
     ∷ ((At 0, 29738970), (Anew, At 29738970))
+    -- at the calendar's first minute, and at its last
+    ∷ ((At 0, 0), (Held, At 0))
+    ∷ ((At 179, 0), (Held, At 179))
+    ∷ ((At 180, 0), (Anew, At 0))
+    ∷ ((At 4223371679, 4223371500), (Held, At 4223371679))
+    ∷ ((At 4223371679, 4223371499), (Anew, At 4223371499))
+    ∷ ((At 4223371499, 4223371679), (After 4223371499, At 4223371679))
+    ∷ ((At 4223371498, 4223371679), (Anew, At 4223371679))
     ∷ [])
 unfolding caseOf markAfter
 cases = refl
