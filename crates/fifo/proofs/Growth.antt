@@ -12,10 +12,10 @@ use Rattle.calendar.specs.Dates.{lastMinute}
 use Rattle.fifo.specs.declared.Ticked.{Ticked}
 use Rattle.fifo.specs.declared.Ticked.the-variants.{Joined, Refused as NotTicked}
 use Rattle.fifo.specs.WaitingLine.{Line, proper}
-use Rattle.fifo.specs.Queue.{limit}
+use Rattle.fifo.specs.Layout.{limit}
 use Rattle.fifo.specs.Layout.{lineOf, laid, roomy, isLine}
 use Rattle.fifo.specs.Steps.{Jobs, Step, fresh, initStep, joiners, ticked, tickStep}
-use Rattle.fifo.proofs.Lines.{is-line, make-proper, lineOf-laid}
+use Rattle.fifo.proofs.Queues.{is-line, make-proper, lineOf-laid}
 use Rattle.fifo.proofs.Calls.{fresh-proper, ticked-proper}
 
 joined-is : (n k : ℕ) → Joined n ≡ Joined k → n ≡ k
