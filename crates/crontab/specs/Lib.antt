@@ -19,4 +19,5 @@ pub mod Steps
 pub mod Computing
 pub mod Examples
 pub mod ByteRows
+pub mod FarRows
 pub mod WordRows
