@@ -1,9 +1,9 @@
 -- The bytes of each kind, all 256 tried in order; numbers in bytes; and texts in a buffer.
 -- Assumes nothing.
 use mathlib.Core.Path.{_≡_, refl, ap}
-use mathlib.Core.Bool.{Bool}
-use mathlib.Core.List.{List, [], _∷_, _++_}
-use Prim.Native.Nat.{ℕ, suc}
+use mathlib.Core.Bool.{Bool, true, false}
+use mathlib.Core.List.{List, [], _∷_, _++_, map}
+use Prim.Native.Nat.{ℕ, zero, suc, _*_}
 use native.Mathlib.Omega.{arith}
 use lib.ListN.{getD}
 use Rattle.bytes.specs.AllBytes.{bytesWhere, trying}
@@ -13,7 +13,8 @@ use Rattle.bytes.specs.Laid.{laid}
 use Rattle.bytes.specs.Clipped.{clippedFront, clipped, saturated}
 use Rattle.bytes.specs.LittleEndian.{littleEndian, numberOf, width}
 use Rattle.bytes.specs.Rows.{Hold}
-use Rattle.bytes.specs.Sets.{upTo}
+use Rattle.bytes.specs.Runs.{trimmed}
+use Rattle.bytes.specs.Sets.{hasBit, withBit, put, withAll, setOf, fromOn, upTo}
 use Rattle.bytes.specs.Texts.{text}
 
 abbrev bytesOf : (ℕ → Bool) → List ℕ
@@ -52,6 +53,52 @@ ofBytes = refl
 
 widths : Hold width ((0, 1) ∷ (2, 65536) ∷ (4, 4294967296) ∷ (8, 18446744073709551616) ∷ [])
 widths = refl
+
+-- ---- sets: bit n has the weight 2 ^ n, written by doubling
+
+-- so many numbers, each twice the one before
+doubled : ℕ → ℕ → List ℕ
+doubled n zero = []
+doubled n (suc count) = n ∷ doubled (2 * n) count
+
+-- each value alone, and put to the set of 0 to 63; a word has no bit 64
+weights : (map (λ n. setOf (n ∷ [])) (upTo 0 63) ≡ doubled 1 64) × (map (put 0) (upTo 0 65) ≡ doubled 1 64 ++ 0 ∷ 0 ∷ [])
+unfolding doubled withBit put withAll setOf fromOn upTo
+weights = (refl, refl)
+
+-- which of the values 0 to 63 a number has
+members : Hold (λ (set : ℕ). bytesWhere (hasBit set) (upTo 0 63))
+    ((0, [])
+    ∷ (1, 0 ∷ [])
+    ∷ (3072, 10 ∷ 11 ∷ [])
+    ∷ (1024, 10 ∷ [])
+    ∷ (2048, 11 ∷ [])
+    ∷ (576460752303423489, 0 ∷ 59 ∷ [])
+    ∷ (12297829382473034410, 1 ∷ 3 ∷ 5 ∷ 7 ∷ 9 ∷ 11 ∷ 13 ∷ 15 ∷ 17 ∷ 19 ∷ 21 ∷ 23 ∷ 25 ∷ 27 ∷ 29 ∷ 31 ∷ 33 ∷ 35 ∷ 37 ∷ 39 ∷ 41 ∷ 43 ∷ 45 ∷ 47 ∷ 49 ∷ 51 ∷ 53 ∷ 55 ∷ 57 ∷ 59 ∷ 61 ∷ 63 ∷ [])
+    ∷ [])
+unfolding trying hasBit
+members = refl
+
+each-member : map (λ set. bytesWhere (hasBit set) (upTo 0 63)) (doubled 1 64) ≡ map (λ n. n ∷ []) (upTo 0 63)
+unfolding doubled trying hasBit
+each-member = refl
+
+-- ---- blanks at the end: all of them, whatever their order, and none before another byte
+
+trimmings : Hold trimmed
+    (([], 0)
+    ∷ (text " ", 0)
+    ∷ (text "\t \t", 0)
+    ∷ (text "a", 1)
+    ∷ (text "a \t", 1)
+    ∷ (text "a\t ", 1)
+    ∷ (text "a \t \t\t  ", 1)
+    ∷ (text " \ta", 3)
+    ∷ (text "a \t b\t ", 5)
+    ∷ (text "a\n \t", 2)
+    ∷ [])
+unfolding isBlank trimmed
+trimmings = refl
 
 -- ---- texts in a buffer
 

@@ -19,5 +19,6 @@ pub mod Steps
 pub mod Computing
 pub mod Examples
 pub mod ByteRows
+pub mod FarRows
 pub mod WordRows
 pub mod FarColumns

@@ -235,6 +235,22 @@ four-digits : Hold all
 unfolding reading
 four-digits = refl
 
+-- each digit of four has its weight: 1,000 to 9,000, 100 to 900, and what their lower digits alone would be; as values, as ends and as steps
+heavy : Hold all
+    (map (λ (s : List ℕ). (s, ten outside))
+    (text "1000" ∷ text "1001" ∷ text "2005" ∷ text "3001" ∷ text "4097" ∷ text "5001" ∷ text "6001" ∷ text "7001" ∷ text "8001" ∷ text "9001"
+    ∷ text "0100" ∷ text "0101" ∷ text "0205" ∷ text "0257" ∷ text "0513" ∷ text "1025" ∷ text "2049" ∷ text "8193" ∷ text "101" ∷ text "901"
+    ∷ text "1-1002" ∷ text "1001-2" ∷ text "1-0102" ∷ text "1001-1002"
+    ∷ []))
+unfolding reading
+heavy = refl
+
+heavy-steps : Hold all
+    (map (λ (s : List ℕ). (s, ten (of (1 ∷ []))))
+    (text "1-5/1001" ∷ text "1-5/2002" ∷ text "1-5/9001" ∷ text "1-5/101" ∷ text "1-5/0102" ∷ text "1-5/257" ∷ text "1-5/4097" ∷ text "1-5/8193" ∷ text "1-5/1000" ∷ []))
+unfolding reading
+heavy-steps = refl
+
 -- ---- each number of two digits: its value from the field's first to its last
 
 -- n as two digits

@@ -71,6 +71,10 @@ examples : Hold read
     ∷ ((minuteLimits, text "61-60/0"), Refused 6 1)
     ∷ ((minuteLimits, text "10-9/0"), Refused 7 1)
     ∷ ((minuteLimits, text "70,10-9"), Refused 6 1)
+    -- the third and the fifth element at their own first bytes too, after elements of every form
+    ∷ ((minuteLimits, text "1,2,70"), Refused 6 5)
+    ∷ ((minuteLimits, text "1,2-3,10-20/5,7-6,8"), Refused 7 15)
+    ∷ ((minuteLimits, text "0,0,0,0,1-2/0"), Refused 8 9)
     ∷ [])
 unfolding reading
 examples = refl
@@ -97,6 +101,11 @@ names : Hold read
     ∷ ((weekdayLimits, text "mon-5/2"), of (1 ∷ 3 ∷ 5 ∷ []))
     -- `sun` goes by how the ends are written: Sunday alone, every day twice, Sunday twice, and from high to low
     ∷ ((weekdayLimits, text "sun-sun"), of (0 ∷ []))
+    ∷ ((weekdayLimits, text "SUN-sun"), of (0 ∷ []))
+    ∷ ((weekdayLimits, text "Sun-sUN"), of (0 ∷ []))
+    ∷ ((weekdayLimits, text "suN-mon"), of (0 ∷ 1 ∷ []))
+    ∷ ((weekdayLimits, text "mon,sat-SUN"), of (1 ∷ 6 ∷ 0 ∷ []))
+    ∷ ((weekdayLimits, text "tue-sun/5"), of (2 ∷ 0 ∷ []))
     ∷ ((weekdayLimits, text "0-sun"), of (upTo 0 6))
     ∷ ((weekdayLimits, text "sun-7"), of (upTo 0 6))
     ∷ ((weekdayLimits, text "7-sun"), of (0 ∷ []))
@@ -226,6 +235,17 @@ wrapped-whole : Hold both
     ∷ [])
 unfolding reading
 wrapped-whole = refl
+
+-- `sun` in the second dialect, in any letter case and in each place
+wrapped-sundays : Hold both
+    (((weekdayLimits, text "SUN-sun"), (of (0 ∷ []), of (0 ∷ [])))
+    ∷ ((weekdayLimits, text "Mon-SUN"), (of (1 ∷ 2 ∷ 3 ∷ 4 ∷ 5 ∷ 6 ∷ 0 ∷ []), of (1 ∷ 2 ∷ 3 ∷ 4 ∷ 5 ∷ 6 ∷ 0 ∷ [])))
+    ∷ ((weekdayLimits, text "mon,SUN"), (of (1 ∷ 0 ∷ []), of (1 ∷ 0 ∷ [])))
+    ∷ ((weekdayLimits, text "sun-mon,sat-sun"), (of (0 ∷ 1 ∷ 6 ∷ []), of (0 ∷ 1 ∷ 6 ∷ [])))
+    ∷ ((weekdayLimits, text "tue-sun/5"), (of (2 ∷ 0 ∷ []), of (2 ∷ 0 ∷ [])))
+    ∷ [])
+unfolding reading
+wrapped-sundays = refl
 
 -- ---- Ticket 2026-06: back to a text
 
