@@ -3,3 +3,4 @@ pub mod Apart
 pub mod Demand
 pub mod Theorems
 pub mod Extremes
+pub mod Used
