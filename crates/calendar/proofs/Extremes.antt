@@ -8,7 +8,7 @@ use Prim.Native.Nat.{ℕ, _+_, _%_, _≤_, _<_}
 use native.Mathlib.Omega.{arith}
 use Rattle.calendar.specs.Dates.{dateAt, exists, minuteOf}
 use Rattle.calendar.specs.Order.{parts, Earlier}
-use Rattle.calendar.proofs.Theorems.{minute-date-minute, date-minute-date, has-minute, accepted, later-dates, weekday-next, parts-within, cycle, directAt, direct-is-walk}
+use Rattle.calendar.proofs.Theorems.{minute-date-minute, date-minute-date, has-minute, accepted, later-dates, weekday-next, weekday-week, parts-within, cycle, directAt, direct-is-walk}
 
 -- from the first and the last minute to their dates and back
 pub back-ends :
@@ -58,3 +58,10 @@ cycle-ends = (cycle 0 (omega arith), cycle 4012991999 (omega arith))
 
 pub direct-ends : (directAt 0 ≡ dateAt 0) × (directAt 4223371679 ≡ dateAt 4223371679)
 direct-ends = (direct-is-walk 0 (omega arith), direct-is-walk 4223371679 (omega arith))
+
+-- a week from the first minute, and to the last and past it
+pub week-ends :
+    (dateAt 10080 .weekday ≡ dateAt 0 .weekday)
+    × (dateAt 4223371679 .weekday ≡ dateAt 4223361599 .weekday)
+    × (dateAt 4223381759 .weekday ≡ dateAt 4223371679 .weekday)
+week-ends = (weekday-week 0, weekday-week 4223361599, weekday-week 4223371679)

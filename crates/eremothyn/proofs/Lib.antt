@@ -4,3 +4,4 @@ pub mod Demand
 pub mod Theorems
 pub mod Extremes
 pub mod NextCalls
+pub mod Used

@@ -6,16 +6,17 @@ use mathlib.Core.Bool.{true, false}
 use mathlib.Core.List.{List, [], _∷_}
 use Prim.Native.Nat.{ℕ, _+_, _≤_, _<_}
 use native.Mathlib.Omega.{arith}
+use lib.ListN.{length}
 use Rattle.schedule.specs.declared.jump.Mark.{Mark}
 use Rattle.fifo.specs.declared.Popped.the-variants.{Entry}
 use Rattle.fifo.specs.WaitingLine.{Line, standsIn, proper}
-use Rattle.fifo.specs.Layout.{isLine}
+use Rattle.fifo.specs.Layout.{roomy, isLine}
 use Rattle.fifo.specs.Steps.{Jobs, fresh, calls, popStep, standing, entryStep}
 use Rattle.fifo.specs.Fairness.{Call, tick, pop, refusal, unrefused, Follows, Paced, upTo, Names, Soon}
 use Rattle.fifo.specs.FairEvery.{PacedEvery}
 use Rattle.fifo.specs.RefusedCalls.{expected}
 use Rattle.fifo.specs.Waits.{requests, upToRequest}
-use Rattle.fifo.proofs.Theorems.{fair, fair-every, refused-only, waits-exactly, waits-at-most, front-stands, request-moves}
+use Rattle.fifo.proofs.Theorems.{room-enough, fair, fair-every, refused-only, waits-exactly, waits-at-most, front-stands, request-moves}
 
 module _ (jobs : Jobs) (all : jobs .count ≡ 65535) where
   -- The last of 65,535 jobs, after an announcement and a request: if the minute after t calls it, whatever the mark, it is named by the first request
@@ -61,3 +62,7 @@ moves-65534 room e line = (
   (λ at. sym (front-stands 65535 (popStep 65535 room .room)) ∙ request-moves 65535 0 room (omega arith) line ∙ at),
   (λ at. request-moves 65535 65533 room (omega arith) line ∙ at),
 )
+
+-- eight bytes for each entry and 64 more, for as many entries as a queue can number
+pub enough-65535 : (s : List ℕ) → 524344 ≤ length s → roomy 65535 s ≡ true
+enough-65535 s h = room-enough 65535 s (omega arith)

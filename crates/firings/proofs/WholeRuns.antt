@@ -24,6 +24,7 @@ use Rattle.firings.specs.Lists.{Firing, firingsOf, mergedOf}
 use Rattle.firings.specs.Calls.{EntryStep, MergedStep, filled, fitted, refusedEntry, listedEntry, firingsFound, firingsAnswer, firingsIn, minutesOf, entriesOf, roomIn, refusedMerged, listedMerged, mergedIn}
 use Rattle.firings.specs.Rising.{FilledBy}
 use Rattle.firings.proofs.Runs.{length-minutes, length-entries}
+use Rattle.firings.proofs.Counts.{merged-room}
 
 -- where all of them fit, and where just as many as there is room for
 all-fit : (numbers : List ℕ) (room : ℕ) (run : List ℕ) → length numbers ≤ room → fitted numbers room run ≡ take (length numbers) numbers ++ drop (length numbers) run
@@ -108,3 +109,12 @@ whole-runs t e n run minutes entries found =
           let both = subst (λ (x : Filled). FilledBy (minutesOf list) room minutes x (m .minutes) × FilledBy (entriesOf list) room entries x (m .entries)) is merged in
           (both .0 .2, both .1 .2)),
     )
+
+-- `merged-room` used: the shorter run counts, whichever it is, up to as many places as a 32-bit number counts
+pub room-ends : (minutes entries : List ℕ)
+    → (length minutes ≡ 4294967295 → length entries ≡ 4294967296 → roomIn minutes entries ≡ 4294967295)
+    × (length minutes ≡ 4294967296 → length entries ≡ 0 → roomIn minutes entries ≡ 0)
+room-ends minutes entries = (
+  (λ e f. merged-room minutes entries (omega (arith, e, f)) ∙ omega (arith, e, f)),
+  (λ e f. merged-room minutes entries (omega (arith, e, f)) ∙ omega (arith, e, f)),
+)

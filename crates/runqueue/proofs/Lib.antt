@@ -9,3 +9,4 @@ pub mod ChainCases
 pub mod Reached
 pub mod Theorems
 pub mod Extremes
+pub mod Used

@@ -21,3 +21,4 @@ pub mod KnownDays
 pub mod KnownLocalDays
 pub mod Theorems
 pub mod Extremes
+pub mod DayRules
