@@ -47,32 +47,33 @@ part start end = record { start = start; end = end }
 abbrev fault : Rules → List ℕ → List ℕ
 fault rules s = let t = tableOf rules s in t .refusal ∷ t .line ∷ t .column ∷ t .count ∷ []
 
--- a bad setting on line 49,151, and a line 49,152 without a newline
-far-faults : (fault inFirst (replicate 49150 10 ++ text "A\n") ≡ 11 ∷ 49151 ∷ 1 ∷ 0 ∷ []) × (fault inSecond (replicate 49151 10 ++ text "#") ≡ 26 ∷ 49152 ∷ 2 ∷ 0 ∷ [])
+-- line 49,152, without a newline
+far-fault : fault inSecond (replicate 49151 10 ++ text "#") ≡ 26 ∷ 49152 ∷ 2 ∷ 0 ∷ []
 unfolding reading
-far-faults = (refl, refl)
+far-fault = refl
 
--- ---- after 40,000 empty lines
+-- ---- after many empty lines
 
+-- name and value past place 32,768
+far-setting : settingIn (itemsOf inFirst (replicate 33000 10 ++ text " A = b \n")) 33001 ≡ record { refusal = 0; name = part 33001 33002; value = part 33005 33006 }
+unfolding reading
+far-setting = refl
+
+-- an entry under the offset before it, and its owner's parts, after 4,200
 abbrev far : List ℕ
-far = replicate 40000 10 ++ text " A = b \nCRON_TZ=-12:00\n @reboot  u:g/c x \n'B'='c'\n"
+far = replicate 4200 10 ++ text "CRON_TZ=-12:00\n @reboot  u:g/c x \nA=b\n"
 
--- name and value, and the line of the next setting
-far-settings : let items = itemsOf inSecond far in
-    (settingIn items 40001 ≡ record { refusal = 0; name = part 40001 40002; value = part 40005 40006 })
-    × (settingIn items 40004 ≡ record { refusal = 0; name = part 40043 40044; value = part 40047 40048 })
-    × (nextLineIn items 40003 ≡ line.At 40004)
-unfolding reading
-far-settings = (refl, refl, refl)
-
--- the entry, under the offset before it, and its owner's parts
-far-entry : entryIn (tableOf inSecond far) 0 ≡ answer.Found (record { when = Reboot; line = 40003; at = 40023; start = 40039; end = 40041; offset = negsuc 719 })
+far-entry : entryIn (tableOf inSecond far) 0 ≡ answer.Found (record { when = Reboot; line = 4202; at = 4215; start = 4231; end = 4233; offset = negsuc 719 })
 unfolding reading
 far-entry = refl
 
-far-owner : ownerIn inSecond far 0 ≡ record { refusal = 0; owner = record { user = part 40033 40034; group = part 40035 40036; class = part 40037 40038 } }
+far-owner : ownerIn inSecond far 0 ≡ record { refusal = 0; owner = record { user = part 4225 4226; group = part 4227 4228; class = part 4229 4230 } }
 unfolding reading
 far-owner = refl
+
+far-next : nextLineIn (itemsOf inSecond far) 4202 ≡ line.At 4203
+unfolding reading
+far-next = refl
 
 -- ---- settings of a table that is refused: both parts empty, whether it is a line before the fault, its own line or one after it
 
