@@ -9,8 +9,8 @@ use crate::size::lesser;
 
 const LAST_PLACE: usize = 18446744073709551615;
 
-// So many places on, or the last one.
-fn after(at: usize, n: usize) -> usize
+// So many places on, or the last one: the place after a text of so many bytes.
+pub fn after(at: usize, n: usize) -> usize
     ensures { λ r. ⌜ r ≡ saturated (at + n) ⌝ }
 {
     if n <= LAST_PLACE - at {

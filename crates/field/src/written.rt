@@ -2,6 +2,7 @@
 // limits are such as the five fields have: their values have bits in a word.
 ghost use mathlib.Core.Path.{_≡_};
 ghost use Prim.Native.Nat.{_<_, _≤_};
+ghost use lib.ListN.{length};
 ghost use Rattle.bytes.specs.Clipped.{Wrote};
 ghost use Rattle.field.specs.Steps.{InWord, memberText};
 ghost use Rattle.field.specs.Written.{gives, stepOf, starText, members, listText, fieldText, isField};
@@ -52,10 +53,23 @@ fn write_star(n: u8, out: &mut [u8], at: usize) -> usize
     write::number(out, next, n)
 }
 
-// A value of a list, with a comma in front unless it is the first.
+// How many bytes a value of a list has, with a comma in front unless it is the first.
+fn member_size(value: u8, first: bool) -> usize
+    ensures { λ r. ⌜ r ≡ length (memberText first value) ⌝ }
+{
+    if value < 10 {
+        return 2 - first as usize;
+    }
+    3 - first as usize
+}
+
+// Writes it. Where nothing fits, as where a text is only measured, no digit is worked out.
 fn write_member(value: u8, first: bool, out: &mut [u8], at: usize) -> usize
     ensures { λ r. ⌜ Wrote at (memberText first value) (now (out .entry)) r (now (out .exit)) ⌝ }
 {
+    if out.len() <= at {
+        return write::after(at, member_size(value, first));
+    }
     if first {
         return write::number(out, at, value);
     }
