@@ -21,6 +21,7 @@ pub mod Choices
 pub mod Reversed
 pub mod FirstDialect
 pub mod KindsDialects
+pub mod Spacing
 pub mod ExactWords
 pub mod Theorems
 pub mod Extremes

@@ -25,6 +25,8 @@
 --   word-line, other-line: a word is the same in both dialects, and a line that doesn't start as an entry under all rules
 --   items-alike, table-alike: rules act on each line apart from the others; untimed-table: a table of settings and words is the same in both dialects
 -- What has a meaning, and nothing else:
+--   leading-blanks, field-spaced, word-spaced, setting-spaced, value-spaced, quoted-whole: what is read at a place, by the bytes that are there, however many blanks
+--     are around them and however long they are
 --   known-word: a word that is known is one of the eight; offset-name: a setting changes the offset exactly if its name is `CRON_TZ`
 -- "Matching, next firing and the line are proved once over both": all the others here hold of any rules, whatever their dialect.
 -- Extremes uses table-sound, cut-refused, next-setting, first-dialect-same and never-reversed for system tables, their last entry and a line past the last.
@@ -87,6 +89,7 @@ pub use Rattle.crontab.proofs.Reversed.{never-reversed, verdict-never-r
 pub use Rattle.crontab.proofs.FirstDialect.{first-dialect-same}
 pub use Rattle.crontab.proofs.KindsDialects.{withColumn, system-line, withWhen, time-ends, dialect-line, word-line, other-line, ReadAlike, items-alike, table-alike, Untimed, untimed-table}
 pub use Rattle.crontab.proofs.ExactWords.{AnyOf, known-word, offset-name}
+pub use Rattle.crontab.proofs.Spacing.{leading-blanks, field-spaced, word-spaced, after-spaced, quoted-whole, value-spaced, name-whole, setting-spaced}
 pub use Rattle.crontab.proofs.EntryViews.{FoundEntry, FoundView, found-view, entry-sound, entry-on-line}
 pub use Rattle.crontab.proofs.LineNumbers.{HasSetting, HasNone, NextSetting, next-setting}
 pub use Rattle.crontab.proofs.Zones.{zoned-is}
