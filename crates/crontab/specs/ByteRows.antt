@@ -55,17 +55,21 @@ abbrev zone : ℕ → ℕ → ℕ → ℕ → ℤ → Line
 zone n m v w minutes = Setting (record { start = n; end = m }) (record { start = v; end = w }) (Offset minutes)
 
 -- byte 0, and the control bytes of ticket 2026-11, at a column; all other bytes may be in a line
-abbrev faultsAt : ℕ → List (Range (List Line))
-faultsAt column =
-    one 0 (always (refused 3 column))
-    ∷ range 1 8 (always (refused 27 column))
-    ∷ range 11 31 (always (refused 27 column))
-    ∷ one 127 (always (refused 27 column))
+abbrev faultsAt : {B : Type 0} → (Line → B) → ℕ → List (Range B)
+faultsAt outcome column =
+    one 0 (outcome (refused 3 column))
+    ∷ range 1 8 (outcome (refused 27 column))
+    ∷ range 11 31 (outcome (refused 27 column))
+    ∷ one 127 (outcome (refused 27 column))
     ∷ []
 
 -- where each byte of a line leads, at a column
 abbrev Leads : (ℕ → List ℕ) → ℕ → List (Range (List Line)) → List Line → Type 0
-Leads line column ranges other = LeadAmong lineBytes (λ b. lines (line b)) (faultsAt column ++ ranges) (λ b. other)
+Leads line column ranges other = LeadAmong lineBytes (λ b. lines (line b)) (faultsAt always column ++ ranges) (λ b. other)
+
+-- the same of a line that can't be an entry: it is read the same under all rules (`other-line` of proofs/Theorems)
+abbrev LeadsOnce : (ℕ → List ℕ) → ℕ → List (Range Line) → Line → Type 0
+LeadsOnce line column ranges other = LeadAmong lineBytes (λ b. readLine inFirst (line b)) (faultsAt (λ l. l) column ++ ranges) (λ b. other)
 
 -- ---- the first byte of a line
 
@@ -108,97 +112,97 @@ in-comment = refl
 -- ---- a setting's name
 
 -- `A?=c`
-in-name : Leads (λ b. 65 ∷ b ∷ text "=c") 2
-    (blank (always (setting 0 1 3 4)) ++ one 61 (always (setting 0 1 2 4)) ∷ oneOf (text "\"'") (always (refused 11 1)))
-    (always (setting 0 2 3 4))
+in-name : LeadsOnce (λ b. 65 ∷ b ∷ text "=c") 2
+    (blank (setting 0 1 3 4) ++ one 61 (setting 0 1 2 4) ∷ oneOf (text "\"'") (refused 11 1))
+    (setting 0 2 3 4)
 unfolding trying reading
 in-name = refl
 
 -- `A ?=c`: after a name and blanks only `=` may follow
-after-name : Leads (λ b. text "A " ++ b ∷ text "=c") 3 (blank (always (setting 0 1 4 5)) ++ one 61 (always (setting 0 1 3 5)) ∷ []) (always (refused 11 1))
+after-name : LeadsOnce (λ b. text "A " ++ b ∷ text "=c") 3 (blank (setting 0 1 4 5) ++ one 61 (setting 0 1 3 5) ∷ []) (refused 11 1)
 unfolding trying reading
 after-name = refl
 
 -- `A?`: a name and no `=`
-name-only : Leads (λ b. 65 ∷ b ∷ []) 2 (one 61 (always (setting 0 1 2 2)) ∷ []) (always (refused 11 1))
+name-only : LeadsOnce (λ b. 65 ∷ b ∷ []) 2 (one 61 (setting 0 1 2 2) ∷ []) (refused 11 1)
 unfolding trying reading
 name-only = refl
 
 -- `"?"=c` and `'?'=c`: any byte but the quote itself
-in-double-name : Leads (λ b. 34 ∷ b ∷ text "\"=c") 2 (one 34 (always (refused 11 1)) ∷ []) (always (setting 1 2 4 5))
+in-double-name : LeadsOnce (λ b. 34 ∷ b ∷ text "\"=c") 2 (one 34 (refused 11 1) ∷ []) (setting 1 2 4 5)
 unfolding trying reading
 in-double-name = refl
 
-in-single-name : Leads (λ b. 39 ∷ b ∷ text "'=c") 2 (one 39 (always (refused 11 1)) ∷ []) (always (setting 1 2 4 5))
+in-single-name : LeadsOnce (λ b. 39 ∷ b ∷ text "'=c") 2 (one 39 (refused 11 1) ∷ []) (setting 1 2 4 5)
 unfolding trying reading
 in-single-name = refl
 
 -- `"A?=c` and `'A?=c`: only a quote of its kind ends it
-double-name-end : Leads (λ b. text "\"A" ++ b ∷ text "=c") 3 (one 34 (always (setting 1 2 4 5)) ∷ []) (always (refused 11 1))
+double-name-end : LeadsOnce (λ b. text "\"A" ++ b ∷ text "=c") 3 (one 34 (setting 1 2 4 5) ∷ []) (refused 11 1)
 unfolding trying reading
 double-name-end = refl
 
-single-name-end : Leads (λ b. text "'A" ++ b ∷ text "=c") 3 (one 39 (always (setting 1 2 4 5)) ∷ []) (always (refused 11 1))
+single-name-end : LeadsOnce (λ b. text "'A" ++ b ∷ text "=c") 3 (one 39 (setting 1 2 4 5) ∷ []) (refused 11 1)
 unfolding trying reading
 single-name-end = refl
 
 -- `"A"?=c`
-after-quoted-name : Leads (λ b. text "\"A\"" ++ b ∷ text "=c") 4 (blank (always (setting 1 2 5 6)) ++ one 61 (always (setting 1 2 4 6)) ∷ []) (always (refused 11 1))
+after-quoted-name : LeadsOnce (λ b. text "\"A\"" ++ b ∷ text "=c") 4 (blank (setting 1 2 5 6) ++ one 61 (setting 1 2 4 6) ∷ []) (refused 11 1)
 unfolding trying reading
 after-quoted-name = refl
 
 -- ---- a setting's value
 
 -- `A=?`
-value-only : Leads (λ b. text "A=" ++ b ∷ []) 3 (blank (always (setting 0 1 3 3)) ++ oneOf (text "\"'") (always (refused 11 1))) (always (setting 0 1 2 3))
+value-only : LeadsOnce (λ b. text "A=" ++ b ∷ []) 3 (blank (setting 0 1 3 3) ++ oneOf (text "\"'") (refused 11 1)) (setting 0 1 2 3)
 unfolding trying reading
 value-only = refl
 
 -- `A=?c?`: blanks are no part of a value's ends, and quotes of one kind stand around it
-around-value : Leads (λ b. text "A=" ++ b ∷ 99 ∷ b ∷ []) 3 (blank (always (setting 0 1 3 4)) ++ oneOf (text "\"'") (always (setting 0 1 3 4))) (always (setting 0 1 2 5))
+around-value : LeadsOnce (λ b. text "A=" ++ b ∷ 99 ∷ b ∷ []) 3 (blank (setting 0 1 3 4) ++ oneOf (text "\"'") (setting 0 1 3 4)) (setting 0 1 2 5)
 unfolding trying reading
 around-value = refl
 
 -- `A=`, a space, a tab and `?c`: blanks after `=` are skipped
-after-equals : Leads (λ b. text "A= \t" ++ b ∷ text "c") 5
-    (blank (always (setting 0 1 5 6)) ++ oneOf (text "\"'") (always (refused 11 1)))
-    (always (setting 0 1 4 6))
+after-equals : LeadsOnce (λ b. text "A= \t" ++ b ∷ text "c") 5
+    (blank (setting 0 1 5 6) ++ oneOf (text "\"'") (refused 11 1))
+    (setting 0 1 4 6)
 unfolding trying reading
 after-equals = refl
 
 -- `A=c?d` and `A=c?`: within a bare value every byte is its own, and only blanks are cut at its end
-in-value : Leads (λ b. text "A=c" ++ b ∷ text "d") 4 [] (always (setting 0 1 2 5))
+in-value : LeadsOnce (λ b. text "A=c" ++ b ∷ text "d") 4 [] (setting 0 1 2 5)
 unfolding trying reading
 in-value = refl
 
-value-end : Leads (λ b. text "A=c" ++ b ∷ []) 4 (blank (always (setting 0 1 2 3))) (always (setting 0 1 2 4))
+value-end : LeadsOnce (λ b. text "A=c" ++ b ∷ []) 4 (blank (setting 0 1 2 3)) (setting 0 1 2 4)
 unfolding trying reading
 value-end = refl
 
 -- `A="?"` and `A='?'`
-in-double-value : Leads (λ b. text "A=\"" ++ b ∷ text "\"") 4 (one 34 (always (refused 11 1)) ∷ []) (always (setting 0 1 3 4))
+in-double-value : LeadsOnce (λ b. text "A=\"" ++ b ∷ text "\"") 4 (one 34 (refused 11 1) ∷ []) (setting 0 1 3 4)
 unfolding trying reading
 in-double-value = refl
 
-in-single-value : Leads (λ b. text "A='" ++ b ∷ text "'") 4 (one 39 (always (refused 11 1)) ∷ []) (always (setting 0 1 3 4))
+in-single-value : LeadsOnce (λ b. text "A='" ++ b ∷ text "'") 4 (one 39 (refused 11 1) ∷ []) (setting 0 1 3 4)
 unfolding trying reading
 in-single-value = refl
 
 -- `A="c?` and `A='c?`: only a quote of its kind ends it
-double-value-end : Leads (λ b. text "A=\"c" ++ b ∷ []) 5 (one 34 (always (setting 0 1 3 4)) ∷ []) (always (refused 11 1))
+double-value-end : LeadsOnce (λ b. text "A=\"c" ++ b ∷ []) 5 (one 34 (setting 0 1 3 4) ∷ []) (refused 11 1)
 unfolding trying reading
 double-value-end = refl
 
-single-value-end : Leads (λ b. text "A='c" ++ b ∷ []) 5 (one 39 (always (setting 0 1 3 4)) ∷ []) (always (refused 11 1))
+single-value-end : LeadsOnce (λ b. text "A='c" ++ b ∷ []) 5 (one 39 (setting 0 1 3 4) ∷ []) (refused 11 1)
 unfolding trying reading
 single-value-end = refl
 
 -- `A="c"?` and `A='c' ?`: only blanks after it
-after-double-value : Leads (λ b. text "A=\"c\"" ++ b ∷ []) 6 (blank (always (setting 0 1 3 4))) (always (refused 11 1))
+after-double-value : LeadsOnce (λ b. text "A=\"c\"" ++ b ∷ []) 6 (blank (setting 0 1 3 4)) (refused 11 1)
 unfolding trying reading
 after-double-value = refl
 
-after-single-value : Leads (λ b. text "A='c' " ++ b ∷ []) 7 (blank (always (setting 0 1 3 4))) (always (refused 11 1))
+after-single-value : LeadsOnce (λ b. text "A='c' " ++ b ∷ []) 7 (blank (setting 0 1 3 4)) (refused 11 1)
 unfolding trying reading
 after-single-value = refl
 
@@ -340,54 +344,54 @@ in-command = refl
 
 -- ---- `CRON_TZ`, and the six bytes of its value
 
-sign : Leads (λ b. text "CRON_TZ=" ++ b ∷ text "01:30") 9
-    (one 43 (always (zone 0 7 8 14 (pos 90)))
-    ∷ one 45 (always (zone 0 7 8 14 (negsuc 89)))
-    ∷ blank (always (refused 25 10))
-    ++ oneOf (text "\"'") (always (refused 11 1)))
-    (always (refused 25 9))
+sign : LeadsOnce (λ b. text "CRON_TZ=" ++ b ∷ text "01:30") 9
+    (one 43 (zone 0 7 8 14 (pos 90))
+    ∷ one 45 (zone 0 7 8 14 (negsuc 89))
+    ∷ blank (refused 25 10)
+    ++ oneOf (text "\"'") (refused 11 1))
+    (refused 25 9)
 unfolding trying reading
 sign = refl
 
 -- 00:30 and 10:30; 20:30 is too far
-tens-of-hours : Leads (λ b. text "CRON_TZ=+" ++ b ∷ text "0:30") 10
-    (one 48 (always (zone 0 7 8 14 (pos 30))) ∷ one 49 (always (zone 0 7 8 14 (pos 630))) ∷ [])
-    (always (refused 25 9))
+tens-of-hours : LeadsOnce (λ b. text "CRON_TZ=+" ++ b ∷ text "0:30") 10
+    (one 48 (zone 0 7 8 14 (pos 30)) ∷ one 49 (zone 0 7 8 14 (pos 630)) ∷ [])
+    (refused 25 9)
 unfolding trying reading
 tens-of-hours = refl
 
 -- up to 14 hours ahead, and to 12 behind
-hours-ahead : Leads (λ b. text "CRON_TZ=+1" ++ b ∷ text ":00") 11
-    (each 48 52 (λ b. always (zone 0 7 8 14 (pos (600 + (b - 48) * 60)))) ∷ [])
-    (always (refused 25 9))
+hours-ahead : LeadsOnce (λ b. text "CRON_TZ=+1" ++ b ∷ text ":00") 11
+    (each 48 52 (λ b. (zone 0 7 8 14 (pos (600 + (b - 48) * 60)))) ∷ [])
+    (refused 25 9)
 unfolding trying reading
 hours-ahead = refl
 
-hours-behind : Leads (λ b. text "CRON_TZ=-1" ++ b ∷ text ":00") 11
-    (each 48 50 (λ b. always (zone 0 7 8 14 (negsuc (599 + (b - 48) * 60)))) ∷ [])
-    (always (refused 25 9))
+hours-behind : LeadsOnce (λ b. text "CRON_TZ=-1" ++ b ∷ text ":00") 11
+    (each 48 50 (λ b. (zone 0 7 8 14 (negsuc (599 + (b - 48) * 60)))) ∷ [])
+    (refused 25 9)
 unfolding trying reading
 hours-behind = refl
 
-colon : Leads (λ b. text "CRON_TZ=+01" ++ b ∷ text "30") 12 (one 58 (always (zone 0 7 8 14 (pos 90))) ∷ []) (always (refused 25 9))
+colon : LeadsOnce (λ b. text "CRON_TZ=+01" ++ b ∷ text "30") 12 (one 58 (zone 0 7 8 14 (pos 90)) ∷ []) (refused 25 9)
 unfolding trying reading
 colon = refl
 
 -- at most 59
-tens-of-minutes : Leads (λ b. text "CRON_TZ=+01:" ++ b ∷ text "9") 13
-    (each 48 53 (λ b. always (zone 0 7 8 14 (pos (69 + (b - 48) * 10)))) ∷ [])
-    (always (refused 25 9))
+tens-of-minutes : LeadsOnce (λ b. text "CRON_TZ=+01:" ++ b ∷ text "9") 13
+    (each 48 53 (λ b. (zone 0 7 8 14 (pos (69 + (b - 48) * 10)))) ∷ [])
+    (refused 25 9)
 unfolding trying reading
 tens-of-minutes = refl
 
-minutes-ones : Leads (λ b. text "CRON_TZ=+01:3" ++ b ∷ []) 14
-    (each 48 57 (λ b. always (zone 0 7 8 14 (pos (90 + (b - 48))))) ∷ [])
-    (always (refused 25 9))
+minutes-ones : LeadsOnce (λ b. text "CRON_TZ=+01:3" ++ b ∷ []) 14
+    (each 48 57 (λ b. (zone 0 7 8 14 (pos (90 + (b - 48))))) ∷ [])
+    (refused 25 9)
 unfolding trying reading
 minutes-ones = refl
 
 -- `CRON_TZ=+01:30?`
-after-offset : Leads (λ b. text "CRON_TZ=+01:30" ++ b ∷ []) 15 (blank (always (zone 0 7 8 14 (pos 90)))) (always (refused 25 9))
+after-offset : LeadsOnce (λ b. text "CRON_TZ=+01:30" ++ b ∷ []) 15 (blank (zone 0 7 8 14 (pos 90))) (refused 25 9)
 unfolding trying reading
 after-offset = refl
 
@@ -429,9 +433,9 @@ unfolding trying reading
 zone-letters = refl
 
 -- `CRON_TZ?=x`
-zone-longer : Leads (λ b. text "CRON_TZ" ++ b ∷ text "=x") 8
-    (blank (always (refused 25 10)) ++ one 61 (always (refused 25 9)) ∷ oneOf (text "\"'") (always (refused 11 1)))
-    (always (setting 0 8 9 10))
+zone-longer : LeadsOnce (λ b. text "CRON_TZ" ++ b ∷ text "=x") 8
+    (blank (refused 25 10) ++ one 61 (refused 25 9) ∷ oneOf (text "\"'") (refused 11 1))
+    (setting 0 8 9 10)
 unfolding trying reading
 zone-longer = refl
 
