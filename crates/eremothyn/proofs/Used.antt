@@ -3,7 +3,7 @@
 -- Assumes nothing.
 use mathlib.Core.Path.{_≡_, refl}
 use mathlib.Core.List.{List, [], _∷_, _++_}
-use Prim.Native.Nat.{ℕ, _+_, _<_}
+use Prim.Native.Nat.{ℕ, _+_, _≤_, _<_}
 use lib.ListN.{length}
 use Rattle.bytes.specs.Texts.{text}
 use Rattle.bytes.specs.Runs.{between}
@@ -16,7 +16,9 @@ use Rattle.eremothyn.specs.declared.dates.DatePart.the-variants.{Year, M
 use Rattle.eremothyn.specs.Rules.{rulesOf}
 use Rattle.eremothyn.specs.Dates.{datePart, dateRefusal, dateRun}
 use Rattle.eremothyn.specs.Calls.{commandOffsetCall, commandLengthCall, nextCall}
-use Rattle.eremothyn.proofs.Theorems.{known-days, command-placed, date-parts}
+use mathlib.Core.Bool.{false}
+use Rattle.eremothyn.specs.Answer.{isRefused}
+use Rattle.eremothyn.proofs.Theorems.{known-days, command-placed, date-parts, next-near}
 
 pub command-last : (table : List ℕ) (e : Entry) → entryIn (tableOf (rulesOf 1 1) table) 511 ≡ Found e
     → between table (commandOffsetCall table 1 1 511) (commandOffsetCall table 1 1 511 + commandLengthCall table 1 1 511) ≡ commandIn table (entryIn (tableOf (rulesOf 1 1) table) 511)
@@ -34,3 +36,8 @@ pub known-all :
     × (nextCall (text "0 0 30 2 1 a\n") 0 0 0 0 ≡ 46080)
     × (inputOf (text "a\\%b%c%%d%") ≡ given (text "c\n\nd\n"))
 known-all = (known-days .6, known-days .8, known-days .17)
+
+-- next-near: from the last minute after which there is one
+pub near-last : (table : List ℕ) (kind dialect entry : ℕ)
+    → let answer = nextCall table kind dialect entry 4223371678 in isRefused answer ≡ false → answer ≤ 4244408638
+near-last table kind dialect entry granted = next-near table kind dialect entry 4223371678 granted

@@ -1,9 +1,11 @@
 -- "C hands such a choice in as a number, 0 the older, else the newer": in each call every number but 0 is a system's table, or the second dialect, as 1 is. These
--- hold of any numbers, whatever their width. And dates whose numbers are past 8, 16 and 32 bits.
+-- hold of any numbers, whatever their width. And dates whose numbers are past 8, 16 and 32 bits, lines past 15 bits, and the longest name and value.
 -- Assumes nothing.
 use mathlib.Core.Path.{_≡_, refl}
-use mathlib.Core.List.{List, [], _∷_}
+use mathlib.Core.List.{List, [], _∷_, _++_}
 use Prim.Native.Nat.{ℕ, suc}
+use lib.ListN.{replicate}
+use Rattle.bytes.specs.Texts.{text}
 use Rattle.bytes.specs.Rows.{Hold}
 use Rattle.eremothyn.specs.Dates.{dateMinute}
 use Rattle.eremothyn.specs.Calls.{checkCall, faultLineCall, faultColumnCall, dueCall, nextCall, entryLineCall, commandOffsetCall, commandLengthCall, firingsCall, firingsRun, mergedFiringsCall, mergedFiringsMinutes, mergedFiringsEntries}
@@ -97,3 +99,17 @@ far-dates : Hold (λ (date : ℕ × ℕ × ℕ × ℕ × ℕ). let (year, month,
     ∷ [])
 unfolding answering
 far-dates = refl
+
+-- line 33,001, and its entry's
+far-lines : (faultLineCall (replicate 33000 10 ++ text "A\n") 1 1 ≡ 33001) × (entryLineCall (replicate 33000 10 ++ text "@reboot a\n") 0 1 0 ≡ 33001)
+unfolding answering
+far-lines = (refl, refl)
+
+-- lines of 1,000 bytes
+long-settings : let value : List ℕ = text "A=" ++ replicate 998 98 ++ text "\n" in
+    let name : List ℕ = replicate 998 65 ++ text "=b\n" in
+    (settingValueLengthCall value 0 0 1 ≡ 998)
+    × (settingNameLengthCall name 1 1 1 ≡ 998)
+    × (settingValueOffsetCall name 0 1 1 ≡ 999)
+unfolding answering
+long-settings = (refl, refl, refl)
