@@ -23,10 +23,6 @@ use Rattle.normal.specs.Meanings.{setting, entryItem, ofUser, meaningOf}
 use Rattle.normal.specs.Texts.{doubleQuote, singleQuote, quoted, space, itemText, fits}
 use Rattle.normal.specs.NormalForms.{NormalForm, refusedForm, laidForm}
 
--- no part of a table or of a record is longer: its places have 16 bits
-abbrev pub longest : ℕ
-longest = 65535
-
 -- ---- a setting
 
 unfoldable pub quoteFor : List ℕ → ℕ

@@ -1,4 +1,4 @@
-// The line of an item with its newline, measured, and written to a lent buffer. What gives no item has no line.
+// The line of an item with its newline, written to a lent buffer as far as it fits. What gives no item has no line.
 ghost use mathlib.Core.Path.{_≡_};
 ghost use Prim.Native.Nat.{_≤_};
 ghost use lib.ListN.{length};
