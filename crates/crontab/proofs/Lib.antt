@@ -26,3 +26,8 @@ pub mod ExactWords
 pub mod Theorems
 pub mod Extremes
 pub mod CounterExamples
+pub mod LineByLine
+pub mod FiveFields
+pub mod WholeLines
+pub mod EntryTimes
+pub mod LineEnds

@@ -22,3 +22,4 @@ pub mod ByteRows
 pub mod FarRows
 pub mod WordRows
 pub mod FarColumns
+pub mod LineByLine

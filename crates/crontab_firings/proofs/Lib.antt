@@ -2,3 +2,4 @@ pub mod Numbers
 pub mod Texts
 pub mod Pieces
 pub mod Extremes
+pub mod LineBytes

@@ -16,3 +16,4 @@ pub mod Quiet
 pub mod Growth
 pub mod Theorems
 pub mod Extremes
+pub mod QueueChanges

@@ -13,6 +13,7 @@ pub mod LocalTheorems
 pub mod Clocks
 pub mod Shifts
 pub mod Jumps
+pub mod JumpRules
 pub mod SameDay
 pub mod MonthSets
 pub mod NextMonths
