@@ -29,6 +29,11 @@
 --     are around them and however long they are
 --   known-word: a word that is known is one of the eight; offset-name: a setting changes the offset exactly if its name is `CRON_TZ`
 -- "Matching, next firing and the line are proved once over both": all the others here hold of any rules, whatever their dialect.
+-- Each rule once more in other words, for any bytes and numbers:
+--   LineByLine: what each line of a table is in it, by the lines before it: good-accepted, all-accepted, too-long, fault-of-line, entry-too-many, last-cut,
+--     entry-of-line, setting-of-line, no-setting-of-line; LineEnds: line-ends, line-alone, cut-is
+--   FiveFields: the five fields of a line, and lines that have fewer; WholeLines: a line by its first byte, its time, its command, its name and value, its bytes
+--   EntryTimes: what an entry does goes by its time and its offset alone
 -- Extremes uses table-sound, cut-refused, next-setting, first-dialect-same and never-reversed for system tables, their last entry and a line past the last.
 -- Assumes nothing.
 use mathlib.Core.Path.{_≡_, refl}

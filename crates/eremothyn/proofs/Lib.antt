@@ -5,3 +5,5 @@ pub mod Theorems
 pub mod Extremes
 pub mod NextCalls
 pub mod Used
+pub mod DemandNumbers
+pub mod EachAnswer

@@ -15,6 +15,8 @@
 --   told-apart: EREMOTHYN_IS_REFUSED is true of an answer exactly when the call was refused, and the refusal's number is what is left; granted-told: used
 --   refused-stays: and then no byte and no number was changed
 --   Extremes uses these two for every call: dates-told, table-told, firing-told, parts-told, written-told, queue-told; lent-stays, queue-stays, lists-stay
+--   fair-in-numbers, fair-from-before, waits-in-numbers of DemandNumbers: demand 3 and the waiting times in plain numbers, for any table, entry, minute and calls
+--   EachAnswer: what each call answers for each outcome, for any numbers
 -- Assumes nothing.
 use mathlib.Core.Path.{_≡_, refl, sym, ap, subst, _∙_}
 use mathlib.Core.Bool.{false, true≢false}

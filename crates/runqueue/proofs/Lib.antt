@@ -10,3 +10,4 @@ pub mod Reached
 pub mod Theorems
 pub mod Extremes
 pub mod Used
+pub mod Plainly

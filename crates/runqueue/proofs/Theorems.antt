@@ -25,6 +25,7 @@
 --   init-stays, tick-stays, pop-stays: a refused call leaves the room as it was
 --   Extremes uses these at their edges: fair-east, refused-four, due-last, chain-last, chain-ends, chain-goes-to-end, ticks-last, goes-on-last, shifts-ends,
 --     moves-last
+--   Plainly says the claims without their names, for any table, entry, minute and calls, so that no hypothesis can be added to one
 -- Assumes nothing.
 use Rattle.fifo.specs.declared.Ticked.the-variants.{Refused as NotTicked}
 use Rattle.fifo.specs.declared.Popped.the-variants.{Refused as NotPopped}

@@ -22,6 +22,8 @@
 --   case-above, case-below, case-after, case-held: which case a minute is
 --   judged-unfixed: an entry that isn't fixed is judged by the minute
 --   mark-stays: a mark of the calendar stays one
+--   unmarked-judged, far-judged, caught-up, held-judged: which minutes call an entry beside a mark, in plain orders; caught-up: a fixed one exactly if any minute since
+--     the mark matches; first-mark, mark-moves, mark-held: what the mark becomes
 -- Assumes nothing.
 use mathlib.Core.Path.{_≡_, refl}
 use mathlib.Core.Bool.{Bool, true, false, cond}
@@ -44,6 +46,7 @@ pub use Rattle.schedule.proofs.Clocks.{slow-agrees}
 pub use Rattle.schedule.proofs.KnownLocalDays.{known-days-in}
 pub use Rattle.schedule.proofs.LocalMinutes.{matches-before, matches-at, matches-after}
 pub use Rattle.schedule.proofs.Jumps.{case-above, case-below, case-after, case-held, judged-unfixed, mark-stays}
+pub use Rattle.schedule.proofs.JumpRules.{unmarked-judged, far-judged, caught-up, held-judged, first-mark, mark-moves, mark-held}
 pub use Rattle.schedule.proofs.Shifts.{matches-shifts, matches-shifts-in, next-shifts-in}
 pub use Rattle.schedule.proofs.Offsets.{zone-fits}
 pub use Rattle.schedule.proofs.LocalTheorems.{local-date, utc-same, utc-next, next-at-in, next-never-in, next-past-in, next-is-in, matching-fires-in, next-on-calendar-in, next-by, gap-on, gap-before, fires-within-in, next-within-in, next-within}
