@@ -12,7 +12,7 @@ use borrow.Author.Tests.{ne-eqb, eqb-false, not-true}
 use Rattle.command.specs.declared.Piece.{Piece}
 use Rattle.command.specs.declared.Piece.the-variants.{Byte, Percent}
 use Rattle.command.specs.Pieces.{percent, backslash, alone, paired, pieces, byteOf, bytesOf}
-use Rattle.command.specs.Parts.{Stdin, absent, given, upToPercent, restOf, shellLine, inputOf, textOf}
+use Rattle.command.specs.Parts.{absent, given, upToPercent, restOf, shellLine, inputOf, textOf}
 
 -- ---- the shell line, and whether there is input
 
