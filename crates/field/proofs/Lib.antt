@@ -28,5 +28,6 @@ pub mod RangeValues
 pub mod StarFields
 pub mod NameTexts
 pub mod BothDialects
+pub mod WrittenLists
 pub mod Theorems
 pub mod Extremes

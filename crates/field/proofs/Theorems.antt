@@ -27,6 +27,8 @@
 -- Of the text of a set and a flag (ticket 2026-06), over usual limits, as the five fields have:
 --   field-fits: what may be written has no bit past the field's
 --   shortest-step, plain-star: a flagged field has the smallest step that gives the set, and is `*` just where that is 1
+--   list-field, list-one, list-more, members-exact, members-rise, number-short, number-two: an unflagged field has all values of the set, rising, with a
+--     comma between (WrittenLists)
 --   field-bytes, field-solid, field-begins, field-length: its bytes, none of them blank, its first byte, and how many there are at most
 -- Assumes nothing.
 use mathlib.Core.Path.{_≡_, ap, _∙_}
@@ -60,6 +62,7 @@ pub use Rattle.field.proofs.RangeValues.{range-values, range-exact, ris
 pub use Rattle.field.proofs.StarFields.{star-alone, star-stepped, star-zero, star-malformed, star-other, star-values}
 pub use Rattle.field.proofs.NameTexts.{alike-exact, name-any-case, Named, month-exact, weekday-exact}
 pub use Rattle.field.proofs.BothDialects.{RisesBelow, EachBelow, SundayBits, form-in-both, same-in-both, minute-sunday, hour-sunday, day-sunday, month-sunday, weekday-sunday}
+pub use Rattle.field.proofs.WrittenLists.{Rises, list-field, list-one, list-more, members-exact, members-rise, number-short, number-two}
 pub use Rattle.field.proofs.TextBytes.{FieldByte, field-bytes, field-solid, Begins, field-begins, field-length}
 
 -- ---- a plain `*`
