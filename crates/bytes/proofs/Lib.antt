@@ -8,6 +8,8 @@ pub mod Sets
 pub mod LeastBit
 pub mod Together
 pub mod LittleEndian
+pub mod ByteOrder
 pub mod Marks
 pub mod Written
+pub mod ClippedBytes
 pub mod CounterExamples

@@ -3,7 +3,7 @@
 use mathlib.Core.Path.{_≡_, refl, ap}
 use mathlib.Core.Bool.{Bool, true, false, true≢false, false≢true}
 use mathlib.Core.List.{List, [], _∷_}
-use Prim.Native.Nat.{ℕ, _≤_}
+use Prim.Native.Nat.{ℕ, _+_, _≤_}
 use native.Mathlib.Omega.{arith}
 use lib.ListN.{length}
 use borrow.Author.Tests.{le-leb}
@@ -24,6 +24,13 @@ unfolding haveRoom
 room-enough c shell input h k =
     let n = split-length c in
     rw (le-leb (length (shellLine c)) (length shell) (omega (arith, n)), le-leb (length (textOf (inputOf c))) (length input) (omega (arith, n))) refl
+
+-- split-length, both parts together: a buffer as long as the shell line, and for the input what is then left of the command's length
+pub room-together : (c shell input : List ℕ) → length shell ≡ length (shellLine c) → length shell + length input ≡ length c → haveRoom c shell input ≡ true
+unfolding haveRoom
+room-together c shell input h k =
+    let n = split-length c in
+    rw (le-leb (length (shellLine c)) (length shell) (omega arith), le-leb (length (textOf (inputOf c))) (length input) (omega (arith, n))) refl
 
 -- kept: a backslash, a newline and byte 0 after a backslash too; so `\\%` isn't an escaped `%`
 pub kept-used : (s : List ℕ)

@@ -3,4 +3,5 @@ pub mod Ahead
 pub mod Sizes
 pub mod Filling
 pub mod Buffers
+pub mod Composition
 pub mod Extremes

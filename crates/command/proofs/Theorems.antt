@@ -1,5 +1,11 @@
 -- Paper 01, "Command", sentence by sentence, as equations that `pieces` meets. There is one for each way a command can go on, so
 -- they leave it no choice; and `split-length`: shell line and input together are no longer than the command.
+-- Of the bytes themselves, whatever their length (Composition):
+--   shell-none, shell-escaped, shell-kept, shell-backslash, shell-ends, shell-plain: the shell line, and whether there is input, one equation
+--     for each way a command can go on
+--   input-none, input-escaped, input-kept, input-backslash, input-newline, input-plain: the same for the text of the input
+--   shell-joined, shell-cut, input-joined: a front of whole pieces, and then the rest
+--   plain-command: bytes without `%` and backslash are the shell line, and as input they are themselves
 -- Assumes nothing.
 use mathlib.Core.Path.{_≡_, refl}
 use mathlib.Core.Bool.{false}
@@ -9,6 +15,9 @@ use borrow.Author.Tests.{ne-eqb}
 use Rattle.command.specs.declared.Piece.the-variants.{Byte, Percent}
 use Rattle.command.specs.Pieces.{percent, backslash, alone, paired, pieces}
 pub use Rattle.command.proofs.Sizes.{split-length}
+pub use Rattle.command.proofs.Composition.{shell-none, shell-escaped, shell-kept, shell-backslash, shell-ends, shell-plain}
+pub use Rattle.command.proofs.Composition.{input-none, input-escaped, input-kept, input-backslash, input-newline, input-plain}
+pub use Rattle.command.proofs.Composition.{inputText, endsWhole, inShell, isPlain, pieces-joined, input-joined, shell-joined, shell-cut, plain-command}
 
 -- backslash and `%` together give `%`
 pub escaped : (s : List ℕ) → pieces false (backslash ∷ percent ∷ s) ≡ Byte percent ∷ pieces false s

@@ -27,9 +27,9 @@ use Rattle.field.specs.Fields.{areElements, judgedAll, listField}
 use Rattle.field.proofs.Parts.{split-first}
 
 -- a number has digits only
-number-digits : (s : List ℕ) {n : ℕ} → numberOf s ≡ Value n → areDigits s ≡ true
+pub digits-only : (s : List ℕ) {n : ℕ} → numberOf s ≡ Value n → areDigits s ≡ true
 unfolding numberOf
-number-digits s {n} e = go (leb 1 (length s) && leb (length s) 4) (areDigits s) e
+digits-only s {n} e = go (leb 1 (length s) && leb (length s) 4) (areDigits s) e
   where
     go : (a b : Bool) → cond (a && b) (Value (valueFrom 0 s)) Malformed ≡ Value n → b ≡ true
     go a true e = refl
@@ -59,12 +59,12 @@ module _ (b : ℕ) (other : isDigit b ≡ false) where
 module _ (s : List ℕ) {n : ℕ} (number : numberOf s ≡ Value n) where
   pub alone-element : (l : Limits) → elementOf l s ≡ Range n n 1
   unfolding elementOf endOf numberOr ranging isDigit
-  alone-element l = rw (digits-whole 45 refl s (number-digits s number), number)
+  alone-element l = rw (digits-whole 45 refl s (digits-only s number), number)
 
   -- a field that is a number is that value
   pub number-alone : (l : Limits) (column : ℕ) → listField l column s ≡ judged l column (Values 0 false) (Range n n 1)
   unfolding listField areElements judgedAll isElement isDigit
-  number-alone l column = rw (digits-split 44 refl s (number-digits s number), alone-element l)
+  number-alone l column = rw (digits-split 44 refl s (digits-only s number), alone-element l)
 
 -- how it is judged
 module _ (l : Limits) (column n : ℕ) where

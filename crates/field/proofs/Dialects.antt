@@ -70,7 +70,7 @@ module _ (l : Limits) (u : Usual l) (n : ℕ) (some : 1 ≤ n) where
             absurd (omega (arith, b .0, w .bit, k))
 
     -- a value is in it exactly if it is a multiple of the step after the first
-    star-has : hasBit (starSet l n) v ≡ (leb (l .first) v && eqb ((v - l .first) % n) 0)
+    pub star-has : hasBit (starSet l n) v ≡ (leb (l .first) v && eqb ((v - l .first) % n) 0)
     star-has =
         ap (λ (set : ℕ). hasBit set v) star-is
         ∙ including-has v word l 0 values
@@ -87,11 +87,11 @@ module _ (l : Limits) (u : Usual l) where
   usual : Usual there
   usual = dialect-usual l u Wrapping
 
-  star-wraps : (n : ℕ) → 1 ≤ n → starSet there n ≡ starSet l n
+  pub star-wraps : (n : ℕ) → 1 ≤ n → starSet there n ≡ starSet l n
   unfolding inDialect
   star-wraps n h = same-bits (l .bits) (star-fits there usual n h) (star-fits l u n h) (λ v k. star-has there usual n h v k ∙ sym (star-has l u n h v k))
 
-  including-wraps : (set : ℕ) (vs : List ℕ) → including there set vs ≡ including l set vs
+  pub including-wraps : (set : ℕ) (vs : List ℕ) → including there set vs ≡ including l set vs
   unfolding including bitOf inDialect
   including-wraps set [] = refl
   including-wraps set (v ∷ vs) = including-wraps (put set (bitOf l v)) vs

@@ -1,11 +1,13 @@
 -- The theorems of fields, each used where it says most: every field, the second dialect, Sunday, the last step; both directions. A theorem that
 -- said less would not give these. And what doesn't meet the words that they are made of.
 -- Assumes nothing.
-use mathlib.Core.Path.{_≡_, refl, sym, _∙_}
+use mathlib.Core.Path.{_≡_, refl, sym, ap, _∙_}
 use mathlib.Core.Bool.{Bool, true, false, true≢false}
 use mathlib.Core.Logic.{⊎-elim}
-use mathlib.Core.List.{List, []}
-use Prim.Native.Nat.{ℕ, _≤_, _<_}
+use mathlib.Core.List.{List, [], _∷_, _++_}
+use Prim.Native.Nat.{ℕ, zero, suc, _+_, _≤_, _<_}
+use lib.Bits.{or-self}
+use lib.ListN.{length}
 use native.Mathlib.Omega.{arith}
 use Rattle.bytes.specs.Texts.{text}
 use Rattle.bytes.specs.Sets.{hasBit}
@@ -18,11 +20,12 @@ use Rattle.field.specs.declared.element.Element.the-variants.{Range}
 use Rattle.field.specs.Limits.{minuteLimits, hourLimits, dayLimits, monthLimits, weekdayLimits, inDialect}
 use Rattle.field.specs.Fields.{readField}
 use Rattle.field.specs.FirstDialect.{firstField}
-use Rattle.field.specs.Members.{isIn, isInRange, elementBits}
+use Rattle.field.specs.Parts.{split}
+use Rattle.field.specs.Members.{isIn, isInRange, elementBits, isStar}
 use Rattle.field.specs.Written.{starSet, fieldText, isField}
 use Rattle.field.specs.Computing.{writing}
 use Rattle.field.proofs.UsualLimits.{bit-value}
-use Rattle.field.proofs.Theorems.{Accepted, values-members, set-fits, Within, set-within, RefusedIn, field-wraps, Usual, minute-usual, hour-usual, day-usual, month-usual, weekday-usual, dialect-usual, Shortest, shortest-step, plain-star, field-proper, field-back, Plain, first-dialect-same, minute-plain, hour-plain, day-plain, month-plain, weekday-plain, FieldByte, Begins}
+use Rattle.field.proofs.Theorems.{Accepted, values-members, set-fits, Within, set-within, RefusedIn, field-wraps, Usual, minute-usual, hour-usual, day-usual, month-usual, weekday-usual, dialect-usual, Shortest, shortest-step, plain-star, field-proper, field-back, Plain, first-dialect-same, minute-plain, hour-plain, day-plain, month-plain, weekday-plain, FieldByte, Begins, isMalformed, field-joined, RisesBelow, EachBelow, form-in-both, same-in-both, minute-sunday, hour-sunday, day-sunday, month-sunday, weekday-sunday}
 
 -- ---- the second dialect, in each field
 
@@ -127,6 +130,93 @@ every = refl
 pub star-used : (set : ℕ) → isField weekdayLimits set true ≡ true
     → (127 ≡ set → fieldText weekdayLimits set true ≡ text "*") × (fieldText weekdayLimits set true ≡ text "*" → 127 ≡ set)
 star-used set e = let s = plain-star weekdayLimits weekday-usual set e in ((λ p. s .0 (every ∙ p)), (λ q. sym every ∙ s .1 q))
+
+-- ---- fields of any length
+
+-- a text so many times more, by commas
+abbrev again : ℕ → List ℕ → List ℕ
+again zero a = a
+again (suc n) a = a ++ 44 ∷ again n a
+
+again-star : (n : ℕ) (a : List ℕ) → isStar a ≡ false → isStar (again n a) ≡ false
+unfolding isStar
+again-star zero a h = h
+again-star (suc n) [] h = refl
+again-star (suc n) (x ∷ a) h = h
+
+-- field-joined: a list of any number of elements that are accepted is accepted, and gives the same set; one that is refused is refused at the first
+module _ (l : Limits) (a : List ℕ) (list : isStar a ≡ false) where
+  again-read : {set : ℕ} → ((column : ℕ) → readField l column a ≡ Values set false) → (n column : ℕ) → readField l column (again n a) ≡ Values set false
+  again-read e zero column = e column
+  again-read {set} e (suc n) column =
+      field-joined l column a (again n a) list (again-star n a list)
+      ∙ rw (e column, again-read e n (column + length a + 1)) (ap (λ (x : ℕ). Values x false) (or-self set))
+
+  again-malformed : ((column : ℕ) → readField l column a ≡ Refused 5 column) → (n column : ℕ) → readField l column (again n a) ≡ Refused 5 column
+  again-malformed e zero column = e column
+  again-malformed e (suc n) column = field-joined l column a (again n a) list (again-star n a list) ∙ rw (e column) refl
+
+-- in each dialect: hours over midnight, and weekdays by names
+pub again-used : (n column : ℕ)
+    → (readField (inDialect Wrapping hourLimits) column (again n (text "22-1")) ≡ Values 12582915 false)
+    × (readField weekdayLimits column (again n (text "Fri-sUN")) ≡ Values 97 false)
+    × (readField (inDialect Wrapping weekdayLimits) column (again n (text "Fri-sUN")) ≡ Values 97 false)
+    × (readField (inDialect Wrapping minuteLimits) column (again n (text "+")) ≡ Refused 5 column)
+unfolding writing isStar
+again-used n column = (
+  again-read (inDialect Wrapping hourLimits) (text "22-1") refl (λ c. refl) n column,
+  again-read weekdayLimits (text "Fri-sUN") refl (λ c. refl) n column,
+  again-read (inDialect Wrapping weekdayLimits) (text "Fri-sUN") refl (λ c. refl) n column,
+  again-malformed (inDialect Wrapping minuteLimits) (text "+") refl (λ c. refl) n column,
+)
+
+-- the first refusal stands: after any number of good elements, at its column
+pub refused-used : (column : ℕ) (a : List ℕ) {set : ℕ} → isStar a ≡ false → readField (inDialect Wrapping hourLimits) column a ≡ Values set false
+    → readField (inDialect Wrapping hourLimits) column (a ++ 44 ∷ text "24,1/2") ≡ Refused 5 column
+unfolding writing isStar
+refused-used column a h e = field-joined (inDialect Wrapping hourLimits) column a (text "24,1/2") h refl ∙ rw e refl
+
+late : (isStar (text "24,1-2/0") ≡ false) × ((c : ℕ) → readField (inDialect Wrapping hourLimits) c (text "24,1-2/0") ≡ Refused 6 c)
+unfolding writing isStar
+late = (refl, λ c. refl)
+
+pub sixth-used : (column : ℕ) (a : List ℕ) {set : ℕ} → isStar a ≡ false → readField (inDialect Wrapping hourLimits) column a ≡ Values set false
+    → readField (inDialect Wrapping hourLimits) column (a ++ 44 ∷ text "24,1-2/0") ≡ Refused 6 (column + length a + 1)
+sixth-used column a h e =
+    field-joined (inDialect Wrapping hourLimits) column a (text "24,1-2/0") h (late .0) ∙ rw (e, late .1 (column + length a + 1)) refl
+
+-- same-in-both: any number of elements, the last value of the five fields, and a star with any step; form-in-both: any bytes
+star-none : (s : List ℕ) → isStar (42 ∷ s) ≡ false → ⊥
+unfolding isStar
+star-none s e = true≢false e
+
+pub both-used : (column : ℕ) (s : List ℕ)
+    → (readField (inDialect Wrapping weekdayLimits) column (42 ∷ s) ≡ readField weekdayLimits column (42 ∷ s))
+    × (isMalformed (readField (inDialect Wrapping weekdayLimits) column s) ≡ isMalformed (readField weekdayLimits column s))
+    × (EachBelow minuteLimits (split 44 s) → readField (inDialect Wrapping minuteLimits) column s ≡ readField minuteLimits column s)
+    × (EachBelow hourLimits (split 44 s) → readField (inDialect Wrapping hourLimits) column s ≡ readField hourLimits column s)
+    × (EachBelow dayLimits (split 44 s) → readField (inDialect Wrapping dayLimits) column s ≡ readField dayLimits column s)
+    × (EachBelow monthLimits (split 44 s) → readField (inDialect Wrapping monthLimits) column s ≡ readField monthLimits column s)
+    × (EachBelow weekdayLimits (split 44 s) → readField (inDialect Wrapping weekdayLimits) column s ≡ readField weekdayLimits column s)
+both-used column s = (
+  same-in-both weekdayLimits weekday-usual refl weekday-sunday column (42 ∷ s) (λ e. absurd (star-none s e)),
+  form-in-both weekdayLimits refl column s,
+  (λ h. same-in-both minuteLimits minute-usual refl minute-sunday column s (λ e. h)),
+  (λ h. same-in-both hourLimits hour-usual refl hour-sunday column s (λ e. h)),
+  (λ h. same-in-both dayLimits day-usual refl day-sunday column s (λ e. h)),
+  (λ h. same-in-both monthLimits month-usual refl month-sunday column s (λ e. h)),
+  (λ h. same-in-both weekdayLimits weekday-usual refl weekday-sunday column s (λ e. h)),
+)
+
+-- what rises and stays below: the last value; not a range that falls, nor 7
+below-is : EachBelow hourLimits (split 44 (text "0-23/9,23")) × (RisesBelow hourLimits (Range 23 0 1) → ⊥) × (RisesBelow weekdayLimits (Range 5 7 1) → ⊥) × (RisesBelow hourLimits (Range 24 24 1) → ⊥)
+unfolding writing
+below-is = (
+  ((omega arith, omega arith), ((omega arith, omega arith), tt)),
+  (λ r. omega (arith, r .0)),
+  (λ r. omega (arith, r .1)),
+  (λ r. omega (arith, r .1)),
+)
 
 -- ---- what doesn't meet the words of these
 

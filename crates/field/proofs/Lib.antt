@@ -22,5 +22,12 @@ pub mod FirstDialect
 pub mod FieldTests
 pub mod TextBytes
 pub mod Writing
+pub mod Composition
+pub mod ElementForms
+pub mod RangeValues
+pub mod StarFields
+pub mod NameTexts
+pub mod BothDialects
+pub mod WrittenLists
 pub mod Theorems
 pub mod Extremes

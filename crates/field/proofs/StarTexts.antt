@@ -34,7 +34,7 @@ use Rattle.field.proofs.Steps.{last-rising}
 module _ (l : Limits) (order : l .first ≤ l .last) where
   -- ---- a step's text is read as its set
 
-  judged-star : (column n : ℕ) → 1 ≤ n → judged l column (Values 0 true) (Range (l .first) (l .last) n) ≡ Values (starSet l n) true
+  pub judged-star : (column n : ℕ) → 1 ≤ n → judged l column (Values 0 true) (Range (l .first) (l .last) n) ≡ Values (starSet l n) true
   unfolding judged outside starSet rangeOf
   judged-star column n h =
       rw

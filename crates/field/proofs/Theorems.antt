@@ -16,9 +16,19 @@
 --   star-flag: the flag says just that the field begins with `*`
 --   star-full: a plain `*` has every value of the limits
 --   field-number: a refusal is 5 to 8
+-- Of any bytes, in either dialect, so that a field of any length has no other reading:
+--   field-joined, star-first, star-later: a comma list is its elements, and a `*` stands alone (Composition)
+--   field-element, element-single, element-range, element-step, range-text: a field with no comma is one element, and its three texts (ElementForms)
+--   number-digits, number-none, number-long, number-other, value-joined: the number that digits are, and that nothing else is one
+--   range-values, range-exact, rising-values, wrapping-values: a range is accepted within its limits, and has exactly these values (RangeValues)
+--   star-alone, star-stepped, star-zero, star-malformed, star-other, star-values: a field that begins with `*` (StarFields)
+--   alike-exact, name-any-case, month-exact, weekday-exact: a name in any letter case, and no other bytes (NameTexts)
+--   form-in-both, same-in-both: what both dialects read alike (BothDialects)
 -- Of the text of a set and a flag (ticket 2026-06), over usual limits, as the five fields have:
 --   field-fits: what may be written has no bit past the field's
 --   shortest-step, plain-star: a flagged field has the smallest step that gives the set, and is `*` just where that is 1
+--   list-field, list-one, list-more, members-exact, members-rise, number-short, number-two: an unflagged field has all values of the set, rising, with a
+--     comma between (WrittenLists)
 --   field-bytes, field-solid, field-begins, field-length: its bytes, none of them blank, its first byte, and how many there are at most
 -- Assumes nothing.
 use mathlib.Core.Path.{_≡_, ap, _∙_}
@@ -46,6 +56,13 @@ pub use Rattle.field.proofs.UsualLimits.{Usual, minute-usual, hour-usua
 pub use Rattle.field.proofs.RoundTrip.{field-fits, Shortest, shortest-step, plain-star}
 pub use Rattle.field.proofs.Dialects.{field-proper, field-back}
 pub use Rattle.field.proofs.FirstDialect.{Plain, first-dialect-same, minute-plain, hour-plain, day-plain, month-plain, weekday-plain}
+pub use Rattle.field.proofs.Composition.{followed, isMalformed, together, field-joined, star-first, star-later}
+pub use Rattle.field.proofs.ElementForms.{field-element, element-single, element-range, element-step, range-text, value-joined, number-digits, number-none, number-long, number-other}
+pub use Rattle.field.proofs.RangeValues.{range-values, range-exact, rising-values, wrapping-values}
+pub use Rattle.field.proofs.StarFields.{star-alone, star-stepped, star-zero, star-malformed, star-other, star-values}
+pub use Rattle.field.proofs.NameTexts.{alike-exact, name-any-case, Named, month-exact, weekday-exact}
+pub use Rattle.field.proofs.BothDialects.{RisesBelow, EachBelow, SundayBits, form-in-both, same-in-both, minute-sunday, hour-sunday, day-sunday, month-sunday, weekday-sunday}
+pub use Rattle.field.proofs.WrittenLists.{Rises, list-field, list-one, list-more, members-exact, members-rise, number-short, number-two}
 pub use Rattle.field.proofs.TextBytes.{FieldByte, field-bytes, field-solid, Begins, field-begins, field-length}
 
 -- ---- a plain `*`

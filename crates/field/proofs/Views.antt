@@ -30,7 +30,7 @@ use Rattle.field.proofs.Accepted.{AcceptedElements, inside}
 -- ---- widths
 
 -- how many bytes parts have, each with the byte after it
-width : List (List ℕ) → ℕ
+unfoldable pub width : List (List ℕ) → ℕ
 width [] = 0
 width (p ∷ ps) = length p + 1 + width ps
 
@@ -45,7 +45,7 @@ module _ (b : ℕ) where
       go true e = omega (arith, e)
       go false e = omega (arith, e)
 
-  split-width : (s : List ℕ) → width (split b s) ≡ length s + 1
+  pub split-width : (s : List ℕ) → width (split b s) ≡ length s + 1
   unfolding split width
   split-width s = omega (arith, parts-width s)
 
@@ -100,7 +100,7 @@ module _ (l : Limits) (last : ℕ) where
           record { accepted = (record { from = x .0; below = x .1; above = y .0; to = y .1; steps = omega (arith, n) }, tt); sets = refl; flag = refl }
 
   -- element by element
-  all-refused : (column : ℕ) (ps : List (List ℕ)) (number at : ℕ) → judgedAll l column (Refused number at) ps ≡ Refused number at
+  pub all-refused : (column : ℕ) (ps : List (List ℕ)) (number at : ℕ) → judgedAll l column (Refused number at) ps ≡ Refused number at
   unfolding judgedAll judged
   all-refused column [] number at = refl
   all-refused column (p ∷ ps) number at = all-refused _ ps number at
