@@ -25,7 +25,7 @@ use Rattle.crontab.specs.declared.chosen.Which.the-variants.{At}
 use Rattle.crontab.specs.Tables.{blankEntry, refusedTable}
 use Rattle.crontab.specs.Choices.{isChosen, dateUnder, markWords, refusedChoice, choice, chosenBy}
 use Rattle.crontab.specs.Firings.{isFixed, firesAt}
-use Rattle.crontab.proofs.Offsets.{kept}
+use Rattle.line.proofs.Theorems.{kept}
 
 -- one entry more
 pub chosen-more : (p : Entry → Bool) (es : List Entry) (k : ℕ) (e : Entry) → k < length es

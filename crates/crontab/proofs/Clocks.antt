@@ -7,10 +7,10 @@ use Rattle.schedule.specs.Local.{ahead, nextAfterIn}
 use Rattle.schedule.specs.Clocks.{clockAfterIn}
 use Rattle.schedule.proofs.Theorems.{slow-agrees}
 use Rattle.field.specs.declared.Dialect.the-variants.{Wrapping}
-use Rattle.crontab.specs.declared.Rules.{Rules}
-use Rattle.crontab.specs.declared.Kind.the-variants.{System}
-use Rattle.crontab.specs.declared.time.When.{When}
-use Rattle.crontab.specs.declared.time.When.the-variants.{Reboot, Timed}
+use Rattle.line.specs.declared.Rules.{Rules}
+use Rattle.line.specs.declared.Kind.the-variants.{System}
+use Rattle.line.specs.declared.time.When.{When}
+use Rattle.line.specs.declared.time.When.the-variants.{Reboot, Timed}
 use Rattle.crontab.specs.declared.entry.Entry.{Entry}
 use Rattle.crontab.specs.declared.table.EntryAnswer.{EntryAnswer}
 use Rattle.crontab.specs.declared.table.EntryAnswer.the-variants as answer

@@ -1,4 +1,4 @@
--- What doesn't meet the words that claims about lines and tables are made of.
+-- What doesn't meet the words that claims about tables are made of.
 -- Assumes nothing.
 use mathlib.Core.Path.{refl, ap}
 use mathlib.Core.List.{List, [], _∷_}
@@ -6,9 +6,7 @@ use Prim.Native.Nat.{ℕ}
 use native.Mathlib.Omega.{arith}
 use lib.ListN.{getD}
 use Rattle.bytes.specs.Texts.{text}
-use Rattle.crontab.proofs.LineViews.{Inside}
 use Rattle.crontab.proofs.Lines.{LinesAt}
-use Rattle.crontab.proofs.ExactWords.{AnyOf}
 
 -- two lines of `a`, newline, `b`: a line that isn't there, one at another place, and one past the end
 lines-at : LinesAt (text "a\nb") 0 (text "a" ∷ text "b" ∷ [])
@@ -25,10 +23,3 @@ not-lines = (
   (λ h. let e = ap (λ (s : List ℕ). getD s 0 0) (h .2 .0 .is) in omega (arith, e)),
   (λ h. omega (arith, h .2 .2 .1)),
 )
-
--- a part that ends before it starts, or past the bytes
-not-inside : (Inside 3 (record { start = 2; end = 1 }) → ⊥) × (Inside 3 (record { start = 2; end = 4 }) → ⊥)
-not-inside = ((λ i. omega (arith, i .order)), (λ i. omega (arith, i .within)))
-
-not-any : AnyOf (text "@a") [] → ⊥
-not-any h = h

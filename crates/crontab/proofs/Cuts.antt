@@ -9,7 +9,7 @@ use native.Mathlib.Omega.{arith}
 use lib.ListN.{length, getD}
 use lib.Dec.{eqb}
 use borrow.Author.Tests.{eqb-true}
-use Rattle.crontab.specs.declared.Rules.{Rules}
+use Rattle.line.specs.declared.Rules.{Rules}
 use Rattle.crontab.specs.declared.table.Table.{Table}
 use Rattle.crontab.specs.Lines.{isCut}
 use Rattle.crontab.specs.Items.{Items, done, fault, setting, entry, itemsOf}

@@ -10,9 +10,9 @@ use native.Mathlib.Omega.{arith}
 use lib.ListN.{length, getD}
 use Rattle.field.specs.declared.Dialect.the-variants.{Rising, Wrapping}
 use Rattle.field.specs.Refusals.{reversed}
-use Rattle.crontab.specs.declared.Kind.{Kind}
-use Rattle.crontab.specs.declared.Kind.the-variants.{System}
-use Rattle.crontab.specs.declared.Rules.{Rules}
+use Rattle.line.specs.declared.Kind.{Kind}
+use Rattle.line.specs.declared.Kind.the-variants.{System}
+use Rattle.line.specs.declared.Rules.{Rules}
 use Rattle.crontab.specs.declared.setting.LineAnswer.the-variants.{At}
 use Rattle.crontab.specs.Items.{itemsOf}
 use Rattle.crontab.specs.Tables.{blankEntry, tableOf, entryIn}

@@ -19,8 +19,8 @@ use Rattle.schedule.specs.declared.Next.the-variants as next
 use Rattle.schedule.specs.Next.{byThen}
 use Rattle.schedule.specs.Local.{ahead, matchesIn, nextAfterIn, localDate, matchesLocal}
 use Rattle.schedule.proofs.Theorems.{local-date, next-by}
-use Rattle.crontab.specs.declared.time.When.{When}
-use Rattle.crontab.specs.declared.time.When.the-variants.{Reboot, Timed}
+use Rattle.line.specs.declared.time.When.{When}
+use Rattle.line.specs.declared.time.When.the-variants.{Reboot, Timed}
 use Rattle.crontab.specs.declared.entry.Entry.{Entry}
 use Rattle.crontab.specs.declared.firing.DueAnswer.the-variants.{Yes, No}
 use Rattle.crontab.specs.declared.firing.NextAnswer.{NextAnswer}

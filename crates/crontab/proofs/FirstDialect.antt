@@ -1,118 +1,34 @@
 -- In the first dialect a table is read as it was before there was a second.
 -- Assumes nothing.
 use mathlib.Core.Path.{_≡_, refl, ap}
-use mathlib.Core.Bool.{Bool, true, false, cond, _&&_}
+use mathlib.Core.Bool.{Bool, cond, _&&_}
 use mathlib.Core.List.{List, [], _∷_}
 use Prim.Native.Nat.{ℕ, _+_}
 use lib.ListN.{length}
 use lib.IntN.{ℤ}
-use Rattle.bytes.specs.declared.class.Class.the-variants.{Blank, Solid}
-use Rattle.bytes.specs.Runs.{skipped, between}
 use Rattle.field.specs.declared.Dialect.the-variants.{Rising}
-use Rattle.field.specs.declared.Limits.{Limits}
-use Rattle.field.specs.Limits.{minuteLimits, hourLimits, dayLimits, monthLimits, weekdayLimits, inDialect}
-use Rattle.field.proofs.Theorems.{Plain, minute-plain, hour-plain, day-plain, month-plain, weekday-plain}
-use Rattle.field.proofs.Theorems as field-theorems
-use Rattle.crontab.specs.declared.Kind.{Kind}
-use Rattle.crontab.specs.declared.Rules.{Rules}
-use Rattle.crontab.specs.declared.time.Values.{Values}
-use Rattle.crontab.specs.declared.time.Field.{Field}
-use Rattle.crontab.specs.declared.time.Field.the-variants as field
-use Rattle.crontab.specs.declared.time.Time.{Time}
-use Rattle.crontab.specs.declared.time.Time.the-variants as time
-use Rattle.crontab.specs.declared.word.Word.{Word}
-use Rattle.crontab.specs.declared.line.Line.{Line}
-use Rattle.crontab.specs.declared.line.Line.the-variants as line
-use Rattle.crontab.specs.Offsets.{utc, inForce}
-use Rattle.crontab.specs.Times.{fieldAt, after, fieldsAt}
-use Rattle.crontab.specs.Words.{same, Meaning, reboot, fields, Named, meanings, known, wordFor, chosen, wordIn, wordOf, wordAt}
-use Rattle.crontab.specs.Entries.{timeAt, afterTime, entryAt}
-use Rattle.crontab.specs.Lines.{linesOf, isCut, isLast, contentFrom, contentOf, readLine}
-use Rattle.crontab.specs.Items.{Items, setting, moved, faultOf, afterLine, lastFault, itemsFrom, itemsOf}
+use Rattle.line.specs.declared.Kind.{Kind}
+use Rattle.line.specs.declared.Rules.{Rules}
+use Rattle.line.specs.Offsets.{utc}
+use Rattle.crontab.specs.Lines.{linesOf, isCut, isLast}
+use Rattle.crontab.specs.Items.{faultOf, lastFault, itemsFrom, itemsOf}
 use Rattle.crontab.specs.Tables.{tableOf}
-use Rattle.crontab.specs.FirstDialect.{firstFieldAt, firstFieldsAt, firstWordFor, firstChosen, firstWordIn, firstWordAt, firstTimeAt, firstAfterTime, firstContent, firstLine, firstItemsFrom, firstItems, firstTable}
-
--- ---- a time
-
-module _ (s : List ℕ) where
-  field-first : (l : Limits) → Plain l → (at : ℕ) → fieldAt (inDialect Rising l) s at ≡ firstFieldAt l s at
-  unfolding fieldAt firstFieldAt
-  field-first l p at = rw (field-theorems.first-dialect-same l p (at + 1) (between s at (skipped Solid s at)))
-
-  after-first : (f g : Field) (later first : Values → Time) → f ≡ g → ((v : Values) → later v ≡ first v) → after f later ≡ after g first
-  unfolding after
-  after-first f g later first e h = rw e (go g)
-    where
-      go : (g : Field) → after g later ≡ after g first
-      go (field.Refused f) = refl
-      go (field.Read values) = h values
-
-  fields-first : (at : ℕ) → fieldsAt Rising s at ≡ firstFieldsAt s at
-  unfolding fieldsAt firstFieldsAt
-  fields-first at =
-      after-first _ _ _ _ (field-first minuteLimits minute-plain at)
-      (λ minute. after-first _ _ _ _ (field-first hourLimits hour-plain (minute .next))
-      (λ hour. after-first _ _ _ _ (field-first dayLimits day-plain (hour .next))
-      (λ day. after-first _ _ _ _ (field-first monthLimits month-plain (day .next))
-      (λ month. after-first _ _ _ _ (field-first weekdayLimits weekday-plain (month .next)) (λ weekday. refl)))))
-
-meaning-first : (m : Meaning) → wordFor m ≡ firstWordFor m
-unfolding wordFor firstWordFor
-meaning-first reboot = refl
-meaning-first (fields s) = ap known (fields-first s 0)
-
-chosen-first : (t : Bool) (m : Meaning) (other : Word) → chosen t m other ≡ firstChosen t m other
-unfolding chosen firstChosen
-chosen-first true m other = meaning-first m
-chosen-first false m other = refl
-
-word-first : (ns : List Named) (s : List ℕ) → wordIn ns s ≡ firstWordIn ns s
-unfolding wordIn firstWordIn
-word-first [] s = refl
-word-first (n ∷ ns) s = rw (word-first ns s) (chosen-first (same s (n .word)) (n .meaning) (firstWordIn ns s))
-
-time-first : (s : List ℕ) (at : ℕ) → timeAt Rising s at ≡ firstTimeAt s at
-unfolding timeAt firstTimeAt wordAt wordOf firstWordAt
-time-first s at = rw (word-first meanings (between s at (skipped Solid s at)), fields-first s at)
-
--- ---- a line
+use Rattle.crontab.specs.FirstDialect.{firstItemsFrom, firstItems, firstTable}
+use Rattle.line.specs.FirstDialect.{firstLine}
+use Rattle.line.proofs.Theorems.{first-line-same}
+use Rattle.crontab.proofs.Alike.{after-same}
 
 module _ (kind : Kind) where
   abbrev rising : Rules
   rising = record { kind = kind; dialect = Rising }
 
-  behind-first : (s : List ℕ) (t : Time) → afterTime rising s t ≡ firstAfterTime kind s t
-  unfolding afterTime firstAfterTime
-  behind-first s (time.Refused f) = refl
-  behind-first s (time.Read when next) = refl
-
-  content-first : (s : List ℕ) → contentOf rising s ≡ firstContent kind s
-  unfolding contentOf contentFrom firstContent entryAt
-  content-first s =
-      let at = skipped Blank s 0 in
-      rw (time-first s at, behind-first s (firstTimeAt s at))
-
-  line-first : (s : List ℕ) → readLine rising s ≡ firstLine kind s
-  unfolding readLine firstLine
-  line-first s = rw (content-first s)
-
-  -- ---- a table
-
-  next-first : (at n size k : ℕ) (o : ℤ) (x : Line) (later first : ℕ → ℤ → Items) → ((j : ℕ) (p : ℤ) → later j p ≡ first j p)
-      → afterLine at n size k o x later ≡ afterLine at n size k o x first
-  unfolding afterLine
-  next-first at n size k o line.Ignored later first h = h k o
-  next-first at n size k o (line.Setting name value zone) later first h = ap (setting n (moved at name) (moved at value)) (h k (inForce zone o))
-  next-first at n size k o (line.Refused f) later first h = refl
-  next-first at n size k o (line.Entry when start) later first h = rw (h (k + 1) o)
-
   from-first : (cut : Bool) (at n k : ℕ) (o : ℤ) (ls : List (List ℕ)) → itemsFrom rising cut at n k o ls ≡ firstItemsFrom kind cut at n k o ls
   unfolding itemsFrom firstItemsFrom
   from-first cut at n k o [] = refl
   from-first cut at n k o (l ∷ ls) =
-      rw (line-first l)
+      rw (first-line-same kind l)
       (ap (cond (cut && isLast ls) (faultOf n (lastFault (length l) k (firstLine kind l))))
-      (next-first at n (length l) k o (firstLine kind l) _ _ (λ j p. from-first cut (at + length l + 1) (n + 1) j p ls)))
+      (after-same at n (length l) k o (firstLine kind l) _ _ (λ j p. from-first cut (at + length l + 1) (n + 1) j p ls)))
 
   pub first-dialect-same : (s : List ℕ) → tableOf (record { kind = kind; dialect = Rising }) s ≡ firstTable kind s
   unfolding tableOf itemsOf firstTable firstItems

@@ -11,8 +11,8 @@ use Rattle.schedule.specs.declared.Next.the-variants as next
 use Rattle.schedule.specs.Local.{ahead, nextAfterIn}
 use Rattle.schedule.specs.Gap.{gap}
 use Rattle.schedule.proofs.Theorems.{next-within-in}
-use Rattle.crontab.specs.declared.time.When.{When}
-use Rattle.crontab.specs.declared.time.When.the-variants.{Reboot, Timed}
+use Rattle.line.specs.declared.time.When.{When}
+use Rattle.line.specs.declared.time.When.the-variants.{Reboot, Timed}
 use Rattle.crontab.specs.declared.entry.Entry.{Entry}
 use Rattle.crontab.specs.declared.table.Table.{Table}
 use Rattle.crontab.specs.declared.table.EntryAnswer.{EntryAnswer}

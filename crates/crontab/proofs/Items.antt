@@ -11,24 +11,25 @@ use borrow.Author.Tests.{lt-ltb, le-ltb}
 use Rattle.bytes.specs.declared.class.Class.the-variants.{Not, InLine}
 use Rattle.bytes.specs.Runs.{skipped, between}
 use Rattle.bytes.proofs.Runs.{skipped-from, skipped-within}
-use Rattle.crontab.specs.declared.Rules.{Rules}
-use Rattle.crontab.specs.declared.Part.{Part}
-use Rattle.crontab.specs.declared.time.When.{When}
-use Rattle.crontab.specs.declared.line.Fault.{Fault}
-use Rattle.crontab.specs.declared.line.Line.the-variants as line
+use Rattle.line.specs.declared.Rules.{Rules}
+use Rattle.line.specs.declared.Part.{Part}
+use Rattle.line.specs.declared.time.When.{When}
+use Rattle.line.specs.declared.Fault.{Fault}
+use Rattle.line.specs.declared.Line.the-variants as line
 use Rattle.crontab.specs.declared.item.Cursor.{Cursor}
 use Rattle.crontab.specs.declared.item.Item.{Item}
 use Rattle.crontab.specs.declared.item.Item.the-variants as item
 use Rattle.schedule.specs.Local.{InZones}
-use Rattle.crontab.specs.declared.offset.Zone.{Zone}
-use Rattle.crontab.specs.Offsets.{utc, inForce}
-use Rattle.crontab.specs.Limits.{maxTable, maxLine, maxEntries}
-use Rattle.crontab.specs.Lines.{linesOf, readLine}
+use Rattle.line.specs.declared.offset.Zone.{Zone}
+use Rattle.line.specs.Offsets.{utc, inForce}
+use Rattle.crontab.specs.Limits.{maxTable, maxEntries}
+use Rattle.line.specs.Limits.{maxLine}
+use Rattle.crontab.specs.Lines.{linesOf}
+use Rattle.line.specs.Lines.{readLine}
 use Rattle.crontab.specs.Items.{done, moved, placed, afterLine, lastFault, itemsFrom, itemsOf}
 use Rattle.crontab.specs.Steps.{itemsAt, behind, Reached, LineAt, given, counted, Sound, Under, endedStep, stepAt, StepIs}
 use Rattle.crontab.proofs.Lines.{lineEnd, end-found, stop-found, lines-first, next-start, last-line, ended-line}
-use Rattle.crontab.proofs.Offsets.{force-in}
-use Rattle.crontab.proofs.LineViews.{setting-proper, entry-proper}
+use Rattle.line.proofs.Theorems.{force-in, setting-proper, entry-proper}
 
 abbrev pub start : Cursor
 start = record { at = 0; line = 1; count = 0; offset = utc }

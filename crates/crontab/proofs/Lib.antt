@@ -1,10 +1,3 @@
-pub mod Words
-pub mod Users
-pub mod TimeViews
-pub mod TextViews
-pub mod Offsets
-pub mod LineViews
-pub mod Zones
 pub mod Lines
 pub mod Items
 pub mod Sound
@@ -19,15 +12,11 @@ pub mod Gap
 pub mod Clocks
 pub mod Choices
 pub mod Reversed
+pub mod Alike
 pub mod FirstDialect
-pub mod KindsDialects
-pub mod Spacing
-pub mod ExactWords
 pub mod Theorems
 pub mod Extremes
 pub mod CounterExamples
 pub mod LineByLine
-pub mod FiveFields
-pub mod WholeLines
 pub mod EntryTimes
 pub mod LineEnds

@@ -10,26 +10,27 @@ use lib.ListN.{length}
 use lib.IntN.{ℤ}
 use lib.Dec.{ltb}
 use borrow.Author.Tests.{lt-ltb, le-ltb, ltb-true, ne-eqb, eq-eqb}
-use Rattle.crontab.specs.declared.Rules.{Rules}
-use Rattle.crontab.specs.declared.Part.{Part}
+use Rattle.line.specs.declared.Rules.{Rules}
+use Rattle.line.specs.declared.Part.{Part}
 use Rattle.crontab.specs.declared.entry.Entry.{Entry}
-use Rattle.crontab.specs.declared.time.When.{When}
-use Rattle.crontab.specs.declared.line.Fault.{Fault}
-use Rattle.crontab.specs.declared.line.Line.{Line}
-use Rattle.crontab.specs.declared.line.Line.the-variants as line
+use Rattle.line.specs.declared.time.When.{When}
+use Rattle.line.specs.declared.Fault.{Fault}
+use Rattle.line.specs.declared.Line.{Line}
+use Rattle.line.specs.declared.Line.the-variants as line
 use Rattle.crontab.specs.declared.item.Cursor.{Cursor}
-use Rattle.crontab.specs.declared.offset.Zone.{Zone}
+use Rattle.line.specs.declared.offset.Zone.{Zone}
 use Rattle.crontab.specs.declared.table.EntryAnswer.{EntryAnswer}
 use Rattle.crontab.specs.declared.table.EntryAnswer.the-variants.{Found, Refused}
 use Rattle.crontab.specs.declared.table.Verdict.{Verdict}
 use Rattle.crontab.specs.declared.setting.SettingAnswer.{SettingAnswer}
 use Rattle.crontab.specs.Limits.{maxTable, maxEntries}
-use Rattle.crontab.specs.Offsets.{utc, inForce}
-use Rattle.crontab.specs.Lines.{linesOf, isCut, isLast, readLine}
+use Rattle.line.specs.Offsets.{utc, inForce}
+use Rattle.crontab.specs.Lines.{linesOf, isCut, isLast}
+use Rattle.line.specs.Lines.{readLine}
 use Rattle.crontab.specs.Items.{Items, done, fault, setting, entry, moved, placed, afterLine, lastFault, faultOf, itemsFrom, itemsOf}
 use Rattle.crontab.specs.Tables.{tableOf, verdictOf, entryIn}
 use Rattle.crontab.specs.Settings.{refusedSetting, shown, settingFrom, settingIn}
-use Rattle.crontab.proofs.LineViews.{LineView, line-view}
+use Rattle.line.proofs.LineViews.{LineView, line-view}
 use Rattle.crontab.proofs.Theorems.{table-short}
 use Rattle.crontab.proofs.Tables.{entryFrom, verdictFrom, table-verdict, table-entry}
 use Rattle.crontab.specs.LineByLine.{Accepted, NoSetting, entriesIn, offsetAfter, AllAccepted, bytesOf, entriesAmong, offsetAfterAll}

@@ -10,8 +10,8 @@ use native.Mathlib.Omega.{arith}
 use lib.ListN.{length}
 use lib.Dec.{eqb, leb}
 use borrow.Author.Tests.{ne-eqb, eq-eqb, leb-true, leb-false}
-use Rattle.crontab.specs.declared.Rules.{Rules}
-use Rattle.crontab.specs.declared.Part.{Part}
+use Rattle.line.specs.declared.Rules.{Rules}
+use Rattle.line.specs.declared.Part.{Part}
 use Rattle.crontab.specs.declared.table.Verdict.{Verdict}
 use Rattle.crontab.specs.declared.setting.SettingAnswer.{SettingAnswer}
 use Rattle.crontab.specs.declared.setting.LineAnswer.{LineAnswer}

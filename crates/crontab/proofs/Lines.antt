@@ -9,12 +9,12 @@ use native.Mathlib.Omega.{arith}
 use lib.ListN.{length, take, drop, getD, length-drop, drop-of-length-le}
 use lib.Seq.{length-take-le, drop-cons, drop-drop}
 use lib.Dec.{eqb}
-use borrow.Author.Tests.{eqb-true, lt-ltb, le-ltb}
+use borrow.Author.Tests.{eqb-true}
 use Rattle.bytes.specs.declared.class.Class.the-variants.{Not, InLine}
 use Rattle.bytes.specs.Classes.{ofClass}
 use Rattle.bytes.specs.Runs.{run, skipped}
-use Rattle.crontab.specs.Lines.{onto, linesOf, isCut, isLast, byteFault}
-use Rattle.bytes.proofs.Runs.{skipped-from, skipped-within, skipped-past, run-taken, no-newline, no-nul}
+use Rattle.crontab.specs.Lines.{onto, linesOf, isCut, isLast}
+use Rattle.bytes.proofs.Runs.{skipped-from, skipped-within, skipped-past, run-taken, no-newline}
 use Rattle.bytes.proofs.Places.{Stands, skipped-stop}
 
 -- ---- the first line of what is left
@@ -126,19 +126,6 @@ unfolding skipped
 stop-found s at stop end p q =
     let e : at + run (Not 10) (drop at s) - at ≡ run (Not 10) (drop at s) = omega arith in
     rw (p, q, e) (omega (arith, run-taken InLine (Not 10) no-newline (drop at s)))
-
--- a search for byte 0 goes on where one for any byte that no line may have ends
-module _ (s : List ℕ) (stop nul : ℕ) (p : stop ≡ skipped InLine s 0) (q : nul ≡ skipped (Not 0) s stop) where
-  nul-found : skipped (Not 0) s 0 ≡ nul
-  nul-found = sym (q ∙ rw p (skipped-past InLine (Not 0) no-nul s 0))
-
-  pub nul-there : nul < length s → record { number = 3; column = nul + 1 } ≡ byteFault s
-  unfolding byteFault
-  nul-there h = rw (nul-found, lt-ltb nul (length s) h)
-
-  pub nul-not-there : length s ≤ nul → record { number = 27; column = stop + 1 } ≡ byteFault s
-  unfolding byteFault
-  nul-not-there h = rw (nul-found, le-ltb nul (length s) h, ← p)
 
 -- the line that starts at a place, by where it ends
 module _ (s : List ℕ) (at end : ℕ) (inside : at < length s) (found : end ≡ lineEnd s at) where

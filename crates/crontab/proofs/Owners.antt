@@ -2,39 +2,32 @@
 -- Assumes nothing.
 use mathlib.Core.Path.{_≡_, refl, ap, subst, _∙_}
 use mathlib.Core.List.{List}
-use Prim.Native.Nat.{ℕ, zero, suc, _-_, _≤_, _<_}
-use native.Mathlib.Numerals.{unary-clauses}
+use Prim.Native.Nat.{ℕ, _-_, _≤_, _<_}
 use native.Mathlib.Omega.{arith}
 use borrow.Author.Tests.{lt-ltb, le-ltb}
-use Rattle.bytes.specs.declared.class.Class.the-variants.{Blank, Solid}
+use Rattle.bytes.specs.declared.class.Class.the-variants.{Blank}
 use Rattle.bytes.specs.Runs.{skipped, between}
-use Rattle.crontab.specs.declared.Rules.{Rules}
+use Rattle.line.specs.declared.Rules.{Rules}
 use Rattle.field.specs.declared.Dialect.the-variants.{Wrapping}
-use Rattle.crontab.specs.declared.Kind.{Kind}
-use Rattle.crontab.specs.declared.Kind.the-variants.{System}
-use Rattle.crontab.specs.declared.Part.{Part}
+use Rattle.line.specs.declared.Kind.{Kind}
+use Rattle.line.specs.declared.Kind.the-variants.{System}
+use Rattle.line.specs.declared.Part.{Part}
 use Rattle.crontab.specs.declared.entry.Entry.{Entry}
-use Rattle.crontab.specs.declared.user.Owner.{Owner}
+use Rattle.line.specs.declared.user.Owner.{Owner}
 use Rattle.crontab.specs.declared.owner.OwnerAnswer.{OwnerAnswer}
-use Rattle.crontab.specs.declared.user.Column.the-variants.{Named}
-use Rattle.crontab.specs.declared.time.Time.the-variants.{Read}
+use Rattle.line.specs.declared.user.Column.the-variants.{Named}
+use Rattle.line.specs.declared.time.Time.the-variants.{Read}
 use Rattle.crontab.specs.declared.table.EntryAnswer.{EntryAnswer}
 use Rattle.crontab.specs.declared.table.EntryAnswer.the-variants.{Found}
-use Rattle.crontab.specs.Users.{absent, columnAt}
-use Rattle.crontab.specs.Entries.{timeAt}
+use Rattle.line.specs.Users.{absent, columnAt}
+use Rattle.line.specs.Entries.{timeAt}
 use Rattle.crontab.specs.Items.{moved}
 use Rattle.crontab.specs.Tables.{tableOf, entryIn}
-use Rattle.crontab.specs.Owners.{behind, timeRuns, namedOwner, lineOwner, shifted, shiftedAll, ownerFrom, ownerOf, ownerAnswer, ownerIn}
-use Rattle.crontab.proofs.TimeViews.{time-view}
-use Rattle.crontab.proofs.Users.{column-view}
+use Rattle.crontab.specs.Owners.{shifted, shiftedAll, ownerFrom, ownerOf, ownerAnswer, ownerIn}
+use Rattle.line.specs.Owners.{behind, timeRuns, namedOwner, lineOwner}
+use Rattle.line.proofs.Theorems.{time-view, column-view, contentStart, AfterUser, CommandAt, line-view}
 use Rattle.crontab.proofs.Sound.{EntryLine}
-use Rattle.crontab.proofs.LineViews.{contentStart, AfterUser, CommandAt, line-view}
 use Rattle.crontab.proofs.EntryViews.{found-entry}
-
-pub behind-next : (n : ℕ) (l : List ℕ) (at : ℕ) → 0 < n → behind n l at ≡ behind (n - 1) l (skipped Blank l (skipped Solid l at))
-unfolding behind
-behind-next zero l at h = absurd (omega arith)
-behind-next (suc n) l at h = simp unary-clauses
 
 -- a part of a line is shown where it is in the table, and an empty one as absent
 abbrev pub ShownAt : ℕ → Part → Part → Type 0

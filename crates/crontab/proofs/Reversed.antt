@@ -8,7 +8,7 @@ use native.Mathlib.Omega.{arith}
 use Rattle.field.specs.declared.Dialect.{Dialect}
 use Rattle.field.specs.declared.Dialect.the-variants.{Rising, Wrapping}
 use Rattle.field.specs.Refusals.{reversed}
-use Rattle.crontab.specs.declared.Rules.{Rules}
+use Rattle.line.specs.declared.Rules.{Rules}
 use Rattle.crontab.specs.declared.table.Table.{Table}
 use Rattle.crontab.specs.Items.{Items, done, fault, setting, entry, itemsOf}
 use Rattle.crontab.specs.Tables.{refusedTable, emptyTable, withEntry, withItems, tableOf, verdictOf}

@@ -10,23 +10,23 @@ use lib.ListN.{length, drop, length-append}
 use lib.Dec.{ltb}
 use lib.IntN.{ℤ}
 use borrow.Author.Tests.{ltb-true, ltb-false}
-use Rattle.crontab.specs.declared.Rules.{Rules}
-use Rattle.crontab.specs.declared.Part.{Part}
+use Rattle.line.specs.declared.Rules.{Rules}
+use Rattle.line.specs.declared.Part.{Part}
 use Rattle.crontab.specs.declared.entry.Entry.{Entry}
-use Rattle.crontab.specs.declared.line.Line.{Line}
-use Rattle.crontab.specs.declared.line.Line.the-variants as line
+use Rattle.line.specs.declared.Line.{Line}
+use Rattle.line.specs.declared.Line.the-variants as line
 use Rattle.schedule.specs.Local.{InZones}
-use Rattle.crontab.specs.Offsets.{utc, inForce}
-use Rattle.crontab.specs.Limits.{maxTable, maxLine, maxEntries}
-use Rattle.crontab.specs.Lines.{linesOf, isCut, isLast, readLine}
+use Rattle.line.specs.Offsets.{utc, inForce}
+use Rattle.crontab.specs.Limits.{maxTable, maxEntries}
+use Rattle.line.specs.Limits.{maxLine}
+use Rattle.crontab.specs.Lines.{linesOf, isCut, isLast}
+use Rattle.line.specs.Lines.{readLine}
 use Rattle.crontab.specs.Items.{Items, done, fault, setting, entry, moved, placed, afterLine, lastFault, faultOf, itemsFrom, itemsOf}
-use Rattle.crontab.proofs.Offsets.{force-in}
+use Rattle.line.proofs.Theorems.{force-in, Inside, LineView, setting-zoned, line-view, LineRefused, refused}
 use Rattle.crontab.proofs.Lines.{LinesAt, lines-at, lines-some}
 use Rattle.bytes.specs.Runs.{between}
 use Rattle.bytes.proofs.Places.{Stands, between-here}
-use Rattle.crontab.specs.declared.time.When.{When}
-use Rattle.crontab.proofs.LineViews.{Inside, LineView, setting-zoned, line-view}
-use Rattle.crontab.proofs.TimeViews.{LineRefused, refused}
+use Rattle.line.specs.declared.time.When.{When}
 pub use Rattle.crontab.specs.Steps.{Sound}
 
 -- ---- items of a table, from line m on and after k entries

@@ -9,8 +9,6 @@
 --   setting-inside, setting-short: where name and value stand
 --   next-setting: the first line from a line on that has a setting is the least one, and where there is none no line has one
 --   line-told: what is answered there, refused or not
---   time-view, content-view, line-view: for each answer of reading a time or a line, all that is known of it
---   zoned-is, setting-says: what a setting says of the offset, by its shown name and value; one that is read may stand
 --   due-told, next-told: what is said of an entry, refused or not
 --   next-in-gap: a next firing that is told is at most 21,036,960 minutes ahead
 --   next-by-clock: a next firing, refused or not, is what the slow engine of ticket 2026-07 says, minute by minute under the entry's offset;
@@ -19,20 +17,12 @@
 --   never-reversed, verdict-never-reversed: never for a table in the second dialect, whatever its bytes
 -- "In the first dialect nothing changes":
 --   first-dialect-same: a table is in it what it was before there was a second, entry by entry and fault by fault
--- Kind and dialect act apart from each other:
---   system-line: a system's line is the user's up to the end of its time, in each dialect; so a user's refusal is the system's, with its column
---   dialect-line, time-ends: where both dialects read the time, the lines differ in its sets alone, in each kind
---   word-line, other-line: a word is the same in both dialects, and a line that doesn't start as an entry under all rules
---   items-alike, table-alike: rules act on each line apart from the others; untimed-table: a table of settings and words is the same in both dialects
--- What has a meaning, and nothing else:
---   leading-blanks, field-spaced, word-spaced, setting-spaced, value-spaced, quoted-whole: what is read at a place, by the bytes that are there, however many blanks
---     are around them and however long they are
---   known-word: a word that is known is one of the eight; offset-name: a setting changes the offset exactly if its name is `CRON_TZ`
+-- Rules act on each line apart from the others:
+--   items-alike, table-alike: where all lines are read alike, so are the tables; untimed-table: a table of settings and words is the same in both dialects
 -- "Matching, next firing and the line are proved once over both": all the others here hold of any rules, whatever their dialect.
 -- Each rule once more in other words, for any bytes and numbers:
 --   LineByLine: what each line of a table is in it, by the lines before it: good-accepted, all-accepted, too-long, fault-of-line, entry-too-many, last-cut,
 --     entry-of-line, setting-of-line, no-setting-of-line; LineEnds: line-ends, line-alone, cut-is
---   FiveFields: the five fields of a line, and lines that have fewer; WholeLines: a line by its first byte, its time, its command, its name and value, its bytes
 --   EntryTimes: what an entry does goes by its time and its offset alone
 -- Extremes uses table-sound, cut-refused, next-setting, first-dialect-same and never-reversed for system tables, their last entry and a line past the last.
 -- Assumes nothing.
@@ -53,19 +43,20 @@ use Rattle.schedule.specs.declared.Next.{Next}
 use Rattle.schedule.specs.declared.Next.the-variants as next
 use Rattle.schedule.specs.Local.{ahead, nextAfterIn}
 use Rattle.schedule.proofs.Theorems.{next-on-calendar-in}
-use Rattle.crontab.specs.declared.Rules.{Rules}
-use Rattle.crontab.specs.declared.Part.{Part}
-use Rattle.crontab.specs.declared.Kind.{Kind}
-use Rattle.crontab.specs.declared.Kind.the-variants.{User, System}
-use Rattle.crontab.specs.declared.user.Owner.{Owner}
+use Rattle.line.specs.declared.Rules.{Rules}
+use Rattle.line.specs.declared.Part.{Part}
+use Rattle.line.specs.declared.Kind.{Kind}
+use Rattle.line.specs.declared.Kind.the-variants.{User, System}
+use Rattle.line.specs.declared.user.Owner.{Owner}
 use Rattle.bytes.specs.Refusals.{IsRefusal}
 use Rattle.bytes.specs.Runs.{between}
-use Rattle.crontab.specs.Users.{absent}
-use Rattle.crontab.specs.Entries.{byKind}
-use Rattle.crontab.specs.Owners.{nobody, lineOwner, shifted, shiftedAll, ownerFrom, ownerOf, ownerAnswer, ownerIn}
-use Rattle.crontab.proofs.Users.{owner-within}
-use Rattle.crontab.specs.declared.time.When.{When}
-use Rattle.crontab.specs.declared.time.When.the-variants.{Reboot, Timed}
+use Rattle.line.specs.Users.{absent}
+use Rattle.line.specs.Entries.{byKind}
+use Rattle.crontab.specs.Owners.{shifted, shiftedAll, ownerFrom, ownerOf, ownerAnswer, ownerIn}
+use Rattle.line.specs.Owners.{nobody, lineOwner}
+use Rattle.line.proofs.Theorems.{Inside, owner-within}
+use Rattle.line.specs.declared.time.When.{When}
+use Rattle.line.specs.declared.time.When.the-variants.{Reboot, Timed}
 use Rattle.crontab.specs.declared.entry.Entry.{Entry}
 use Rattle.crontab.specs.declared.table.Table.{Table}
 use Rattle.crontab.specs.declared.table.EntryAnswer.{EntryAnswer}
@@ -77,14 +68,14 @@ use Rattle.crontab.specs.declared.firing.DueAnswer.{DueAnswer}
 use Rattle.crontab.specs.declared.firing.DueAnswer.the-variants as due
 use Rattle.crontab.specs.declared.firing.NextAnswer.{NextAnswer}
 use Rattle.crontab.specs.declared.firing.NextAnswer.the-variants.{At, Refused}
-use Rattle.crontab.specs.Limits.{maxTable, maxLine, maxEntries}
+use Rattle.crontab.specs.Limits.{maxTable, maxEntries}
+use Rattle.line.specs.Limits.{maxLine}
 use Rattle.crontab.specs.Lines.{linesOf, isCut}
-use Rattle.crontab.specs.Offsets.{utc}
+use Rattle.line.specs.Offsets.{utc}
 use Rattle.crontab.specs.Items.{Items, done, fault, setting, entry, moved, itemsFrom, itemsOf}
 use Rattle.crontab.specs.Tables.{blankEntry, noEntries, refusedTable, emptyTable, withEntry, withItems, tableOf, entryIn}
 use Rattle.crontab.specs.Settings.{refusedSetting, shown, settingFrom, settingIn, nextLineIn}
 use Rattle.crontab.specs.Firings.{byWhen, firesAt, dueOf, told, nextOf, dueAnswer, dueIn, nextAnswer, nextIn}
-pub use Rattle.crontab.proofs.LineViews.{Inside}
 use Rattle.crontab.proofs.Sound.{Sound, SoundItems, items-sound}
 pub use Rattle.crontab.proofs.Gap.{next-in-gap}
 pub use Rattle.crontab.proofs.Clocks.{next-by-clock, clock-used}
@@ -92,16 +83,10 @@ pub use Rattle.crontab.proofs.Cuts.{cut-refused}
 pub use Rattle.crontab.proofs.Owners.{ShownAt, OwnerJudged, owner-judged, owner-named}
 pub use Rattle.crontab.proofs.Reversed.{never-reversed, verdict-never-reversed}
 pub use Rattle.crontab.proofs.FirstDialect.{first-dialect-same}
-pub use Rattle.crontab.proofs.KindsDialects.{withColumn, system-line, withWhen, time-ends, dialect-line, word-line, other-line, ReadAlike, items-alike, table-alike, Untimed, untimed-table}
-pub use Rattle.crontab.proofs.ExactWords.{AnyOf, known-word, offset-name}
-pub use Rattle.crontab.proofs.Spacing.{leading-blanks, field-spaced, word-spaced, after-spaced, quoted-whole, value-spaced, name-whole, setting-spaced}
+pub use Rattle.crontab.proofs.Alike.{ReadAlike, items-alike, table-alike, Untimed, untimed-table}
 pub use Rattle.crontab.proofs.EntryViews.{FoundEntry, FoundView, found-view, entry-sound, entry-on-line}
 pub use Rattle.crontab.proofs.LineNumbers.{HasSetting, HasNone, NextSetting, next-setting}
-pub use Rattle.crontab.proofs.Zones.{zoned-is}
 pub use Rattle.crontab.proofs.Lines.{LinesAt, lines-at}
-pub use Rattle.crontab.proofs.TimeViews.{FromField, FromFields, WhenView, TimeRead, TimeView, time-view}
-pub use Rattle.crontab.proofs.TextViews.{Quoted, NamePart, BareValue, ValuePart}
-pub use Rattle.crontab.proofs.LineViews.{contentStart, EntryView, SettingView, ContentView, content-view, LineView, line-view, setting-says}
 
 -- ---- a table
 

@@ -8,10 +8,10 @@ use Prim.Native.Nat.{ℕ, _+_, _-_, _<_}
 use native.Mathlib.Omega.{arith}
 use lib.ListN.{length, set}
 use lib.Dec.{eqb}
-use Rattle.crontab.specs.declared.Rules.{Rules}
-use Rattle.crontab.specs.declared.Part.{Part}
+use Rattle.line.specs.declared.Rules.{Rules}
+use Rattle.line.specs.declared.Part.{Part}
 use Rattle.crontab.specs.declared.entry.Entry.{Entry}
-use Rattle.crontab.specs.declared.line.Fault.{Fault}
+use Rattle.line.specs.declared.Fault.{Fault}
 use Rattle.crontab.specs.declared.table.EntryAnswer.{EntryAnswer}
 use Rattle.crontab.specs.declared.table.EntryAnswer.the-variants.{Found, Refused}
 use Rattle.crontab.specs.declared.setting.SettingAnswer.{SettingAnswer}

@@ -13,8 +13,8 @@ use Rattle.schedule.specs.declared.Next.the-variants as next
 use Rattle.schedule.specs.declared.local.LocalDate.{LocalDate}
 use Rattle.schedule.specs.Next.{refusalOf}
 use Rattle.schedule.specs.Local.{ahead, matchesIn, matchesLocal, nextAfterIn}
-use Rattle.crontab.specs.declared.time.When.{When}
-use Rattle.crontab.specs.declared.time.When.the-variants.{Reboot, Timed}
+use Rattle.line.specs.declared.time.When.{When}
+use Rattle.line.specs.declared.time.When.the-variants.{Reboot, Timed}
 use Rattle.crontab.specs.declared.entry.Entry.{Entry}
 use Rattle.crontab.specs.declared.table.Table.{Table}
 use Rattle.crontab.specs.declared.table.EntryAnswer.{EntryAnswer}

@@ -8,16 +8,17 @@ use lib.ListN.{length}
 use lib.Dec.{ltb}
 use lib.IntN.{ℤ}
 use Rattle.crontab.specs.declared.entry.Entry.{Entry}
-use Rattle.crontab.specs.declared.Part.{Part}
-use Rattle.crontab.specs.declared.time.When.{When}
-use Rattle.crontab.specs.declared.Rules.{Rules}
-use Rattle.crontab.specs.declared.line.Fault.{Fault}
-use Rattle.crontab.specs.declared.line.Line.{Line}
-use Rattle.crontab.specs.declared.line.Line.the-variants as line
+use Rattle.line.specs.declared.Part.{Part}
+use Rattle.line.specs.declared.time.When.{When}
+use Rattle.line.specs.declared.Rules.{Rules}
+use Rattle.line.specs.declared.Fault.{Fault}
+use Rattle.line.specs.declared.Line.{Line}
+use Rattle.line.specs.declared.Line.the-variants as line
 use Rattle.crontab.specs.Limits.{maxTable, maxEntries}
 use Rattle.crontab.specs.Refusals.{tableTooLong, tooManyEntries, cutTable}
-use Rattle.crontab.specs.Offsets.{utc, inForce}
-use Rattle.crontab.specs.Lines.{linesOf, isCut, isLast, readLine}
+use Rattle.line.specs.Offsets.{utc, inForce}
+use Rattle.crontab.specs.Lines.{linesOf, isCut, isLast}
+use Rattle.line.specs.Lines.{readLine}
 
 pub data Items : Type 0 where
   done : Items

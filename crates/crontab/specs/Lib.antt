@@ -1,11 +1,5 @@
 pub mod Limits
 pub mod Refusals
-pub mod Offsets
-pub mod Assignments
-pub mod Times
-pub mod Words
-pub mod Users
-pub mod Entries
 pub mod Lines
 pub mod Items
 pub mod Tables
@@ -20,6 +14,4 @@ pub mod Computing
 pub mod Examples
 pub mod ByteRows
 pub mod FarRows
-pub mod WordRows
-pub mod FarColumns
 pub mod LineByLine

@@ -7,11 +7,11 @@ use mathlib.Core.Bool.{Bool, true, false}
 use mathlib.Core.List.{List, [], _∷_}
 use lib.ListN.{length}
 use lib.IntN.{ℤ}
-use Rattle.crontab.specs.declared.Rules.{Rules}
-use Rattle.crontab.specs.declared.line.Line.{Line}
-use Rattle.crontab.specs.declared.line.Line.the-variants as line
-use Rattle.crontab.specs.Offsets.{inForce}
-use Rattle.crontab.specs.Lines.{readLine}
+use Rattle.line.specs.declared.Rules.{Rules}
+use Rattle.line.specs.declared.Line.{Line}
+use Rattle.line.specs.declared.Line.the-variants as line
+use Rattle.line.specs.Offsets.{inForce}
+use Rattle.line.specs.Lines.{readLine}
 
 -- ---- one line
 

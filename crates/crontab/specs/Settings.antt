@@ -2,10 +2,8 @@
 -- Assumes nothing.
 use Prim.Native.Nat.{ℕ}
 use mathlib.Core.Bool.{cond}
-use mathlib.Core.List.{List}
 use lib.Dec.{eqb, leb}
-use Rattle.bytes.specs.Runs.{between}
-use Rattle.crontab.specs.declared.Part.{Part}
+use Rattle.line.specs.declared.Part.{Part}
 use Rattle.crontab.specs.declared.setting.SettingAnswer.{SettingAnswer}
 use Rattle.crontab.specs.declared.setting.LineAnswer.{LineAnswer}
 use Rattle.crontab.specs.declared.setting.LineAnswer.the-variants.{At, Refused}
@@ -28,10 +26,6 @@ settingFrom so-far n (entry e later) = settingFrom so-far n later
 
 unfoldable pub settingIn : Items → ℕ → SettingAnswer
 settingIn items n = settingFrom (refusedSetting noSetting) n items
-
--- the bytes of a part
-abbrev pub partBytes : List ℕ → Part → List ℕ
-partBytes s p = between s (p .start) (p .end)
 
 -- ---- the first setting from a line on
 

@@ -12,19 +12,21 @@ use Rattle.bytes.specs.declared.class.Class.the-variants.{Not, InLine}
 use Rattle.bytes.specs.Classes.{newline}
 use Rattle.bytes.specs.Runs.{skipped, between}
 use Rattle.schedule.specs.Local.{InZones}
-use Rattle.crontab.specs.declared.Rules.{Rules}
+use Rattle.line.specs.declared.Rules.{Rules}
 use Rattle.crontab.specs.declared.entry.Entry.{Entry}
-use Rattle.crontab.specs.declared.line.Fault.{Fault}
-use Rattle.crontab.specs.declared.line.Line.{Line}
-use Rattle.crontab.specs.declared.line.Line.the-variants as line
+use Rattle.line.specs.declared.Fault.{Fault}
+use Rattle.line.specs.declared.Line.{Line}
+use Rattle.line.specs.declared.Line.the-variants as line
 use Rattle.crontab.specs.declared.item.Cursor.{Cursor}
 use Rattle.crontab.specs.declared.item.Item.{Item}
 use Rattle.crontab.specs.declared.item.Item.the-variants as item
 use Rattle.crontab.specs.declared.item.Step.{Step}
-use Rattle.crontab.specs.Limits.{maxTable, maxLine, maxEntries}
+use Rattle.crontab.specs.Limits.{maxTable, maxEntries}
+use Rattle.line.specs.Limits.{maxLine}
 use Rattle.crontab.specs.Refusals.{tooManyEntries}
-use Rattle.crontab.specs.Offsets.{inForce}
-use Rattle.crontab.specs.Lines.{linesOf, isCut, readLine}
+use Rattle.line.specs.Offsets.{inForce}
+use Rattle.crontab.specs.Lines.{linesOf, isCut}
+use Rattle.line.specs.Lines.{readLine}
 use Rattle.crontab.specs.Items.{Items, fault, setting, entry, moved, placed, lastFault, itemsFrom}
 
 -- the items from a cursor on

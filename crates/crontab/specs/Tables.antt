@@ -7,8 +7,8 @@ use mathlib.Core.List.{List, []}
 use lib.ListN.{getD, set, replicate}
 use lib.Dec.{eqb, ltb}
 use Rattle.bytes.specs.Runs.{between}
-use Rattle.crontab.specs.declared.Rules.{Rules}
-use Rattle.crontab.specs.declared.time.When.the-variants.{Reboot}
+use Rattle.line.specs.declared.Rules.{Rules}
+use Rattle.line.specs.declared.time.When.the-variants.{Reboot}
 use Rattle.crontab.specs.declared.entry.Entry.{Entry}
 use Rattle.crontab.specs.declared.table.Table.{Table}
 use Rattle.crontab.specs.declared.table.Verdict.{Verdict}
@@ -16,7 +16,7 @@ use Rattle.crontab.specs.declared.table.EntryAnswer.{EntryAnswer}
 use Rattle.crontab.specs.declared.table.EntryAnswer.the-variants.{Found, Refused}
 use Rattle.crontab.specs.Limits.{maxEntries}
 use Rattle.crontab.specs.Refusals.{noSuchEntry}
-use Rattle.crontab.specs.Offsets.{utc}
+use Rattle.line.specs.Offsets.{utc}
 use Rattle.crontab.specs.Items.{Items, done, fault, setting, entry, itemsOf}
 
 -- what stands in the place of an entry that isn't there

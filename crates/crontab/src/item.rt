@@ -2,22 +2,22 @@
 ghost use mathlib.Core.Path.{_≡_};
 ghost use Prim.Native.Nat.{_+_, _≤_, _<_};
 ghost use lib.ListN.{length};
-ghost use Rattle.crontab.specs.Limits.{maxTable, maxLine};
+ghost use Rattle.crontab.specs.Limits.{maxTable};
+ghost use Rattle.line.specs.Limits.{maxLine};
 ghost use Rattle.crontab.specs.Items.{moved, placed, lastFault};
 ghost use Rattle.crontab.specs.Steps.{behind, Reached, LineAt, StepIs};
 use crate::CUT_TABLE;
 use crate::MAX_ENTRIES;
-use crate::Part;
-use crate::Rules;
 use crate::TOO_MANY_ENTRIES;
 use crate::entry::Entry;
-use crate::line;
-use crate::line::Fault;
-use crate::line::Line;
-use crate::offset::in_force;
-use crate::time::When;
 use bytes::class::Class;
 use bytes::run::skip;
+use line::Fault;
+use line::Line;
+use line::Part;
+use line::Rules;
+use line::offset::in_force;
+use line::time::When;
 
 // Where a line starts, its number from 1, how many entries stand before it, and the offset from UTC that is in force.
 pub struct Cursor {

@@ -2,62 +2,23 @@
 ghost use mathlib.Core.Path.{_≡_};
 ghost use Prim.Native.Nat.{_^_, _≤_, _<_};
 ghost use lib.ListN.{length};
-ghost use Rattle.crontab.specs.Limits.{maxLine};
-ghost use Rattle.crontab.specs.Owners.{behind, timeRuns, lineOwner, shifted, ownerFrom, ownerOf, ownerIn};
+ghost use Rattle.line.specs.Limits.{maxLine};
+ghost use Rattle.crontab.specs.Owners.{shifted, ownerFrom, ownerOf, ownerIn};
 ghost use Rattle.crontab.specs.Steps.{Sound};
-use crate::Kind;
-use crate::Part;
-use crate::Rules;
 use crate::entry::Entry;
 use crate::table::EntryAnswer;
 use crate::table::find_entry;
-use crate::user;
-use crate::user::Column;
-use crate::user::NOBODY;
-use crate::user::Owner;
-use bytes::class::Class;
-use bytes::run::byte_at;
-use bytes::run::skip;
+use line::Kind;
+use line::Part;
+use line::Rules;
+use line::user::NOBODY;
+use line::user::Owner;
+use line::user::line_owner;
 
 // Whose an entry is: user, group and class as parts of the table. A refused answer has all three absent.
 pub struct OwnerAnswer {
     pub refusal: u8,
     pub owner: Owner,
-}
-
-// Where a line goes on behind so many runs of non-blank bytes, each with its blanks.
-fn behind(l: &[u8], at: usize, runs: usize) -> usize
-    ensures { λ r. ⌜ r ≡ behind runs (now (l .entry)) at ⌝ }
-{
-    let mut at = at;
-    let mut left = runs;
-    while 0 < left {
-        at = skip(l, skip(l, at, Class::Solid), Class::Blank);
-        left -= 1;
-    }
-    at
-}
-
-// The runs of the time that starts at a place: an `@` word is one, the fields are five.
-fn time_runs(l: &[u8], at: usize) -> usize
-    ensures { λ r. ⌜ r ≡ timeRuns (now (l .entry)) at ⌝ }
-{
-    if byte_at(l, at) == b'@' {
-        return 1;
-    }
-    5
-}
-
-// The owner of the entry that a line is.
-fn line_owner(l: &[u8]) -> Owner
-    ensures { λ r. ⌜ r ≡ lineOwner (now (l .entry)) ⌝ }
-{
-    let at = skip(l, 0, Class::Blank);
-    let Column::Named { owner, next: _ } = user::column_at(l, behind(l, at, time_runs(l, at)))
-    else {
-        return NOBODY;
-    };
-    owner
 }
 
 // A part of a line that starts at a place of the table; an absent one stays where it is.

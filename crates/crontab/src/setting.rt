@@ -2,14 +2,15 @@
 ghost use mathlib.Core.Path.{_≡_};
 ghost use mathlib.Core.Bool.{cond};
 ghost use Rattle.crontab.specs.Items.{itemsOf};
-ghost use Rattle.crontab.specs.Settings.{refusedSetting, shown, settingIn, partBytes, lineOr, nextLineIn};
+ghost use Rattle.crontab.specs.Settings.{refusedSetting, shown, settingIn, lineOr, nextLineIn};
+ghost use Rattle.line.specs.Assignments.{partBytes};
 use crate::MAX_TABLE;
 use crate::NO_SETTING;
-use crate::Part;
-use crate::Rules;
 use crate::TABLE_TOO_LONG;
 use crate::item;
 use crate::item::Item;
+use line::Part;
+use line::Rules;
 
 // A setting: where its name and its value stand in the table, without quotes. A refused one has both empty.
 pub struct SettingAnswer {

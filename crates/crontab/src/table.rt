@@ -6,12 +6,12 @@ ghost use Rattle.crontab.specs.Tables.{refusedTable, tableOf, verdictOf,
 use crate::MAX_ENTRIES;
 use crate::MAX_TABLE;
 use crate::NO_SUCH_ENTRY;
-use crate::Rules;
 use crate::TABLE_TOO_LONG;
 use crate::entry::Entry;
 use crate::item;
 use crate::item::Item;
-use crate::time::When;
+use line::Rules;
+use line::time::When;
 
 // What a table means. A good one has refusal, line and column 0; a refused one has no entries.
 pub struct Table {

@@ -10,7 +10,7 @@ use lib.ListN.{length, take, drop, getD, length-append}
 use lib.Seq.{getD-take}
 use lib.Dec.{eqb, leb}
 use Rattle.field.specs.declared.Dialect.the-variants.{Rising}
-use Rattle.crontab.specs.declared.Kind.the-variants.{User}
+use Rattle.line.specs.declared.Kind.the-variants.{User}
 use Rattle.crontab.specs.declared.table.Table.{Table}
 use Rattle.crontab.proofs.Theorems.{table-sound}
 use Rattle.firings.specs.declared.Filled.{Filled}

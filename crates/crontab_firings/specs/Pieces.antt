@@ -7,7 +7,7 @@ use Prim.Native.Nat.{ℕ, _≤_, _<_}
 use mathlib.Core.List.{List, [], _++_}
 use lib.ListN.{length, take, drop}
 use Rattle.field.specs.declared.Dialect.the-variants.{Rising}
-use Rattle.crontab.specs.declared.Kind.the-variants.{User}
+use Rattle.line.specs.declared.Kind.the-variants.{User}
 use Rattle.crontab.specs.declared.table.Table.{Table}
 use Rattle.crontab.specs.Tables.{tableOf}
 use Rattle.firings.specs.declared.Filled.the-variants as filled

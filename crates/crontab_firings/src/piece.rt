@@ -2,10 +2,10 @@
 ghost use lib.ListN.{length};
 ghost use Rattle.crontab_firings.specs.Pieces.{userTable, PieceIs};
 use crate::lines;
-use crontab::Kind;
-use crontab::Rules;
 use field::Dialect;
 use firings::Filled;
+use line::Kind;
+use line::Rules;
 
 // More places than a table has entries, so that a piece has all firings of its first minute.
 const PLACES: usize = 4096;

@@ -16,7 +16,7 @@ use Rattle.calendar.specs.declared.DateAnswer.{DateAnswer}
 use Rattle.calendar.specs.declared.MinuteAnswer.{MinuteAnswer}
 use Rattle.calendar.specs.Dates.{firstYear, lastYear, lastMinute, dateAt, noDate, dateOf, exists, minuteAt, minuteOf}
 use Rattle.calendar.proofs.Theorems.{parts-within, date-minute-date}
-use Rattle.crontab.specs.declared.Rules.{Rules}
+use Rattle.line.specs.declared.Rules.{Rules}
 use Rattle.crontab.specs.declared.entry.Entry.{Entry}
 use Rattle.crontab.specs.declared.table.EntryAnswer.{EntryAnswer}
 use Rattle.crontab.specs.declared.table.EntryAnswer.the-variants as entry

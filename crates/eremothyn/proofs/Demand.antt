@@ -12,7 +12,7 @@ use lib.ListN.{length, take, drop, getD, replicate}
 use borrow.Author.Tests.{ltb-true, leb-true, eqb-true, ne-eqb, le-leb, lt-leb}
 use Rattle.bytes.specs.Texts.{text}
 use Rattle.calendar.specs.Dates.{lastMinute}
-use Rattle.crontab.specs.declared.Rules.{Rules}
+use Rattle.line.specs.declared.Rules.{Rules}
 use Rattle.crontab.specs.declared.table.Table.{Table}
 use Rattle.crontab.specs.Limits.{maxEntries}
 use Rattle.crontab.specs.declared.firing.DueAnswer.{DueAnswer}

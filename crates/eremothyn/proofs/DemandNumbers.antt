@@ -7,7 +7,7 @@ use Prim.Native.Nat.{ℕ, suc, _+_, _-_, _*_, _≤_, _<_}
 use native.Mathlib.Omega.{arith}
 use lib.ListN.{take, getD}
 use borrow.Author.Tests.{lt-ltb, le-ltb}
-use Rattle.crontab.specs.declared.Rules.{Rules}
+use Rattle.line.specs.declared.Rules.{Rules}
 use Rattle.fifo.specs.Fairness.{Call, Paced, upTo}
 use Rattle.fifo.specs.FairEvery.{PacedEvery, steadyEvery}
 use Rattle.fifo.specs.Waits.{requests, upToRequest}

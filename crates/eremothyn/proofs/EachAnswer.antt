@@ -9,7 +9,7 @@ use Rattle.bytes.specs.Runs.{between}
 use Rattle.command.specs.Buffers.{Split, splitStep}
 use Rattle.command.specs.declared.SplitAnswer.the-variants as split
 use Rattle.command.specs.Parts.{inputOf, inputLength}
-use Rattle.crontab.specs.declared.Rules.{Rules}
+use Rattle.line.specs.declared.Rules.{Rules}
 use Rattle.crontab.specs.declared.entry.Entry.{Entry}
 use Rattle.crontab.specs.declared.table.Table.{Table}
 use Rattle.crontab.specs.declared.table.EntryAnswer.the-variants as entry

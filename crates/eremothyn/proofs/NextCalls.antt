@@ -14,8 +14,8 @@ use Rattle.schedule.specs.declared.Schedule.{Schedule}
 use Rattle.schedule.specs.Local.{ahead, matchesIn}
 use Rattle.schedule.specs.Computing.{firing}
 use Rattle.schedule.proofs.Theorems.{next-at-in}
-use Rattle.crontab.specs.declared.Rules.{Rules}
-use Rattle.crontab.specs.declared.time.When.the-variants.{Timed}
+use Rattle.line.specs.declared.Rules.{Rules}
+use Rattle.line.specs.declared.time.When.the-variants.{Timed}
 use Rattle.crontab.specs.declared.entry.Entry.{Entry}
 use Rattle.crontab.specs.declared.table.EntryAnswer.the-variants.{Found}
 use Rattle.crontab.specs.Tables.{tableOf, entryIn}

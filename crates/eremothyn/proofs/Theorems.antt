@@ -34,16 +34,16 @@ use Rattle.schedule.specs.Next.{nextAfter}
 use Rattle.schedule.specs.Local.{ahead, nextAfterIn}
 use Rattle.schedule.proofs.Theorems.{utc-next, known-days-in}
 use lib.IntN.{ℤ, pos, negsuc}
-use Rattle.crontab.specs.declared.Rules.{Rules}
+use Rattle.line.specs.declared.Rules.{Rules}
 use Rattle.crontab.specs.declared.entry.Entry.{Entry}
-use Rattle.crontab.specs.Offsets.{utc}
+use Rattle.line.specs.Offsets.{utc}
 use Rattle.schedule.specs.Examples.{leapDay, fridays, february30, mondays30, lastDay, leapSundays, evenings, everyMinute, schedules}
 use Rattle.schedule.proofs.KnownDays as firings
 use Rattle.field.specs.Computing as field
 use Rattle.crontab.specs.declared.table.Table.{Table}
 use Rattle.crontab.specs.declared.firing.NextAnswer.{NextAnswer}
 use Rattle.crontab.specs.declared.firing.NextAnswer.the-variants as next
-use Rattle.crontab.specs.declared.time.When.the-variants.{Timed}
+use Rattle.line.specs.declared.time.When.the-variants.{Timed}
 use Rattle.crontab.specs.declared.table.EntryAnswer.the-variants.{Found}
 use Rattle.crontab.specs.Limits.{maxTable, maxEntries}
 use Rattle.crontab.specs.Items.{itemsOf}

@@ -1,7 +1,7 @@
 -- Ticket 2026-04: an entry's user, group and class as a C caller gets them: where each starts in the table, and its length.
 -- Assumes nothing.
 use Prim.Native.Nat.{ℕ, _-_}
-use Rattle.crontab.specs.declared.user.Owner.{Owner}
+use Rattle.line.specs.declared.user.Owner.{Owner}
 use Rattle.crontab.specs.declared.owner.OwnerAnswer.{OwnerAnswer}
 use Rattle.eremothyn.specs.declared.owners.Owned.{Owned}
 use Rattle.eremothyn.specs.declared.owners.Owned.the-variants.{UserOffset, UserLength, GroupOffset, GroupLength, ClassOffset, ClassLength}

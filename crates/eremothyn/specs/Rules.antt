@@ -3,9 +3,9 @@
 use Prim.Native.Nat.{ℕ, zero, suc}
 use Rattle.field.specs.declared.Dialect.{Dialect}
 use Rattle.field.specs.declared.Dialect.the-variants.{Rising, Wrapping}
-use Rattle.crontab.specs.declared.Kind.{Kind}
-use Rattle.crontab.specs.declared.Kind.the-variants.{User, System}
-use Rattle.crontab.specs.declared.Rules.{Rules}
+use Rattle.line.specs.declared.Kind.{Kind}
+use Rattle.line.specs.declared.Kind.the-variants.{User, System}
+use Rattle.line.specs.declared.Rules.{Rules}
 
 abbrev pub kindOf : ℕ → Kind
 kindOf zero = User

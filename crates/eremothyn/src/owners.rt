@@ -8,7 +8,7 @@ ghost use Rattle.eremothyn.specs.Calls.{userOffsetCall, userLengthCall, 
 use crate::answer::answer;
 use crate::rules::rules_of;
 use crontab::owner;
-use crontab::user::Owner;
+use line::user::Owner;
 
 // What is asked of an owner.
 enum Owned {

@@ -1,9 +1,9 @@
 // How a table is read, as a C caller says it.
 ghost use mathlib.Core.Path.{_≡_};
 ghost use Rattle.eremothyn.specs.Rules.{dialectOf, rulesOf};
-use crontab::Kind;
-use crontab::Rules;
 use field::Dialect;
+use line::Kind;
+use line::Rules;
 
 // 0 is the first dialect, any other number the second.
 pub(crate) fn dialect_of(dialect: u64) -> Dialect

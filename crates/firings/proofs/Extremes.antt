@@ -8,7 +8,7 @@ use Prim.Native.Nat.{ℕ, _-_, _≤_, _<_}
 use native.Mathlib.Omega.{arith}
 use lib.ListN.{length, take, getD}
 use Rattle.bytes.specs.Passing.{passing}
-use Rattle.crontab.specs.declared.Rules.{Rules}
+use Rattle.line.specs.declared.Rules.{Rules}
 use Rattle.crontab.specs.declared.entry.Entry.{Entry}
 use Rattle.crontab.specs.declared.table.Table.{Table}
 use Rattle.crontab.specs.declared.table.EntryAnswer.the-variants.{Found}

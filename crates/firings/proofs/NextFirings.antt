@@ -15,7 +15,7 @@ use Rattle.schedule.specs.declared.Next.{Next}
 use Rattle.schedule.specs.declared.Next.the-variants.{At, Never, PastEnd}
 use Rattle.schedule.specs.Local.{ahead, matchesIn, nextAfterIn}
 use Rattle.schedule.proofs.Theorems.{next-at-in, next-is-in}
-use Rattle.crontab.specs.declared.time.When.the-variants.{Reboot, Timed}
+use Rattle.line.specs.declared.time.When.the-variants.{Reboot, Timed}
 use Rattle.crontab.specs.declared.entry.Entry.{Entry}
 use Rattle.crontab.specs.Firings.{firesAt}
 use Rattle.bytes.specs.Passing.{passingUpTo}

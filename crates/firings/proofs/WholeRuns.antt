@@ -13,8 +13,8 @@ use Rattle.bytes.specs.Laid.{laid}
 use Rattle.calendar.specs.Dates.{lastMinute}
 use Rattle.crontab.specs.declared.entry.Entry.{Entry}
 use Rattle.crontab.specs.declared.table.Table.{Table}
-use Rattle.crontab.specs.declared.time.When.{When}
-use Rattle.crontab.specs.declared.time.When.the-variants.{Reboot, Timed}
+use Rattle.line.specs.declared.time.When.{When}
+use Rattle.line.specs.declared.time.When.the-variants.{Reboot, Timed}
 use Rattle.crontab.specs.declared.table.EntryAnswer.the-variants.{Found}
 use Rattle.crontab.specs.Tables.{entryIn}
 use Rattle.crontab.specs.Firings.{byWhen}

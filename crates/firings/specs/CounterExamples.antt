@@ -7,7 +7,7 @@ use mathlib.Core.Path.{ap}
 use lib.ListN.{getD}
 use Rattle.bytes.specs.Texts.{text}
 use Rattle.field.specs.declared.Dialect.the-variants.{Rising}
-use Rattle.crontab.specs.declared.Kind.the-variants.{User}
+use Rattle.line.specs.declared.Kind.the-variants.{User}
 use Rattle.crontab.specs.declared.table.Table.{Table}
 use Rattle.crontab.specs.Tables.{tableOf}
 use Prim.Native.Nat.{ℕ}

@@ -10,7 +10,7 @@ use lib.ListN.{getD}
 use Rattle.bytes.specs.Texts.{text}
 use Rattle.bytes.specs.Rows.{Hold}
 use Rattle.field.specs.declared.Dialect.the-variants.{Rising}
-use Rattle.crontab.specs.declared.Kind.the-variants.{User}
+use Rattle.line.specs.declared.Kind.the-variants.{User}
 use Rattle.crontab.specs.declared.table.Table.{Table}
 use Rattle.crontab.specs.Tables.{tableOf}
 use Rattle.firings.specs.declared.Filled.{Filled}

@@ -9,7 +9,7 @@ ghost use Rattle.crontab.specs.Firings.{firesAt};
 ghost use Rattle.firings.specs.Keys.{minuteOrEnd};
 use calendar::LAST_MINUTE;
 use crontab::entry::Entry;
-use crontab::time::When;
+use line::time::When;
 use schedule::Next;
 use schedule::local;
 

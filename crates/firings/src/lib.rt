@@ -10,10 +10,10 @@ ghost use Rattle.firings.specs.Calls.{firingsIn, mergedIn};
 use calendar::LAST_MINUTE;
 use calendar::NOT_ON_CALENDAR;
 use crontab::AT_BOOT_ONLY;
-use crontab::Rules;
 use crontab::firing::is_boot;
 use crontab::table;
 use crontab::table::EntryAnswer;
+use line::Rules;
 
 // What was filled.
 pub enum Filled {

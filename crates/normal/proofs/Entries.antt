@@ -15,9 +15,9 @@ use Rattle.bytes.proofs.Places.{are-between, between-first}
 use Rattle.field.specs.declared.Limits.{Limits}
 use Rattle.field.specs.Written.{isField}
 use Rattle.field.proofs.Theorems.{Usual, minute-usual, hour-usual, day-usual, month-usual, weekday-usual, field-proper}
-use Rattle.crontab.specs.declared.time.When.{When}
-use Rattle.crontab.specs.declared.time.When.the-variants.{Reboot, Timed}
-use Rattle.crontab.proofs.Theorems.{FromField, WhenView}
+use Rattle.line.specs.declared.time.When.{When}
+use Rattle.line.specs.declared.time.When.the-variants.{Reboot, Timed}
+use Rattle.line.proofs.Theorems.{FromField, WhenView}
 use Rattle.normal.specs.Meanings.{entryItem}
 use Rattle.normal.specs.Proper.{isCommand, isSchedule, isItem, areItems}
 

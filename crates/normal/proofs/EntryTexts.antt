@@ -23,14 +23,14 @@ use Rattle.field.specs.Numbers.{isDigit}
 use Rattle.field.specs.Written.{fieldText, isField}
 use Rattle.field.proofs.Theorems.{Usual, minute-usual, hour-usual, day-usual, month-usual, weekday-usual, field-back, FieldByte, field-bytes, field-solid, Begins, field-begins}
 use Rattle.schedule.specs.declared.Schedule.{Schedule}
-use Rattle.crontab.specs.declared.time.When.{When}
-use Rattle.crontab.specs.declared.time.When.the-variants.{Reboot, Timed}
-use Rattle.crontab.specs.declared.time.Field.the-variants as field
-use Rattle.crontab.specs.declared.time.Time.the-variants as time
-use Rattle.crontab.specs.Times.{answered, fieldAt, after, fieldsAt}
-use Rattle.crontab.specs.Words.{reboot}
-use Rattle.crontab.specs.Entries.{timeAt, withCommand, afterTime, entryAt}
-use Rattle.crontab.specs.Lines.{startsEntry}
+use Rattle.line.specs.declared.time.When.{When}
+use Rattle.line.specs.declared.time.When.the-variants.{Reboot, Timed}
+use Rattle.line.specs.declared.time.Field.the-variants as field
+use Rattle.line.specs.declared.time.Time.the-variants as time
+use Rattle.line.specs.Times.{answered, fieldAt, after, fieldsAt}
+use Rattle.line.specs.Words.{reboot}
+use Rattle.line.specs.Entries.{timeAt, withCommand, afterTime, entryAt}
+use Rattle.line.specs.Lines.{startsEntry}
 use Rattle.crontab.specs.Computing.{reading}
 use Rattle.normal.specs.Meanings.{boot, timed, ofUser, entryItem, itemIn}
 use Rattle.normal.specs.Texts.{scheduleText}

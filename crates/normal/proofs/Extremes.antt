@@ -12,7 +12,7 @@ use Rattle.bytes.specs.Texts.{text}
 use Rattle.field.specs.declared.Dialect.the-variants.{Rising, Wrapping}
 use Rattle.schedule.specs.declared.Schedule.{Schedule}
 use Rattle.crontab.specs.Lines.{linesOf}
-use Rattle.crontab.specs.Offsets.{utc, mayStand}
+use Rattle.line.specs.Offsets.{utc, mayStand}
 use Rattle.crontab.specs.Items.{itemsOf}
 use Rattle.crontab.specs.Tables.{tableOf}
 use Rattle.normal.specs.Meanings.{setting, boot, timed, entriesIn, ofUser, meaningOf, offsetsFrom, entryOffsets, lineItems, itemsIn}

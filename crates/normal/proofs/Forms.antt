@@ -13,7 +13,8 @@ use Rattle.bytes.specs.Laid.{laid}
 use Rattle.bytes.specs.Clipped.{clipped, lastPlace, Wrote}
 use Rattle.bytes.proofs.Written.{clipped-laid, wrote-none, wrote-next, wrote-onward, wrote-size, wrote-fits, saturated-small, saturated-past}
 use Rattle.field.specs.declared.Dialect.{Dialect}
-use Rattle.crontab.specs.Limits.{maxTable, maxLine}
+use Rattle.crontab.specs.Limits.{maxTable}
+use Rattle.line.specs.Limits.{maxLine}
 use Rattle.crontab.specs.Tables.{tableOf}
 use Rattle.normal.specs.declared.NormalAnswer.{NormalAnswer}
 use Rattle.normal.specs.declared.NormalAnswer.the-variants as answer

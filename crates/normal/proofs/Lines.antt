@@ -18,15 +18,15 @@ use Rattle.field.specs.Numbers.{isDigit}
 use Rattle.field.proofs.Theorems.{minute-usual, hour-usual, day-usual, month-usual, weekday-usual}
 use Rattle.schedule.specs.declared.Schedule.{Schedule}
 use Rattle.field.specs.declared.Dialect.{Dialect}
-use Rattle.crontab.specs.declared.line.Line.{Line}
-use Rattle.crontab.specs.declared.line.Line.the-variants as line
-use Rattle.crontab.proofs.Theorems.{time-view, contentStart, ContentView, content-view}
-use Rattle.crontab.specs.Assignments.{settingAt}
-use Rattle.crontab.specs.Entries.{entryAt}
-use Rattle.crontab.specs.Lines.{startsEntry, contentFrom, contentOf}
+use Rattle.line.specs.declared.Line.{Line}
+use Rattle.line.specs.declared.Line.the-variants as line
+use Rattle.line.proofs.Theorems.{time-view, contentStart, ContentView, content-view}
+use Rattle.line.specs.Assignments.{settingAt}
+use Rattle.line.specs.Entries.{entryAt}
+use Rattle.line.specs.Lines.{startsEntry, contentFrom, contentOf}
 use Rattle.normal.specs.Meanings.{Item, setting, boot, timed, ofUser, itemIn, lineItems}
 use Rattle.normal.specs.Texts.{inQuotes, quoted, startsOther, isBareName, isBareValue, nameText, valueText, scheduleText, itemText}
-use Rattle.crontab.specs.Offsets.{mayStand}
+use Rattle.line.specs.Offsets.{mayStand}
 use Rattle.normal.specs.Proper.{isQuotable, isName, isValue, isCommand, isSchedule, isItem, areItems}
 use Rattle.normal.proofs.Settings.{name-proper, value-proper}
 use Rattle.normal.proofs.SettingTexts.{name-parts, name-starts, setting-back}

@@ -18,24 +18,23 @@ use Rattle.bytes.specs.Runs.{run, areOf, skipped, trimmed}
 use Rattle.bytes.proofs.Runs.{skipped-from, trimmed-le}
 use Rattle.bytes.proofs.Places.{run-are, are-each, skipped-are, solid-run, solid-first, not-skipped, between-length, Stands, drop-past, byte-here, within-here}
 use Rattle.field.specs.declared.Dialect.{Dialect}
-use Rattle.crontab.specs.declared.Part.{Part}
-use Rattle.crontab.specs.declared.time.When.{When}
-use Rattle.crontab.specs.declared.time.When.the-variants.{Reboot, Timed}
-use Rattle.crontab.specs.declared.time.Time.{Time}
-use Rattle.crontab.specs.declared.time.Time.the-variants as time
-use Rattle.crontab.specs.declared.assignment.Text.{Text}
-use Rattle.crontab.specs.declared.assignment.Text.the-variants.{Found, Malformed}
-use Rattle.crontab.specs.declared.line.Line.{Line}
-use Rattle.crontab.specs.declared.line.Line.the-variants as line
-use Rattle.crontab.specs.Assignments.{quotedAt, nonEmpty, nameAt, closed, valueAt, afterEquals, afterName, settingAt, afterOffset, withOffset, zoned}
-use Rattle.crontab.specs.Words.{same}
-use Rattle.crontab.specs.Offsets.{zoneName, isOffset, offsetOf, readOffset}
-use Rattle.crontab.specs.declared.offset.Zone.the-variants.{Same}
-use Rattle.crontab.specs.declared.offset.OffsetAnswer.the-variants as offset
-use Rattle.crontab.specs.declared.offset.OffsetAnswer.the-variants.{Minutes}
-use Rattle.crontab.specs.Entries.{timeAt, withCommand, afterTime, entryAt}
-use Rattle.crontab.specs.Lines.{startsEntry, contentFrom, contentOf}
-use Rattle.crontab.specs.Settings.{partBytes}
+use Rattle.line.specs.declared.Part.{Part}
+use Rattle.line.specs.declared.time.When.{When}
+use Rattle.line.specs.declared.time.When.the-variants.{Reboot, Timed}
+use Rattle.line.specs.declared.time.Time.{Time}
+use Rattle.line.specs.declared.time.Time.the-variants as time
+use Rattle.line.specs.declared.assignment.Text.{Text}
+use Rattle.line.specs.declared.assignment.Text.the-variants.{Found, Malformed}
+use Rattle.line.specs.declared.Line.{Line}
+use Rattle.line.specs.declared.Line.the-variants as line
+use Rattle.line.specs.Assignments.{quotedAt, nonEmpty, nameAt, closed, valueAt, afterEquals, afterName, settingAt, afterOffset, withOffset, zoned, partBytes}
+use Rattle.line.specs.Words.{same}
+use Rattle.line.specs.Offsets.{zoneName, isOffset, offsetOf, readOffset}
+use Rattle.line.specs.declared.offset.Zone.the-variants.{Same}
+use Rattle.line.specs.declared.offset.OffsetAnswer.the-variants as offset
+use Rattle.line.specs.declared.offset.OffsetAnswer.the-variants.{Minutes}
+use Rattle.line.specs.Entries.{timeAt, withCommand, afterTime, entryAt}
+use Rattle.line.specs.Lines.{startsEntry, contentFrom, contentOf}
 use Rattle.normal.specs.Meanings.{Item, setting, ofUser, entryItem, itemIn, lineItems}
 use Rattle.normal.specs.Texts.{startsOther, isBareName, isBareValue, nameText}
 use Rattle.normal.specs.Proper.{isName}

@@ -14,19 +14,18 @@ use Rattle.bytes.specs.Classes.{isBlank, isQuote, ofClass}
 use Rattle.bytes.specs.Runs.{run, areOf, skipped, trimmed, between}
 use Rattle.bytes.proofs.Runs.{skipped-from}
 use Rattle.bytes.proofs.Places.{solid-run, not-skipped, Stands, drop-past, between-here, skipped-here, byte-here, within-here}
-use Rattle.crontab.specs.declared.Part.{Part}
-use Rattle.crontab.specs.declared.assignment.Text.{Text}
-use Rattle.crontab.specs.declared.assignment.Text.the-variants.{Found}
-use Rattle.crontab.specs.declared.line.Line.the-variants as line
-use Rattle.crontab.specs.Assignments.{quotedAt, nonEmpty, nameAt, closed, valueAt, afterEquals, afterName, settingAt, afterOffset, withOffset, zoned}
-use Rattle.crontab.specs.Words.{same}
-use Rattle.crontab.specs.Offsets.{zoneName, isOffset, offsetOf, readOffset, mayStand}
-use Rattle.crontab.specs.declared.offset.Zone.the-variants.{Same}
-use Rattle.crontab.specs.declared.offset.OffsetAnswer.the-variants as offset
-use Rattle.crontab.specs.declared.offset.OffsetAnswer.the-variants.{Minutes}
+use Rattle.line.specs.declared.Part.{Part}
+use Rattle.line.specs.declared.assignment.Text.{Text}
+use Rattle.line.specs.declared.assignment.Text.the-variants.{Found}
+use Rattle.line.specs.declared.Line.the-variants as line
+use Rattle.line.specs.Assignments.{quotedAt, nonEmpty, nameAt, closed, valueAt, afterEquals, afterName, settingAt, afterOffset, withOffset, zoned, partBytes}
+use Rattle.line.specs.Words.{same}
+use Rattle.line.specs.Offsets.{zoneName, isOffset, offsetOf, readOffset, mayStand}
+use Rattle.line.specs.declared.offset.Zone.the-variants.{Same}
+use Rattle.line.specs.declared.offset.OffsetAnswer.the-variants as offset
+use Rattle.line.specs.declared.offset.OffsetAnswer.the-variants.{Minutes}
 use Rattle.field.specs.Numbers.{isDigit}
-use Rattle.crontab.specs.Lines.{startsEntry}
-use Rattle.crontab.specs.Settings.{partBytes}
+use Rattle.line.specs.Lines.{startsEntry}
 use Rattle.normal.specs.Meanings.{setting, itemIn}
 use Rattle.normal.specs.Texts.{inQuotes, quoted, startsOther, isBareName, isBareValue, nameText, valueText}
 use Rattle.normal.specs.Proper.{isQuotable, isName, isValue}

@@ -15,9 +15,9 @@ use Rattle.bytes.specs.Classes.{isBlank, isQuote}
 use Rattle.bytes.specs.Runs.{areOf, skipped, trimmed, between}
 use Rattle.bytes.proofs.Runs.{trimmed-le, trimmed-again}
 use Rattle.bytes.proofs.Places.{are-between, skipped-are, skipped-size, between-first}
-use Rattle.crontab.specs.declared.Part.{Part}
-use Rattle.crontab.proofs.Theorems.{Quoted, NamePart, ValuePart}
-use Rattle.crontab.specs.Settings.{partBytes}
+use Rattle.line.specs.declared.Part.{Part}
+use Rattle.line.proofs.Theorems.{Quoted, NamePart, ValuePart}
+use Rattle.line.specs.Assignments.{partBytes}
 use Rattle.normal.specs.Texts.{startsOther, isBareName, isBareValue}
 use Rattle.normal.specs.Proper.{isQuotable, isName, isValue}
 

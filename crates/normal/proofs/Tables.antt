@@ -10,9 +10,9 @@ use lib.ListN.{length, drop}
 use lib.Seq.{take-all}
 use lib.IntN.{ℤ}
 use Rattle.field.specs.declared.Dialect.{Dialect}
-use Rattle.crontab.specs.declared.Rules.{Rules}
-use Rattle.crontab.specs.declared.offset.Zone.{Zone}
-use Rattle.crontab.specs.Offsets.{utc, zoneOf, inForce}
+use Rattle.line.specs.declared.Rules.{Rules}
+use Rattle.line.specs.declared.offset.Zone.{Zone}
+use Rattle.line.specs.Offsets.{utc, zoneOf, inForce}
 use lib.Dec.{eqb, leb, ltb}
 use borrow.Author.Tests.{ltb-true, ltb-false, lt-ltb, le-ltb, leb-true, not-true}
 use Rattle.bytes.specs.declared.class.Class.the-variants.{Not, InLine}
@@ -20,19 +20,22 @@ use Rattle.bytes.specs.Classes.{ofClass}
 use Rattle.bytes.specs.Runs.{run, areOf, skipped, between}
 use Rattle.bytes.proofs.Runs.{run-over, no-newline}
 use Rattle.bytes.proofs.Places.{run-are, are-all, are-so, Stands, between-part}
-use Rattle.crontab.specs.declared.Part.{Part}
-use Rattle.crontab.specs.declared.time.When.{When}
-use Rattle.crontab.specs.declared.time.When.the-variants.{Reboot, Timed}
-use Rattle.crontab.specs.declared.line.Line.{Line}
-use Rattle.crontab.specs.declared.line.Line.the-variants as line
+use Rattle.line.specs.declared.Part.{Part}
+use Rattle.line.specs.declared.time.When.{When}
+use Rattle.line.specs.declared.time.When.the-variants.{Reboot, Timed}
+use Rattle.line.specs.declared.Line.{Line}
+use Rattle.line.specs.declared.Line.the-variants as line
 use Rattle.crontab.specs.declared.table.Table.{Table}
-use Rattle.crontab.specs.Limits.{maxTable, maxLine, maxEntries}
-use Rattle.crontab.specs.Lines.{onto, linesOf, isCut, isLast, contentOf, byteFault, readLine}
+use Rattle.crontab.specs.Limits.{maxTable, maxEntries}
+use Rattle.line.specs.Limits.{maxLine}
+use Rattle.crontab.specs.Lines.{onto, linesOf, isCut, isLast}
+use Rattle.line.specs.Lines.{contentOf, byteFault, readLine}
 use Rattle.crontab.specs.Items.{Items, placed, moved, afterLine, itemsFrom, itemsOf}
 use Rattle.crontab.specs.Items as items
-use Rattle.crontab.specs.Settings.{partBytes}
+use Rattle.line.specs.Assignments.{partBytes}
 use Rattle.crontab.specs.Tables.{refusedTable, emptyTable, withEntry, withItems, tableOf}
-use Rattle.crontab.proofs.Theorems.{LinesAt, lines-at, Inside, LineView, line-view, table-short}
+use Rattle.crontab.proofs.Theorems.{LinesAt, lines-at, table-short}
+use Rattle.line.proofs.Theorems.{Inside, LineView, line-view}
 use Rattle.crontab.proofs.Sound.{SoundItems, items-sound}
 use Rattle.normal.specs.Meanings.{Item, setting, boot, timed, entryItem, entriesIn, ofUser, meanings, meaningOf, itemIn, lineItems, itemsIn, offsetsFrom, entryOffsets}
 use Rattle.normal.specs.Texts.{itemText, normalText, areShort}

@@ -34,7 +34,7 @@ use Rattle.schedule.specs.declared.Schedule.{Schedule}
 use Rattle.field.specs.Written.{fieldText}
 use Rattle.crontab.specs.Limits.{maxTable}
 pub use Rattle.field.proofs.Theorems.{shortest-step}
-use Rattle.crontab.specs.Offsets.{utc}
+use Rattle.line.specs.Offsets.{utc}
 use Rattle.crontab.specs.Items.{itemsOf}
 use Rattle.crontab.specs.Tables.{tableOf}
 use Rattle.normal.specs.declared.NormalAnswer.{NormalAnswer}

@@ -12,16 +12,17 @@ use lib.Dec.{leb}
 use borrow.Author.Tests.{lt-ltb, lt-leb, le-leb, leb-true, leb-false}
 use Rattle.bytes.specs.Runs.{between}
 use Rattle.field.specs.declared.Dialect.{Dialect}
-use Rattle.crontab.specs.declared.Rules.{Rules}
+use Rattle.line.specs.declared.Rules.{Rules}
 use Rattle.crontab.specs.declared.item.Cursor.{Cursor}
-use Rattle.crontab.specs.declared.line.Fault.{Fault}
+use Rattle.line.specs.declared.Fault.{Fault}
 use Rattle.crontab.specs.declared.item.Item as line
 use Rattle.crontab.specs.declared.item.Item.the-variants.{Nothing, Setting, Entry, Refused}
 use Rattle.crontab.specs.declared.item.Step.{Step}
-use Rattle.crontab.specs.Limits.{maxTable, maxLine}
+use Rattle.crontab.specs.Limits.{maxTable}
+use Rattle.line.specs.Limits.{maxLine}
 use Rattle.crontab.specs.Items.{Items, itemsOf}
 use Rattle.crontab.specs.Steps.{itemsAt, Reached, given, counted, StepIs}
-use Rattle.crontab.specs.Settings.{partBytes}
+use Rattle.line.specs.Assignments.{partBytes}
 use Rattle.crontab.specs.declared.table.Verdict.{Verdict}
 use Rattle.crontab.specs.Tables.{tableOf, verdictOf}
 use Rattle.crontab.proofs.Items.{start, items-start, start-reached, items-end}

@@ -16,14 +16,14 @@ use Rattle.bytes.specs.Clipped.{Wrote}
 use Rattle.field.specs.Limits.{minuteLimits, hourLimits, dayLimits, monthLimits, weekdayLimits}
 use Rattle.field.specs.Written.{fieldText}
 use Rattle.schedule.specs.declared.Schedule.{Schedule}
-use Rattle.crontab.specs.declared.Part.{Part}
+use Rattle.line.specs.declared.Part.{Part}
 use Rattle.crontab.specs.declared.entry.Entry as entry
-use Rattle.crontab.specs.declared.line.Fault.{Fault}
+use Rattle.line.specs.declared.Fault.{Fault}
 use Rattle.crontab.specs.declared.item.Item as line
 use Rattle.crontab.specs.declared.item.Item.the-variants.{Nothing, Setting, Entry, Refused}
-use Rattle.crontab.specs.declared.time.When.{When}
-use Rattle.crontab.specs.declared.time.When.the-variants.{Reboot, Timed}
-use Rattle.crontab.specs.Settings.{partBytes}
+use Rattle.line.specs.declared.time.When.{When}
+use Rattle.line.specs.declared.time.When.the-variants.{Reboot, Timed}
+use Rattle.line.specs.Assignments.{partBytes}
 use Rattle.normal.specs.Meanings.{setting, entryItem}
 use Rattle.normal.specs.Texts.{quoted, inQuotes, isBareName, isBareValue, nameText, valueText, scheduleText, itemText}
 use Rattle.normal.specs.Steps.{quoteFor, bareOrQuoted, spaced, PartOf, Within, lineText}

@@ -6,8 +6,8 @@ use mathlib.Core.List.{List}
 use Prim.Native.Nat.{ℕ}
 use native.Mathlib.Omega.{arith}
 use lib.IntN.{ℤ}
-use Rattle.crontab.specs.declared.offset.OffsetAnswer.the-variants.{Minutes, Malformed}
-use Rattle.crontab.specs.Offsets.{isOffset, offsetOf, readOffset}
+use Rattle.line.specs.declared.offset.OffsetAnswer.the-variants.{Minutes, Malformed}
+use Rattle.line.specs.Offsets.{isOffset, offsetOf, readOffset}
 
 module _ (s : List ℕ) where
   pub offset-read : {minutes : ℤ} → readOffset s ≡ Minutes minutes → true ≡ isOffset s

@@ -11,7 +11,7 @@ use Rattle.bytes.specs.Rows.{Hold}
 use Rattle.field.specs.declared.Dialect.the-variants.{Rising, Wrapping}
 use Rattle.normal.specs.declared.NormalAnswer.{NormalAnswer}
 use Rattle.normal.specs.declared.NormalAnswer.the-variants.{Written, Refused}
-use Rattle.crontab.specs.Offsets.{utc}
+use Rattle.line.specs.Offsets.{utc}
 use Rattle.crontab.specs.Items.{itemsOf}
 use Rattle.normal.specs.Meanings.{ofUser, meaningOf, offsetsFrom, entryOffsets}
 use Rattle.normal.specs.Texts.{normalText}

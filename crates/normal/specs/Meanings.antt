@@ -8,17 +8,17 @@ use lib.IntN.{ℤ}
 use Rattle.bytes.specs.Runs.{between}
 use Rattle.schedule.specs.declared.Schedule.{Schedule}
 use Rattle.field.specs.declared.Dialect.{Dialect}
-use Rattle.crontab.specs.declared.Rules.{Rules}
-use Rattle.crontab.specs.declared.Kind.the-variants.{User}
-use Rattle.crontab.specs.declared.time.When.{When}
-use Rattle.crontab.specs.declared.time.When.the-variants.{Reboot, Timed}
-use Rattle.crontab.specs.declared.line.Line.{Line}
-use Rattle.crontab.specs.declared.line.Line.the-variants as line
-use Rattle.crontab.specs.Lines.{contentOf}
+use Rattle.line.specs.declared.Rules.{Rules}
+use Rattle.line.specs.declared.Kind.the-variants.{User}
+use Rattle.line.specs.declared.time.When.{When}
+use Rattle.line.specs.declared.time.When.the-variants.{Reboot, Timed}
+use Rattle.line.specs.declared.Line.{Line}
+use Rattle.line.specs.declared.Line.the-variants as line
+use Rattle.line.specs.Lines.{contentOf}
 use Rattle.crontab.specs.Items.{Items, itemsOf}
 use Rattle.crontab.specs.Items as items
-use Rattle.crontab.specs.Settings.{partBytes}
-use Rattle.crontab.specs.Offsets.{zoneOf, inForce}
+use Rattle.line.specs.Assignments.{partBytes}
+use Rattle.line.specs.Offsets.{zoneOf, inForce}
 
 pub data Item : Type 0 where
   -- name and value

@@ -12,7 +12,7 @@ use Rattle.bytes.specs.Runs.{areOf}
 use Rattle.field.specs.Limits.{minuteLimits, hourLimits, dayLimits, monthLimits, weekdayLimits}
 use Rattle.field.specs.Written.{isField}
 use Rattle.schedule.specs.declared.Schedule.{Schedule}
-use Rattle.crontab.specs.Offsets.{mayStand}
+use Rattle.line.specs.Offsets.{mayStand}
 use Rattle.normal.specs.Meanings.{Item, setting, boot, timed}
 use Rattle.normal.specs.Texts.{doubleQuote, singleQuote, isBareName, isBareValue}
 

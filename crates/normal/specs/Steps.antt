@@ -14,7 +14,7 @@ use Rattle.bytes.specs.Runs.{areOf, between}
 use Rattle.field.specs.declared.Dialect.{Dialect}
 use Rattle.crontab.specs.declared.item.Item as line
 use Rattle.crontab.specs.declared.item.Item.the-variants.{Nothing, Setting, Entry, Refused}
-use Rattle.crontab.specs.Settings.{partBytes}
+use Rattle.line.specs.Assignments.{partBytes}
 use Rattle.crontab.specs.Tables.{tableOf}
 use Rattle.normal.specs.declared.NormalAnswer.{NormalAnswer}
 use Rattle.normal.specs.declared.NormalAnswer.the-variants as answer

@@ -14,8 +14,9 @@ use Rattle.bytes.specs.Runs.{areOf, trimmed}
 use Rattle.field.specs.Limits.{minuteLimits, hourLimits, dayLimits, monthLimits, weekdayLimits}
 use Rattle.field.specs.Written.{fieldText}
 use Rattle.schedule.specs.declared.Schedule.{Schedule}
-use Rattle.crontab.specs.Limits.{maxTable, maxLine}
-use Rattle.crontab.specs.Lines.{hash, startsEntry}
+use Rattle.crontab.specs.Limits.{maxTable}
+use Rattle.line.specs.Limits.{maxLine}
+use Rattle.line.specs.Lines.{hash, startsEntry}
 use Rattle.normal.specs.Meanings.{Item, setting, boot, timed}
 
 -- ---- a setting

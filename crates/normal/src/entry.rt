@@ -7,9 +7,9 @@ ghost use Rattle.normal.specs.Meanings.{entryItem};
 ghost use Rattle.normal.specs.Texts.{scheduleText, itemText};
 ghost use Rattle.normal.specs.Steps.{spaced};
 use bytes::write;
-use crontab::time::When;
 use field::Limits;
 use field::written;
+use line::time::When;
 use schedule::Schedule;
 
 const REBOOT: [u8; 8] = *b"@reboot ";

@@ -1,9 +1,9 @@
 // What a user's table means, and its normal text (ticket 2026-06); and what a line can mean.
 pub mod entry;
-pub mod line;
 pub mod proper;
 pub mod setting;
 mod table;
+pub mod text;
 
 ghost use mathlib.Core.Path.{_≡_};
 ghost use Rattle.normal.specs.NormalForms.{normalForm};

@@ -3,16 +3,16 @@ ghost use mathlib.Core.Path.{_≡_};
 ghost use mathlib.Core.Bool.{_||_};
 ghost use Rattle.bytes.specs.Runs.{areOf};
 ghost use Rattle.normal.specs.Proper.{isQuotable, isName, isValue, isCommand, isSchedule};
-ghost use Rattle.crontab.specs.Offsets.{isOffset, mayStand};
+ghost use Rattle.line.specs.Offsets.{isOffset, mayStand};
 use crate::setting::is_bare_name;
 use crate::setting::is_bare_value;
 use bytes::class::Class;
 use bytes::class::is_in;
 use bytes::run::byte_at;
 use bytes::run::skip;
-use crontab::offset;
-use crontab::offset::OffsetAnswer;
 use field::written::is_field;
+use line::offset;
+use line::offset::OffsetAnswer;
 use schedule::Schedule;
 
 // Whether all bytes are of a kind.

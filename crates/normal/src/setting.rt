@@ -11,7 +11,7 @@ use bytes::run::byte_at;
 use bytes::run::skip;
 use bytes::run::trimmed_end;
 use bytes::write;
-use crontab::line::starts_entry;
+use line::starts_entry;
 
 // Whether a line that starts with this byte is a comment or an entry.
 fn starts_other(b: u8) -> bool

@@ -4,15 +4,15 @@ ghost use Rattle.normal.specs.Texts.{normalText};
 ghost use Rattle.normal.specs.Steps.{textRefusal, Tried};
 use crate::NormalAnswer;
 use crate::TOO_LONG;
-use crate::line;
-use crontab::Kind;
-use crontab::MAX_LINE;
+use crate::text;
 use crontab::MAX_TABLE;
-use crontab::Rules;
 use crontab::TABLE_TOO_LONG;
 use crontab::item;
 use crontab::item::Item;
 use field::Dialect;
+use line::Kind;
+use line::MAX_LINE;
+use line::Rules;
 
 // Writes as much of it as fits to the front of a buffer, and answers what the call answers where all of it fits. The table's own refusal comes
 // before a line that would be too long, wherever that is.
@@ -40,7 +40,7 @@ pub(crate) fn write(s: &[u8], dialect: Dialect, out: &mut [u8]) -> NormalAnswer
                 number: fault.number,
             };
         }
-        let next = line::write(s, item, out, at);
+        let next = text::write(s, item, out, at);
         short = short & (next - at <= MAX_LINE + 1);
         at = next;
     }

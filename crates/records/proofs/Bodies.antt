@@ -18,8 +18,8 @@ use Rattle.bytes.proofs.LittleEndian.{Bytes, bytes-between, bytes-back, length-
 use Rattle.calendar.proofs.Tests.{every, at-each}
 use Rattle.schedule.specs.declared.Stars.{Stars}
 use Rattle.schedule.specs.declared.Schedule.{Schedule}
-use Rattle.crontab.specs.Words.{same}
-use Rattle.crontab.specs.Offsets.{zoneName}
+use Rattle.line.specs.Words.{same}
+use Rattle.line.specs.Offsets.{zoneName}
 use Rattle.normal.specs.Proper.{isItem}
 use Rattle.normal.specs.Meanings.{Item, setting, boot, timed}
 use Rattle.records.specs.Formats.{flagsOf, scheduleBytes, settingKindOf, kindOf, bodyOf}

@@ -8,13 +8,13 @@ use lib.ListN.{length}
 use Rattle.bytes.specs.Runs.{between}
 use Rattle.bytes.proofs.Places.{between-length}
 use Rattle.field.specs.declared.Dialect.{Dialect}
-use Rattle.crontab.specs.declared.time.When.{When}
-use Rattle.crontab.specs.declared.time.When.the-variants.{Reboot, Timed}
+use Rattle.line.specs.declared.time.When.{When}
+use Rattle.line.specs.declared.time.When.the-variants.{Reboot, Timed}
 use Rattle.crontab.specs.declared.item.Item as line
 use Rattle.crontab.specs.declared.item.Item.the-variants.{Nothing, Setting, Entry, Refused}
 use Rattle.crontab.specs.Limits.{maxTable}
 use Rattle.crontab.specs.Items.{Items}
-use Rattle.crontab.specs.Settings.{partBytes}
+use Rattle.line.specs.Assignments.{partBytes}
 use Rattle.crontab.specs.Steps.{given}
 use Rattle.crontab.specs.Tables.{tableOf}
 use Rattle.normal.specs.Meanings.{entryItem, ofUser, meanings, meaningOf}

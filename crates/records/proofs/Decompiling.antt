@@ -9,9 +9,10 @@ use lib.ListN.{length, drop, length-append, length-drop, drop-of-length-le}
 use lib.Dec.{eqb, leb}
 use borrow.Author.Tests.{le-leb, lt-leb, ne-eqb, eqb-false}
 use Rattle.bytes.specs.Runs.{between}
-use Rattle.crontab.specs.declared.time.When.{When}
-use Rattle.crontab.specs.declared.time.When.the-variants.{Reboot, Timed}
-use Rattle.crontab.specs.Limits.{maxLine, maxEntries}
+use Rattle.line.specs.declared.time.When.{When}
+use Rattle.line.specs.declared.time.When.the-variants.{Reboot, Timed}
+use Rattle.crontab.specs.Limits.{maxEntries}
+use Rattle.line.specs.Limits.{maxLine}
 use Rattle.normal.specs.Meanings.{Item, setting, boot, timed, entryItem, entriesIn}
 use Rattle.normal.specs.Texts.{itemText, normalText, areShort, fits}
 use Rattle.normal.specs.Proper.{isItem}

@@ -9,14 +9,14 @@ use Rattle.bytes.specs.Runs.{between}
 use Rattle.bytes.specs.LittleEndian.{littleEndian}
 use Rattle.bytes.proofs.LittleEndian.{length-littleEndian}
 use Rattle.schedule.specs.declared.Schedule.{Schedule}
-use Rattle.crontab.specs.declared.Part.{Part}
+use Rattle.line.specs.declared.Part.{Part}
 use Rattle.crontab.specs.declared.entry.Entry as entry
-use Rattle.crontab.specs.declared.line.Fault.{Fault}
+use Rattle.line.specs.declared.Fault.{Fault}
 use Rattle.crontab.specs.declared.item.Item as line
 use Rattle.crontab.specs.declared.item.Item.the-variants.{Nothing, Setting, Entry, Refused}
-use Rattle.crontab.specs.declared.time.When.{When}
-use Rattle.crontab.specs.declared.time.When.the-variants.{Reboot, Timed}
-use Rattle.crontab.specs.Settings.{partBytes}
+use Rattle.line.specs.declared.time.When.{When}
+use Rattle.line.specs.declared.time.When.the-variants.{Reboot, Timed}
+use Rattle.line.specs.Assignments.{partBytes}
 use Rattle.normal.specs.Meanings.{setting, entryItem}
 use Rattle.records.specs.Formats.{settingKindOf, recordOf, scheduleBytes, kindOf, bodyOf}
 use Rattle.records.specs.WriterSteps.{headOf, itemRecord, recordPart}

@@ -15,8 +15,8 @@ use Rattle.normal.specs.Meanings.{setting, timed, entryItem}
 use Rattle.normal.specs.Texts.{itemText}
 use Rattle.normal.specs.Proper.{isCommand, isSchedule, isItem}
 use Rattle.bytes.specs.LittleEndian.{numberOf}
-use Rattle.crontab.specs.declared.time.When.{When}
-use Rattle.crontab.specs.declared.time.When.the-variants.{Reboot, Timed}
+use Rattle.line.specs.declared.time.When.{When}
+use Rattle.line.specs.declared.time.When.the-variants.{Reboot, Timed}
 use Rattle.records.specs.declared.body.Content as held
 use Rattle.records.specs.declared.body.Content.the-variants.{Skipped, Entry, Setting, Refused}
 use Rattle.records.specs.declared.record.Step.{Step}

@@ -1,7 +1,7 @@
 -- What bytes say, record by record: items that are written are said again; records of skipped kinds say nothing; a later writer's items are said, or the
 -- bytes are refused.
 -- Assumes nothing.
-use Rattle.crontab.specs.Words.{same as equal}
+use Rattle.line.specs.Words.{same as equal}
 use mathlib.Core.Path.{_≡_, refl, ap}
 use mathlib.Core.Bool.{Bool, true, false, cond, and-eq-true-iff}
 use mathlib.Core.List.{List, [], _∷_, _++_, append-assoc}
@@ -11,7 +11,7 @@ use lib.ListN.{length}
 use lib.Dec.{eqb}
 use borrow.Author.Tests.{leb-true, ne-eqb}
 use Rattle.bytes.specs.LittleEndian.{width}
-use Rattle.crontab.specs.Offsets.{zoneName}
+use Rattle.line.specs.Offsets.{zoneName}
 use Rattle.normal.specs.Meanings.{Item, setting, boot, timed}
 use Rattle.normal.specs.Proper.{isItem, areItems}
 use Rattle.records.specs.Formats.{recordOf, settingKindOf, kindOf, bodyOf, recordsOf}

@@ -25,7 +25,8 @@ use Rattle.bytes.specs.Runs.{areOf}
 use Rattle.bytes.specs.Laid.{laid}
 use Rattle.bytes.proofs.LittleEndian.{Bytes, length-littleEndian}
 use Rattle.field.specs.declared.Dialect.{Dialect}
-use Rattle.crontab.specs.Limits.{maxTable, maxLine, maxEntries}
+use Rattle.crontab.specs.Limits.{maxTable, maxEntries}
+use Rattle.line.specs.Limits.{maxLine}
 use Rattle.crontab.specs.Tables.{tableOf}
 use Rattle.crontab.proofs.Theorems.{table-sound}
 use Rattle.normal.specs.declared.NormalAnswer.the-variants.{Written, Refused}
@@ -34,7 +35,7 @@ use Rattle.normal.specs.Texts.{doubleQuote, singleQuote, inQuotes, isBareName, 
 use Rattle.normal.specs.NormalForms.{NormalForm, refusedForm, laidForm, formOf, normalForm}
 use Rattle.normal.proofs.Theorems.{schedule-long, FormTold, refused-told, laid-told, items-told, fits-parts, meaning-proper, meaning-few, normal-in-either, written-good, written-means}
 use Rattle.normal.specs.Proper.{isSchedule, isCommand, isName, isValue, isItem, areItems}
-use Rattle.crontab.specs.Offsets.{mayStand}
+use Rattle.line.specs.Offsets.{mayStand}
 use Rattle.records.proofs.Packing.{schedule-size}
 use Rattle.records.specs.Refusals.{meaningless}
 use Rattle.records.specs.Formats.{scheduleBytes, recordOf, bodyOf, recordsOf}

@@ -8,8 +8,8 @@ use mir.Val.{boolByte}
 use Rattle.bytes.specs.LittleEndian.{littleEndian}
 use Rattle.schedule.specs.declared.Stars.{Stars}
 use Rattle.schedule.specs.declared.Schedule.{Schedule}
-use Rattle.crontab.specs.Words.{same}
-use Rattle.crontab.specs.Offsets.{zoneName}
+use Rattle.line.specs.Words.{same}
+use Rattle.line.specs.Offsets.{zoneName}
 use Rattle.normal.specs.Meanings.{Item, setting, boot, timed}
 
 unfoldable pub recordOf : ℕ → List ℕ → List ℕ

@@ -11,7 +11,7 @@ use Rattle.bytes.specs.Runs.{between}
 use Rattle.crontab.specs.Limits.{maxEntries}
 use Rattle.crontab.specs.Refusals.{tooManyEntries}
 use Rattle.normal.specs.Refusals.{tooLong}
-use Rattle.crontab.specs.declared.time.When.the-variants.{Reboot, Timed}
+use Rattle.line.specs.declared.time.When.the-variants.{Reboot, Timed}
 use Rattle.normal.specs.Meanings.{setting, boot, timed, entryItem, entriesIn}
 use Rattle.normal.specs.Texts.{itemText, fits}
 use Rattle.records.specs.declared.body.Content.{Content}

@@ -6,7 +6,7 @@ use Rattle.bytes.specs.Runs.{between}
 use Rattle.bytes.specs.LittleEndian.{littleEndian}
 use Rattle.crontab.specs.declared.item.Item as line
 use Rattle.crontab.specs.declared.item.Item.the-variants.{Nothing, Setting, Entry, Refused}
-use Rattle.crontab.specs.Settings.{partBytes}
+use Rattle.line.specs.Assignments.{partBytes}
 use Rattle.normal.specs.Meanings.{Item, setting, entryItem}
 use Rattle.records.specs.Formats.{recordOf, kindOf, bodyOf}
 

@@ -20,13 +20,13 @@ use crate::ZONE;
 use crate::kind;
 use bytes::little_endian;
 use bytes::set;
-use crontab::time::When;
-use normal::line::part;
+use line::time::When;
 use normal::proper::is_command;
 use normal::proper::is_name;
 use normal::proper::is_schedule;
 use normal::proper::is_value;
 use normal::proper::is_zoned;
+use normal::text::part;
 use schedule::Schedule;
 use schedule::Stars;
 

@@ -7,18 +7,18 @@ ghost use Rattle.normal.specs.Steps.{measured, textRefusal};
 ghost use Rattle.records.specs.Formats.{recordsOf};
 ghost use Rattle.records.specs.Calls.{compiled};
 use crate::pack;
-use crontab::Kind;
-use crontab::MAX_LINE;
 use crontab::MAX_TABLE;
-use crontab::Rules;
 use crontab::TABLE_TOO_LONG;
 use crontab::item;
 use crontab::item::Item;
 use field::Dialect;
+use line::Kind;
+use line::MAX_LINE;
+use line::Rules;
 use normal::NormalAnswer;
 use normal::TOO_LONG;
 use normal::TOO_SHORT;
-use normal::line;
+use normal::text;
 
 // What is answered where the buffer has room. The table's own refusal comes before a line that would be too long, wherever that stands.
 fn measure(s: &[u8], dialect: Dialect) -> NormalAnswer
@@ -48,7 +48,7 @@ fn measure(s: &[u8], dialect: Dialect) -> NormalAnswer
                 number: fault.number,
             };
         }
-        let next = line::write(s, item, &mut no_text, text);
+        let next = text::write(s, item, &mut no_text, text);
         short = short & (next - text <= MAX_LINE + 1);
         text = next;
         size = pack::write_record(s, item, &mut no_records, size);

@@ -7,16 +7,16 @@ ghost use Rattle.records.specs.Readings.{saidOf, itemsSaid};
 ghost use Rattle.records.specs.Calls.{decompiled, recordFault};
 ghost use Rattle.records.specs.ReaderSteps.{recordsRefusal, entriesFound};
 use crate::body::Content;
-use crate::line;
 use crate::record;
+use crate::text;
 use crontab::MAX_ENTRIES;
-use crontab::MAX_LINE;
 use crontab::MAX_TABLE;
 use crontab::TOO_MANY_ENTRIES;
+use line::MAX_LINE;
 use normal::NormalAnswer;
 use normal::TOO_LONG;
 use normal::TOO_SHORT;
-use normal::line::part;
+use normal::text::part;
 
 fn entries_found(content: Content) -> usize
     ensures { λ r. ⌜ (r ≡ entriesFound content) × (r ≤ 1) ⌝ }
@@ -44,7 +44,7 @@ fn write(s: &[u8], out: &mut [u8]) -> NormalAnswer
         if let Content::Refused { number } = content {
             return NormalAnswer::Refused { number };
         }
-        let next = line::write(part(s, step.start, step.end), content, out, text);
+        let next = text::write(part(s, step.start, step.end), content, out, text);
         short = short & (next - text <= MAX_LINE + 1);
         text = next;
         count += entries_found(content);

@@ -3,7 +3,7 @@ ghost use mathlib.Core.Path.{_≡_};
 ghost use Rattle.records.specs.Formats.{settingKindOf};
 use crate::SETTING;
 use crate::ZONE;
-use crontab::offset::is_zone;
+use line::offset::is_zone;
 
 pub(crate) fn of_setting(name: &[u8]) -> u16
     ensures { λ r. ⌜ r ≡ settingKindOf (now (name .entry)) ⌝ }

@@ -3,9 +3,9 @@ mod body;
 pub mod compile;
 pub mod decompile;
 mod kind;
-mod line;
 mod pack;
 mod record;
+mod text;
 
 // The refusals, by their numbers in the papers.
 pub const CUT_SHORT: u8 = 22;

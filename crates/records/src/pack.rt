@@ -17,8 +17,8 @@ use crate::kind;
 use bytes::little_endian;
 use bytes::write;
 use crontab::item::Item;
-use crontab::time::When;
-use normal::line::part;
+use line::time::When;
+use normal::text::part;
 use schedule::Schedule;
 use schedule::Stars;
 

@@ -15,14 +15,14 @@ use Rattle.bytes.specs.Runs.{between}
 use Rattle.schedule.specs.declared.Schedule.{Schedule}
 use Rattle.schedule.specs.declared.Stars.{Stars}
 use Rattle.schedule.specs.Local.{InZones, ahead}
-use Rattle.crontab.specs.declared.Rules.{Rules}
-use Rattle.crontab.specs.declared.time.When.{When}
-use Rattle.crontab.specs.declared.time.When.the-variants.{Reboot, Timed}
+use Rattle.line.specs.declared.Rules.{Rules}
+use Rattle.line.specs.declared.time.When.{When}
+use Rattle.line.specs.declared.time.When.the-variants.{Reboot, Timed}
 use Rattle.crontab.specs.declared.entry.Entry.{Entry}
-use Rattle.crontab.specs.Words.{same}
+use Rattle.line.specs.Words.{same}
 use Rattle.crontab.specs.Owners.{ownerOf}
 use Rattle.crontab.specs.Steps.{Sound}
-use Rattle.crontab.proofs.Offsets.{kept}
+use Rattle.line.proofs.Theorems.{kept}
 use Rattle.crontab.proofs.Theorems.{of-inside}
 use Rattle.reload.specs.Duties.{Duty, sameFlag, sameStars, sameTimes, sameWhen, sameOwner, clockOf, dutyOf, alike}
 use Rattle.reload.specs.Steps.{OwnerInside}

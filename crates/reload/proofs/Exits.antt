@@ -6,7 +6,7 @@ use mathlib.Core.List.{List}
 use Prim.Native.Nat.{ℕ}
 use lib.ListN.{length}
 use borrow.Author.Tests.{eq-eqb, ne-eqb}
-use Rattle.crontab.specs.declared.Rules.{Rules}
+use Rattle.line.specs.declared.Rules.{Rules}
 use Rattle.crontab.specs.Tables.{tableOf}
 use Rattle.fifo.specs.declared.Ticked.the-variants.{Joined, Refused}
 use Rattle.fifo.specs.Layout.{roomy, isLine}

@@ -9,8 +9,8 @@ use native.Mathlib.Omega.{arith}
 use Rattle.bytes.specs.Passing.{countBelow}
 use Rattle.bytes.proofs.LittleEndian.{Bytes}
 use Rattle.field.specs.declared.Dialect.the-variants.{Wrapping}
-use Rattle.crontab.specs.declared.Rules.{Rules}
-use Rattle.crontab.specs.declared.Kind.the-variants.{System}
+use Rattle.line.specs.declared.Rules.{Rules}
+use Rattle.line.specs.declared.Kind.the-variants.{System}
 use Rattle.crontab.specs.Tables.{tableOf}
 use Rattle.fifo.specs.declared.Ticked.the-variants.{Joined}
 use Rattle.fifo.specs.WaitingLine.{standsIn, entriesOf, proper}

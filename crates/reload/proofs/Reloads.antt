@@ -13,7 +13,7 @@ use lib.Dec.{eqb, ltb}
 use borrow.Author.Tests.{eq-eqb, eqb-true, ne-eqb, ltb-true, lt-ltb, not-true}
 use Rattle.bytes.specs.Marks.{marked, mark}
 use Rattle.bytes.proofs.Marks.{none-marked, mark-length, mark-marked}
-use Rattle.crontab.specs.declared.Rules.{Rules}
+use Rattle.line.specs.declared.Rules.{Rules}
 use Rattle.crontab.specs.Limits.{maxEntries}
 use Rattle.crontab.specs.Tables.{tableOf}
 use Rattle.crontab.specs.Choices.{markWords}

@@ -17,7 +17,7 @@ use Rattle.bytes.proofs.Search.{from-same, from-some, from-least, least-from}
 use Rattle.bytes.proofs.Passing.{below-same, below-next, below-pass, ranked-here, ranked-other, ranked-out, ranked-is}
 use Rattle.bytes.proofs.Marks.{marks-marked}
 use Rattle.schedule.specs.Local.{InZones}
-use Rattle.crontab.specs.declared.Rules.{Rules}
+use Rattle.line.specs.declared.Rules.{Rules}
 use Rattle.crontab.specs.declared.entry.Entry.{Entry}
 use Rattle.crontab.specs.declared.chosen.Chosen.{Chosen}
 use Rattle.crontab.specs.declared.table.EntryAnswer.{EntryAnswer}

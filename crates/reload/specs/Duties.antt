@@ -10,13 +10,13 @@ use Rattle.bytes.specs.Runs.{between}
 use Rattle.schedule.specs.declared.Schedule.{Schedule}
 use Rattle.schedule.specs.declared.Stars.{Stars}
 use Rattle.schedule.specs.Local.{ahead}
-use Rattle.crontab.specs.declared.Rules.{Rules}
-use Rattle.crontab.specs.declared.time.When.{When}
-use Rattle.crontab.specs.declared.time.When.the-variants.{Reboot, Timed}
+use Rattle.line.specs.declared.Rules.{Rules}
+use Rattle.line.specs.declared.time.When.{When}
+use Rattle.line.specs.declared.time.When.the-variants.{Reboot, Timed}
 use Rattle.crontab.specs.declared.entry.Entry.{Entry}
-use Rattle.crontab.specs.declared.user.Owner.{Owner}
-use Rattle.crontab.specs.Settings.{partBytes}
-use Rattle.crontab.specs.Words.{same}
+use Rattle.line.specs.declared.user.Owner.{Owner}
+use Rattle.line.specs.Assignments.{partBytes}
+use Rattle.line.specs.Words.{same}
 use Rattle.crontab.specs.Owners.{ownerOf}
 
 -- what an entry asks for, wherever it stands; parts of the user column that are absent are empty

@@ -9,7 +9,7 @@ use lib.ListN.{replicate}
 use Rattle.bytes.specs.Rows.{Hold}
 use Rattle.bytes.specs.Texts.{text}
 use Rattle.field.specs.declared.Dialect.the-variants.{Wrapping}
-use Rattle.crontab.specs.declared.Kind.the-variants.{System}
+use Rattle.line.specs.declared.Kind.the-variants.{System}
 use Rattle.crontab.specs.Computing.{zoning}
 use Rattle.runqueue.specs.Jobs.{jobAt}
 use Rattle.reload.specs.Targets.{sameIn}

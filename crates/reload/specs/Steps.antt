@@ -1,8 +1,8 @@
 -- What the functions inside ask of each other. What a reader must believe is in Duties, Targets and Calls.
 -- Assumes nothing.
 use Prim.Native.Nat.{ℕ, _≤_}
-use Rattle.crontab.specs.declared.Part.{Part}
-use Rattle.crontab.specs.declared.user.Owner.{Owner}
+use Rattle.line.specs.declared.Part.{Part}
+use Rattle.line.specs.declared.user.Owner.{Owner}
 
 -- a part of n bytes
 abbrev pub Inside : ℕ → Part → Type 0

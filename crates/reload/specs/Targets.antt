@@ -8,7 +8,7 @@ use mathlib.Core.List.{List, [], _∷_, _++_}
 use lib.Dec.{ltb}
 use Rattle.bytes.specs.Search.{from}
 use Rattle.bytes.specs.Passing.{countBelow, isRanked}
-use Rattle.crontab.specs.declared.Rules.{Rules}
+use Rattle.line.specs.declared.Rules.{Rules}
 use Rattle.crontab.specs.Tables.{tableOf}
 use Rattle.fifo.specs.WaitingLine.{standsIn}
 use Rattle.runqueue.specs.Jobs.{jobAt}

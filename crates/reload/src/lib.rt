@@ -13,7 +13,6 @@ ghost use Rattle.reload.specs.Targets.{rankedOrLast, targetIn, reloaded}
 ghost use Rattle.reload.specs.Calls.{reloadTables};
 use bytes::mark;
 use crontab::MAX_ENTRIES;
-use crontab::Rules;
 use crontab::chosen::WORDS;
 use crontab::table::EntryAnswer;
 use crontab::table::check;
@@ -21,6 +20,7 @@ use crontab::table::find_entry;
 use fifo::NOT_A_LINE;
 use fifo::Popped;
 use fifo::Ticked;
+use line::Rules;
 
 // Of the numbers below n in a set the one of a rank, or the last one if there are fewer; n if there is none.
 fn ranked_or_last(marks: &[u64], n: usize, rank: usize) -> usize

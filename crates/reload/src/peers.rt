@@ -7,7 +7,6 @@ ghost use Rattle.crontab.specs.Steps.{Sound};
 ghost use Rattle.reload.specs.Duties.{meansAs};
 use crate::alike::is_alike;
 use crontab::MAX_TABLE;
-use crontab::Rules;
 use crontab::TABLE_TOO_LONG;
 use crontab::chosen::Chosen;
 use crontab::chosen::WORDS;
@@ -16,6 +15,7 @@ use crontab::chosen::refused;
 use crontab::entry::Entry;
 use crontab::item;
 use crontab::item::Item;
+use line::Rules;
 
 // Those of table s that mean what an entry of table t does.
 pub(crate) fn read(s: &[u8], rules: Rules, t: &[u8], entry: Entry) -> Chosen

@@ -15,7 +15,7 @@ use Rattle.schedule.specs.Examples as schedule
 use Rattle.schedule.specs.Local.{nextAfterIn}
 use Rattle.schedule.proofs.Theorems.{known-days-in, next-is-in, next-at-in, case-held}
 use Rattle.schedule.specs.Jumps.{judged}
-use Rattle.crontab.specs.declared.time.When.the-variants.{Timed}
+use Rattle.line.specs.declared.time.When.the-variants.{Timed}
 use Rattle.crontab.specs.declared.entry.Entry.{Entry}
 use Rattle.crontab.specs.declared.table.EntryAnswer.the-variants.{Found}
 use Rattle.crontab.specs.declared.firing.NextAnswer.the-variants.{At}

@@ -13,7 +13,7 @@ use Rattle.bytes.specs.Passing.{passingUpTo}
 use Rattle.bytes.proofs.Search.{some-passes, passes-some}
 use Rattle.bytes.proofs.Passing.{up-end, up-here, up-skip}
 use Rattle.calendar.specs.Dates.{lastMinute}
-use Rattle.crontab.specs.declared.Rules.{Rules}
+use Rattle.line.specs.declared.Rules.{Rules}
 use Rattle.crontab.specs.declared.entry.Entry.{Entry}
 use Rattle.crontab.specs.declared.table.EntryAnswer.{EntryAnswer}
 use Rattle.crontab.specs.declared.table.EntryAnswer.the-variants as answer

@@ -11,8 +11,8 @@ use lib.ListN.{length}
 use Rattle.bytes.specs.Passing.{passing, passingUpTo}
 use Rattle.schedule.specs.declared.jump.Mark.the-variants as mark
 use Rattle.field.specs.declared.Dialect.the-variants.{Wrapping}
-use Rattle.crontab.specs.declared.Rules.{Rules}
-use Rattle.crontab.specs.declared.Kind.the-variants.{System}
+use Rattle.line.specs.declared.Rules.{Rules}
+use Rattle.line.specs.declared.Kind.the-variants.{System}
 use Rattle.crontab.specs.declared.firing.DueAnswer.the-variants.{Yes, No}
 use Rattle.crontab.specs.declared.firing.NextAnswer.the-variants.{At, Refused}
 use Rattle.crontab.specs.Tables.{tableOf}

@@ -13,8 +13,8 @@ use Rattle.schedule.specs.declared.jump.Case.{Case}
 use Rattle.schedule.specs.Local.{ahead, matchesIn}
 use Rattle.schedule.specs.Jumps.{caseOf, judged}
 use Rattle.schedule.proofs.Theorems.{judged-unfixed}
-use Rattle.crontab.specs.declared.time.When.{When}
-use Rattle.crontab.specs.declared.time.When.the-variants.{Reboot, Timed}
+use Rattle.line.specs.declared.time.When.{When}
+use Rattle.line.specs.declared.time.When.the-variants.{Reboot, Timed}
 use Rattle.crontab.specs.declared.entry.Entry.{Entry}
 use Rattle.crontab.specs.declared.table.Table.{Table}
 use Rattle.crontab.specs.declared.chosen.Which.{Which}

@@ -19,10 +19,10 @@ use Rattle.schedule.specs.Examples as schedule
 use Rattle.schedule.specs.Local.{matchesIn, nextAfterIn}
 use Rattle.schedule.specs.Jumps.{caseOf, judged, markAfter}
 use Rattle.schedule.proofs.Theorems.{gap-reached, utc-next, next-is-in, case-after, case-held}
-use Rattle.crontab.specs.declared.Rules.{Rules}
+use Rattle.line.specs.declared.Rules.{Rules}
 use Rattle.field.specs.declared.Dialect.the-variants.{Rising}
-use Rattle.crontab.specs.declared.Kind.the-variants.{User}
-use Rattle.crontab.specs.declared.time.When.the-variants.{Timed}
+use Rattle.line.specs.declared.Kind.the-variants.{User}
+use Rattle.line.specs.declared.time.When.the-variants.{Timed}
 use Rattle.crontab.specs.declared.entry.Entry.{Entry}
 use Rattle.crontab.specs.Computing.{reading}
 use Rattle.crontab.specs.Tables.{tableOf}

@@ -8,8 +8,8 @@ use native.Mathlib.Nat.{mul-le-mul-right}
 use native.Mathlib.Omega.{arith}
 use Rattle.schedule.specs.Local.{gapIn}
 use Rattle.field.specs.declared.Dialect.the-variants.{Wrapping}
-use Rattle.crontab.specs.declared.Rules.{Rules}
-use Rattle.crontab.specs.declared.Kind.the-variants.{System}
+use Rattle.line.specs.declared.Rules.{Rules}
+use Rattle.line.specs.declared.Kind.the-variants.{System}
 use Rattle.fifo.specs.WaitingLine.{Line, proper}
 use Rattle.fifo.specs.Steps.{calls}
 use Rattle.fifo.specs.Fairness.{Call, tick, isRefused, unrefused, Follows, upTo, Names}

@@ -19,9 +19,9 @@ use Rattle.schedule.specs.Gap.{gap}
 use Rattle.schedule.specs.Local.{gapIn, matchesIn}
 use Rattle.schedule.proofs.Search.{from-some, some-from}
 use Rattle.schedule.proofs.Theorems.{fires-within-in, matching-fires-in}
-use Rattle.crontab.specs.declared.Rules.{Rules}
-use Rattle.crontab.specs.declared.time.When.{When}
-use Rattle.crontab.specs.declared.time.When.the-variants.{Reboot, Timed}
+use Rattle.line.specs.declared.Rules.{Rules}
+use Rattle.line.specs.declared.time.When.{When}
+use Rattle.line.specs.declared.time.When.the-variants.{Reboot, Timed}
 use Rattle.crontab.specs.declared.entry.Entry.{Entry}
 use Rattle.crontab.specs.declared.table.Table.{Table}
 use Rattle.crontab.specs.declared.table.EntryAnswer.the-variants as answer

@@ -8,8 +8,8 @@ use mathlib.Core.List.{List, [], _∷_}
 use Prim.Native.Nat.{ℕ, _+_, _-_}
 use lib.ListN.{take}
 use Rattle.field.specs.declared.Dialect.the-variants.{Rising, Wrapping}
-use Rattle.crontab.specs.declared.Rules.{Rules}
-use Rattle.crontab.specs.declared.Kind.the-variants.{User, System}
+use Rattle.line.specs.declared.Rules.{Rules}
+use Rattle.line.specs.declared.Kind.the-variants.{User, System}
 use Rattle.crontab.specs.Tables.{tableOf}
 use Rattle.schedule.specs.declared.jump.Mark.the-variants.{None}
 use Rattle.fifo.specs.Layout.{lineOf, roomy, isLine}

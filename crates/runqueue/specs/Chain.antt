@@ -13,8 +13,8 @@ use Rattle.calendar.specs.Dates.{lastMinute, cycleMinutes}
 use Rattle.schedule.specs.declared.jump.Mark.the-variants as mark
 use Rattle.schedule.specs.declared.jump.Mark.the-variants.{None}
 use Rattle.field.specs.declared.Dialect.the-variants.{Rising}
-use Rattle.crontab.specs.declared.Rules.{Rules}
-use Rattle.crontab.specs.declared.Kind.the-variants.{User}
+use Rattle.line.specs.declared.Rules.{Rules}
+use Rattle.line.specs.declared.Kind.the-variants.{User}
 use Rattle.crontab.specs.declared.table.Table.{Table}
 use Rattle.crontab.specs.declared.firing.DueAnswer.{DueAnswer}
 use Rattle.crontab.specs.declared.firing.DueAnswer.the-variants as due

@@ -11,9 +11,9 @@ use Rattle.bytes.specs.Texts.{text}
 use Rattle.calendar.specs.Dates.{lastMinute, cycleMinutes}
 use Rattle.schedule.specs.Match.{matches}
 use Rattle.schedule.specs.Local.{ahead, gapIn}
-use Rattle.crontab.specs.declared.Rules.{Rules}
+use Rattle.line.specs.declared.Rules.{Rules}
 use Rattle.field.specs.declared.Dialect.the-variants.{Rising}
-use Rattle.crontab.specs.declared.Kind.the-variants.{User}
+use Rattle.line.specs.declared.Kind.the-variants.{User}
 use Rattle.crontab.specs.declared.firing.DueAnswer.the-variants.{Yes, No}
 use Rattle.crontab.specs.Tables.{tableOf}
 use Rattle.crontab.specs.Firings.{byWhen, dueIn}

@@ -5,7 +5,7 @@ use mathlib.Core.Path.{_≡_}
 use Prim.Native.Nat.{ℕ, suc, _+_, _-_, _*_, _≤_, _<_}
 use mathlib.Core.Bool.{true, false}
 use mathlib.Core.List.{List, _∷_}
-use Rattle.crontab.specs.declared.Rules.{Rules}
+use Rattle.line.specs.declared.Rules.{Rules}
 use Rattle.fifo.specs.declared.Popped.the-variants.{Entry}
 use Rattle.fifo.specs.WaitingLine.{Line, standsIn, proper}
 use Rattle.fifo.specs.Steps.{calls, standing}

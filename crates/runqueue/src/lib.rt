@@ -3,12 +3,12 @@
 ghost use mathlib.Core.Path.{_≡_};
 ghost use Rattle.crontab.specs.Tables.{tableOf};
 ghost use Rattle.runqueue.specs.Calls.{initTable, tickTable, popTable, entryTable};
-use crontab::Rules;
 use crontab::chosen;
 use crontab::chosen::Which;
 use fifo::Popped;
 use fifo::Ticked;
 use fifo::head::mark_of;
+use line::Rules;
 use schedule::jump::case_of;
 
 // A fresh line of a table, whatever the room held: the boot jobs in file order. Answers how many wait.

@@ -2,7 +2,7 @@
 -- Assumes nothing.
 use borrow.Author.Tests.{lt-leb, le-leb}
 use Rattle.crontab.specs.Choices.{dateUnder}
-use Rattle.crontab.proofs.Offsets.{kept, kept-in}
+use Rattle.line.proofs.Theorems.{kept, kept-in}
 use Rattle.crontab.proofs.Firings.{date-same}
 use borrow.Author.Needs.{needs}
 use Rattle.crontab.proofs.chosen.date_under.Statement.{statement}

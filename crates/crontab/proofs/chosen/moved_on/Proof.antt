@@ -2,7 +2,7 @@
 -- Assumes nothing.
 use mathlib.Core.Path.{ap, _∙_}
 use Rattle.crontab.specs.Choices.{dateUnder}
-use Rattle.crontab.proofs.Offsets.{kept-in, same-bits}
+use Rattle.line.proofs.Theorems.{kept-in, same-bits}
 use Rattle.crontab.proofs.Choices.{date-kept}
 use Rattle.crontab.proofs.chosen.moved_on.Statement.{statement}
 use Rattle.crontab.proofs.chosen.moved_on.Tie as tie

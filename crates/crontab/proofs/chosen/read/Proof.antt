@@ -19,7 +19,7 @@ use Rattle.crontab.proofs.Tables.{good}
 use Rattle.crontab.proofs.Items.{items-start, start-reached, items-end}
 use Rattle.crontab.proofs.Walks.{step-less, count-entry, count-setting, count-nothing, entry-under, entry-room, table-here, table-setting, table-nothing, table-refused}
 use Rattle.crontab.proofs.Choices.{chosen-more, chosen-refused, date-kept, date-back}
-use Rattle.crontab.proofs.Offsets.{kept-in}
+use Rattle.line.proofs.Theorems.{kept-in}
 use Rattle.crontab.proofs.chosen.read.Statement.{statement}
 use Rattle.crontab.proofs.chosen.read.Tie as tie
 

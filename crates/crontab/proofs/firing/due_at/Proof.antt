@@ -3,7 +3,7 @@
 use mathlib.Core.Path.{sym, _∙_}
 use borrow.Author.Tests.{lt-leb}
 use Rattle.crontab.specs.Firings.{dueOf}
-use Rattle.crontab.proofs.Offsets.{kept, kept-in}
+use Rattle.line.proofs.Theorems.{kept, kept-in}
 use Rattle.crontab.proofs.Firings.{due-on, date-same}
 use borrow.Author.Needs.{needs}
 use Rattle.crontab.proofs.firing.due_at.Statement.{statement}

@@ -3,7 +3,7 @@
 use mathlib.Core.Path.{ap, _∙_}
 use borrow.Author.Tests.{lt-leb, le-leb}
 use Rattle.crontab.specs.Firings.{told, nextOf}
-use Rattle.crontab.proofs.Offsets.{kept, kept-in}
+use Rattle.line.proofs.Theorems.{kept, kept-in}
 use Rattle.crontab.proofs.Firings.{next-same}
 use borrow.Author.Needs.{needs}
 use Rattle.crontab.proofs.firing.next_after.Statement.{statement}

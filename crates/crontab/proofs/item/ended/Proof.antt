@@ -2,8 +2,7 @@
 -- Assumes nothing.
 use mathlib.Core.Path.{sym, _∙_}
 use native.Mathlib.Omega.{arith}
-use Rattle.crontab.proofs.Offsets.{kept, forced}
-use Rattle.crontab.proofs.LineViews.{setting-proper}
+use Rattle.line.proofs.Theorems.{kept, forced, setting-proper}
 use Rattle.crontab.proofs.Items.{step-nothing, step-setting, step-entry, step-full, step-refused, line-ends, line-order, line-from, line-stops, entry-placed}
 use borrow.Author.Needs.{needs}
 use Rattle.crontab.proofs.item.ended.Statement.{statement}

@@ -2,7 +2,7 @@
 -- Assumes nothing.
 use native.Mathlib.Omega.{arith}
 use borrow.Author.Needs.{needs}
-use Rattle.crontab.proofs.Offsets.{kept}
+use Rattle.line.proofs.Theorems.{kept}
 use Rattle.crontab.proofs.Items.{line-from, line-stops, step-last}
 use Rattle.crontab.proofs.item.last.Statement.{statement}
 use Rattle.crontab.proofs.item.last.Tie as tie

@@ -2,7 +2,7 @@
 -- Assumes nothing.
 use native.Mathlib.Omega.{arith}
 use Rattle.crontab.specs.Owners.{ownerFrom}
-use Rattle.crontab.proofs.Users.{owner-within}
+use Rattle.line.proofs.Theorems.{owner-within}
 use borrow.Author.Needs.{needs}
 use Rattle.crontab.proofs.owner.owner_from.Statement.{statement}
 use Rattle.crontab.proofs.owner.owner_from.Tie as tie

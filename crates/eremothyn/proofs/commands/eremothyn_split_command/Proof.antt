@@ -6,7 +6,7 @@ use Prim.Native.Nat.{ℕ}
 use native.Mathlib.Omega.{arith}
 use Rattle.bytes.specs.Runs.{between}
 use Rattle.crontab.proofs.Theorems.{entry-sound}
-use Rattle.crontab.specs.declared.Rules.{Rules}
+use Rattle.line.specs.declared.Rules.{Rules}
 use Rattle.crontab.specs.declared.entry.Entry.{Entry}
 use Rattle.crontab.specs.declared.table.EntryAnswer.the-variants as entry
 use Rattle.crontab.specs.Tables.{tableOf, entryIn}

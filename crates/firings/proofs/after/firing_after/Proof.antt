@@ -2,7 +2,7 @@
 -- Assumes nothing.
 use mathlib.Core.Path.{_∙_}
 use borrow.Author.Needs.{needs}
-use Rattle.crontab.proofs.Offsets.{kept, kept-in}
+use Rattle.line.proofs.Theorems.{kept, kept-in}
 use Rattle.firings.proofs.NextFirings.{boot-none, timed-first, next-same}
 use Rattle.firings.proofs.after.firing_after.Statement.{statement}
 use Rattle.firings.proofs.after.firing_after.Tie as tie

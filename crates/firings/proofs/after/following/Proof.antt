@@ -2,7 +2,7 @@
 -- Assumes nothing.
 use mathlib.Core.Path.{_∙_}
 use borrow.Author.Needs.{needs}
-use Rattle.crontab.proofs.Offsets.{kept, kept-in}
+use Rattle.line.proofs.Theorems.{kept, kept-in}
 use Rattle.firings.proofs.NextFirings.{boot-none, timed-first, timed-fires, next-same, fires-same}
 use Rattle.firings.proofs.after.following.Statement.{statement}
 use Rattle.firings.proofs.after.following.Tie as tie

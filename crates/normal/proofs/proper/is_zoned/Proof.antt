@@ -2,7 +2,7 @@
 -- Assumes nothing.
 use mathlib.Core.Path.{_∙_}
 use borrow.Author.Needs.{needs}
-use Rattle.crontab.specs.Offsets.{mayStand}
+use Rattle.line.specs.Offsets.{mayStand}
 use Rattle.normal.proofs.proper.is_zoned.Statement.{statement}
 use Rattle.normal.proofs.proper.is_zoned.Tie as tie
 

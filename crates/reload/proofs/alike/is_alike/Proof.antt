@@ -4,7 +4,7 @@ use mathlib.Core.Path.{_∙_}
 use native.Mathlib.Omega.{arith}
 use borrow.Author.Needs.{needs}
 use Rattle.bytes.specs.Runs.{between}
-use Rattle.crontab.proofs.Offsets.{kept-in}
+use Rattle.line.proofs.Theorems.{kept-in}
 use Rattle.reload.proofs.Duties.{time-kept, alike-not, alike-other, alike-owner, owner-inside}
 use Rattle.reload.proofs.alike.is_alike.Statement.{statement}
 use Rattle.reload.proofs.alike.is_alike.Tie as tie

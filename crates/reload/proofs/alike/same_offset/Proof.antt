@@ -5,7 +5,7 @@ use borrow.Author.Tests.{eq-eqb, ne-eqb}
 use mir.Syntax.{w32}
 use mir.Val.{ofZ}
 use Rattle.schedule.specs.Local.{ahead}
-use Rattle.crontab.proofs.Offsets.{same-bits}
+use Rattle.line.proofs.Theorems.{same-bits}
 use Rattle.reload.proofs.Duties.{ahead-same}
 use Rattle.reload.proofs.alike.same_offset.Statement.{statement}
 use Rattle.reload.proofs.alike.same_offset.Tie as tie

@@ -1,0 +1,17 @@
+pub mod Words
+pub mod Users
+pub mod TimeViews
+pub mod TextViews
+pub mod Offsets
+pub mod Zones
+pub mod LineViews
+pub mod Lines
+pub mod FirstDialect
+pub mod KindsDialects
+pub mod Spacing
+pub mod ExactWords
+pub mod Theorems
+pub mod CounterExamples
+pub mod FiveFields
+pub mod WholeLines
+pub mod Columns

@@ -1,0 +1,17 @@
+pub mod Limits
+pub mod Refusals
+pub mod Offsets
+pub mod Assignments
+pub mod Times
+pub mod Words
+pub mod Users
+pub mod Entries
+pub mod Owners
+pub mod Lines
+pub mod FirstDialect
+pub mod Computing
+pub mod Examples
+pub mod ByteRows
+pub mod FarRows
+pub mod WordRows
+pub mod FarColumns
