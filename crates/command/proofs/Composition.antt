@@ -17,7 +17,7 @@ use Rattle.command.specs.Pieces.{percent, backslash, alone, paired, piec
 use Rattle.command.specs.declared.Input.the-variants.{None, Length}
 use Rattle.command.specs.declared.SplitAnswer.the-variants.{Written, Refused}
 use Rattle.command.specs.Parts.{absent, given, upToPercent, restOf, shellLine, inputOf, textOf, inputLength, lengthsOf}
-use Rattle.command.specs.Buffers.{haveRoom, splitStep}
+use Rattle.command.specs.Buffers.{haveRoom, Split, splitStep}
 
 -- ---- the shell line, and whether there is input
 
@@ -200,11 +200,13 @@ module _ (c shell input : List ℕ) where
   unfolding splitStep haveRoom
   split-no-input h = rw (lt-leb (length fed) (length input) h) (go (leb (length line) (length shell)))
     where
-      go : (t : Bool)
-          → cond (t && false)
-          (record { answer = Written (length line) (inputLength (inputOf c)); shell = laid line shell; input = laid fed input })
-          (record { answer = Refused 18; shell = shell; input = input })
-          ≡ record { answer = Refused 18; shell = shell; input = input }
+      refused : Split
+      refused = record { answer = Refused 18; shell = shell; input = input }
+
+      wrote : Split
+      wrote = record { answer = Written (length line) (inputLength (inputOf c)); shell = laid line shell; input = laid fed input }
+
+      go : (t : Bool) → cond (t && false) wrote refused ≡ refused
       go true = refl
       go false = refl
 
