@@ -6,13 +6,18 @@ use mathlib.Core.Path.{_≡_, refl, ap, _∙_}
 use mathlib.Core.Bool.{Bool, true, false, not, cond, _&&_, _||_, and-eq-true-iff, false≢true}
 use mathlib.Mathlib.Data.Bool.Basic.{or-eq-false-eq-eq-false-and-eq-false}
 use mathlib.Core.List.{List, [], _∷_, _++_, append-assoc, append-nil}
-use Prim.Native.Nat.{ℕ}
-use lib.Dec.{eqb}
-use borrow.Author.Tests.{ne-eqb, eqb-false, not-true}
+use Prim.Native.Nat.{ℕ, _≤_, _<_}
+use lib.Dec.{eqb, leb}
+use lib.ListN.{length, drop}
+use borrow.Author.Tests.{ne-eqb, eqb-false, not-true, le-leb, lt-leb}
+use Rattle.bytes.specs.Laid.{laid}
 use Rattle.command.specs.declared.Piece.{Piece}
 use Rattle.command.specs.declared.Piece.the-variants.{Byte, Percent}
 use Rattle.command.specs.Pieces.{percent, backslash, alone, paired, pieces, byteOf, bytesOf}
-use Rattle.command.specs.Parts.{absent, given, upToPercent, restOf, shellLine, inputOf, textOf}
+use Rattle.command.specs.declared.Input.the-variants.{None, Length}
+use Rattle.command.specs.declared.SplitAnswer.the-variants.{Written, Refused}
+use Rattle.command.specs.Parts.{absent, given, upToPercent, restOf, shellLine, inputOf, textOf, inputLength, lengthsOf}
+use Rattle.command.specs.Buffers.{haveRoom, Split, splitStep}
 
 -- ---- the shell line, and whether there is input
 
@@ -171,3 +176,45 @@ plain-command (b ∷ s) e =
     let i = plain-command s (t .1) in
     let p = shell-plain b s n m in
     (p .0 ∙ ap (λ (r : List ℕ). b ∷ r) (i .0), p .1 ∙ i .1, input-plain b s n m ∙ ap (λ (r : List ℕ). b ∷ r) (i .2))
+
+-- ---- the two buffers: both texts with room, or nothing, whatever their lengths
+
+module _ (c shell input : List ℕ) where
+  abbrev line : List ℕ
+  line = shellLine c
+
+  abbrev fed : List ℕ
+  fed = textOf (inputOf c)
+
+  pub split-writes : length line ≤ length shell → length fed ≤ length input
+      → splitStep c shell input
+      ≡ record { answer = Written (length line) (inputLength (inputOf c)); shell = line ++ drop (length line) shell; input = fed ++ drop (length fed) input }
+  unfolding splitStep haveRoom laid
+  split-writes h k = rw (le-leb (length line) (length shell) h, le-leb (length fed) (length input) k) refl
+
+  pub split-no-shell : length shell < length line → splitStep c shell input ≡ record { answer = Refused 18; shell = shell; input = input }
+  unfolding splitStep haveRoom
+  split-no-shell h = rw (lt-leb (length line) (length shell) h) refl
+
+  pub split-no-input : length input < length fed → splitStep c shell input ≡ record { answer = Refused 18; shell = shell; input = input }
+  unfolding splitStep haveRoom
+  split-no-input h = rw (lt-leb (length fed) (length input) h) (go (leb (length line) (length shell)))
+    where
+      refused : Split
+      refused = record { answer = Refused 18; shell = shell; input = input }
+
+      wrote : Split
+      wrote = record { answer = Written (length line) (inputLength (inputOf c)); shell = laid line shell; input = laid fed input }
+
+      go : (t : Bool) → cond (t && false) wrote refused ≡ refused
+      go true = refl
+      go false = refl
+
+-- the lengths that are answered, of any size
+pub lengths-are : (c : List ℕ) → (lengthsOf c .shell ≡ length (shellLine c)) × (lengthsOf c .input ≡ inputLength (inputOf c))
+unfolding lengthsOf
+lengths-are c = (refl, refl)
+
+pub input-length : (inputLength absent ≡ None) × ((t : List ℕ) → inputLength (given t) ≡ Length (length t))
+unfolding inputLength
+input-length = (refl, λ t. refl)

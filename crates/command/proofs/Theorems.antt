@@ -5,6 +5,7 @@
 --     for each way a command can go on
 --   input-none, input-escaped, input-kept, input-backslash, input-newline, input-plain: the same for the text of the input
 --   shell-joined, shell-cut, input-joined: a front of whole pieces, and then the rest
+--   split-writes, split-no-shell, split-no-input, lengths-are, input-length: the two buffers, and the lengths that are answered
 --   plain-command: bytes without `%` and backslash are the shell line, and as input they are themselves
 -- Assumes nothing.
 use mathlib.Core.Path.{_≡_, refl}
@@ -18,6 +19,7 @@ pub use Rattle.command.proofs.Sizes.{split-length}
 pub use Rattle.command.proofs.Composition.{shell-none, shell-escaped, shell-kept, shell-backslash, shell-ends, shell-plain}
 pub use Rattle.command.proofs.Composition.{input-none, input-escaped, input-kept, input-backslash, input-newline, input-plain}
 pub use Rattle.command.proofs.Composition.{inputText, endsWhole, inShell, isPlain, pieces-joined, input-joined, shell-joined, shell-cut, plain-command}
+pub use Rattle.command.proofs.Composition.{split-writes, split-no-shell, split-no-input, lengths-are, input-length}
 
 -- backslash and `%` together give `%`
 pub escaped : (s : List ℕ) → pieces false (backslash ∷ percent ∷ s) ≡ Byte percent ∷ pieces false s

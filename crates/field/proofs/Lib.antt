@@ -25,6 +25,7 @@ pub mod Writing
 pub mod Composition
 pub mod ElementForms
 pub mod RangeValues
+pub mod ElementRefusals
 pub mod StarFields
 pub mod NameTexts
 pub mod BothDialects

@@ -21,6 +21,7 @@
 --   field-element, element-single, element-range, element-step, range-text: a field with no comma is one element, and its three texts (ElementForms)
 --   number-digits, number-none, number-long, number-other, value-joined: the number that digits are, and that nothing else is one
 --   range-values, range-exact, rising-values, wrapping-values: a range is accepted within its limits, and has exactly these values (RangeValues)
+--   range-outside, range-reversed, range-zero: and otherwise has 6, 7 or 8, in numbers of any size (ElementRefusals)
 --   star-alone, star-stepped, star-zero, star-malformed, star-other, star-values: a field that begins with `*` (StarFields)
 --   alike-exact, name-any-case, month-exact, weekday-exact: a name in any letter case, and no other bytes (NameTexts)
 --   form-in-both, same-in-both: what both dialects read alike (BothDialects)
@@ -59,6 +60,7 @@ pub use Rattle.field.proofs.FirstDialect.{Plain, first-dialect-same, mi
 pub use Rattle.field.proofs.Composition.{followed, isMalformed, together, field-joined, star-first, star-later}
 pub use Rattle.field.proofs.ElementForms.{field-element, element-single, element-range, element-step, range-text, value-joined, number-digits, number-none, number-long, number-other}
 pub use Rattle.field.proofs.RangeValues.{range-values, range-exact, rising-values, wrapping-values}
+pub use Rattle.field.proofs.ElementRefusals.{Outside, Inside, range-outside, range-reversed, range-zero}
 pub use Rattle.field.proofs.StarFields.{star-alone, star-stepped, star-zero, star-malformed, star-other, star-values}
 pub use Rattle.field.proofs.NameTexts.{alike-exact, name-any-case, Named, month-exact, weekday-exact}
 pub use Rattle.field.proofs.BothDialects.{RisesBelow, EachBelow, SundayBits, form-in-both, same-in-both, minute-sunday, hour-sunday, day-sunday, month-sunday, weekday-sunday}

@@ -20,7 +20,7 @@ use Rattle.normal.specs.Texts.{nameText, valueText, scheduleText, itemTe
 use Rattle.normal.specs.Proper.{isName, isValue, isCommand, isSchedule, isItem, areItems}
 use Rattle.normal.specs.NormalForms.{normalForm}
 use Rattle.normal.specs.Computing.{writing}
-use Rattle.normal.proofs.Theorems.{line-proper, line-back, name-bare, value-bare, meaning-lines, meaning-proper, meaning-few, meaning-offsets, read-back, normal-in-either, offsets-back, equal-forms, equal-texts}
+use Rattle.normal.proofs.Theorems.{line-proper, line-back, name-bare, value-bare, meaning-lines, meaning-proper, meaning-few, meaning-offsets, read-back, normal-in-either, offsets-back, equal-forms, equal-texts, normal-again, form-again}
 
 -- ---- any table that is good in the second dialect
 
@@ -51,10 +51,20 @@ module _ (s : List ℕ) (good : tableOf (ofUser Wrapping) s .refusal ≡ 0) wher
     pub forms-used : (buffer : List ℕ) → normalForm Rising normal buffer ≡ normalForm Wrapping s buffer
     forms-used buffer = equal-forms Rising Wrapping normal s buffer (either-used .0) good (either-used .1)
 
+    -- form-again, normal-again: from the second dialect to the first
+    pub again-used : (buffer : List ℕ) → (normalForm Rising normal buffer ≡ normalForm Wrapping s buffer) × (normalText (meaningOf Rising normal) ≡ normal)
+    again-used buffer = (form-again Wrapping Rising s buffer good fit, normal-again Wrapping Rising s good fit)
+
     -- equal-texts, the other direction: a table of the first dialect with the same text has the same meaning
     pub texts-used : (t : List ℕ) → tableOf (ofUser Rising) t .refusal ≡ 0 → fits (meaningOf Rising t) ≡ true → normal ≡ normalText (meaningOf Rising t)
         → meaningOf Wrapping s ≡ meaningOf Rising t
     texts-used t other short same = equal-texts Wrapping Rising s t good other fit short same
+
+-- ---- any table that is good in the first dialect: form-again, normal-again to the second
+
+pub again-back : (s buffer : List ℕ) → tableOf (ofUser Rising) s .refusal ≡ 0 → fits (meaningOf Rising s) ≡ true
+    → let normal = normalText (meaningOf Rising s) in (normalForm Wrapping normal buffer ≡ normalForm Rising s buffer) × (normalText (meaningOf Wrapping normal) ≡ normal)
+again-back s buffer good fit = (form-again Rising Wrapping s buffer good fit, normal-again Rising Wrapping s good fit)
 
 -- ---- a line of each kind, whatever its length, in the second dialect
 

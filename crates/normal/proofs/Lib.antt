@@ -9,6 +9,7 @@ pub mod Tables
 pub mod Writing
 pub mod Walks
 pub mod Forms
+pub mod Composition
 pub mod Theorems
 pub mod Extremes
 pub mod CounterExamples

@@ -13,6 +13,12 @@
 --   form-told: a refused call changes no byte, and any call keeps the buffer's length
 --   schedule-small, schedule-long: the sets of a schedule that passes the test fit the bytes that they have, and its text has 9 bytes or more
 --   shortest-step: the n of a field's `*/n` is the smallest that gives its set, over any limits; `field` has it
+-- Of any length (Composition):
+--   text-joined, text-one, short-joined, entries-joined: the text of items, their shortness and their entries, item by item
+--   boot-text, timed-text, setting-text: the text of each kind of item
+--   name-exact, value-exact, in-double, in-single: quotes exactly where a bare reading would differ, double before single
+--   fits-exact: the two limits
+--   form-refuses, form-too-long, form-no-room, form-writes: what the call answers, one equation for each way
 -- Extremes uses them for the second dialect, and for a table with quoted settings, offsets and a range over the join.
 -- Assumes nothing.
 use mathlib.Core.Path.{_≡_, refl, sym, ap, _∙_}
@@ -46,6 +52,8 @@ use Rattle.normal.specs.NormalForms.{NormalForm, refusedForm, laidForm, 
 use Rattle.normal.proofs.EntryTexts.{schedule-parts}
 pub use Rattle.normal.proofs.Lines.{line-proper, line-back}
 pub use Rattle.normal.proofs.Quotes.{name-bare, value-bare}
+pub use Rattle.normal.proofs.Composition.{text-joined, text-one, short-joined, entries-joined, boot-text, timed-text, setting-text}
+pub use Rattle.normal.proofs.Composition.{name-exact, value-exact, in-double, in-single, EachShort, fits-exact, form-refuses, form-too-long, form-no-room, form-writes}
 pub use Rattle.normal.proofs.Tables.{meaning-lines, meaning-proper, meaning-few, written-good, written-means, meaning-offsets}
 
 -- ---- meanings

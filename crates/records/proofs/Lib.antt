@@ -7,5 +7,8 @@ pub mod Packing
 pub mod Compiling
 pub mod Readers
 pub mod Decompiling
+pub mod ByteLayout
+pub mod Composition
 pub mod Theorems
+pub mod ManyRecords
 pub mod Extremes

@@ -44,7 +44,7 @@ after-alike m n skipped x = x
 after-alike m n (refused number) x = record { items = refl; refusal = refl }
 after-alike m n (means i) x = record { items = ap (λ (is : List Item). i ∷ is) (x .items); refusal = x .refusal }
 
-from-alike : (m n : ℕ) (rs : Records) → Alike (saidFrom m rs) (saidFrom n rs)
+pub from-alike : (m n : ℕ) (rs : Records) → Alike (saidFrom m rs) (saidFrom n rs)
 unfolding saidFrom itemsSaid refusalSaid
 from-alike m n said.Records.done = record { items = refl; refusal = refl }
 from-alike m n said.cut = record { items = refl; refusal = refl }
@@ -85,7 +85,7 @@ pub record Shown (x : Said) (xs : List Sent) : Type 0 where
   pub proper : areItems (itemsSaid x) ≡ true
   pub none : ChangesNone xs
 
-unknown : (kind : ℕ) (body : List ℕ) → isSkipped kind ≡ false → (1 ≤ kind → kind ≤ 4 → ⊥) → contentOf kind body ≡ refused 23
+pub unknown : (kind : ℕ) (body : List ℕ) → isSkipped kind ≡ false → (1 ≤ kind → kind ≤ 4 → ⊥) → contentOf kind body ≡ refused 23
 unfolding contentOf
 unknown kind body e other =
     let past : (k : ℕ) → 1 ≤ k → k ≤ 4 → eqb kind k ≡ false = λ k low high. ne-eqb kind k (λ q. other (omega (arith, q)) (omega (arith, q))) in
@@ -134,7 +134,7 @@ abbrev pub Sendable : List Item → Type 0
 Sendable [] = Unit {0}
 Sendable (i ∷ is) = (length (bodyOf i) ≤ longestBody) × Sendable is
 
-kind-small : (i : Item) → kindOf i < width 2
+pub kind-small : (i : Item) → kindOf i < width 2
 unfolding kindOf settingKindOf
 kind-small (timed s command) = omega arith
 kind-small (boot command) = omega arith

@@ -9,6 +9,15 @@
 --   equal-records: tables that mean the same have the same records
 --   decompile-written: and they are read where the text has room
 --   compiled-told, decompiled-told, fault-told: a refused call changes no byte, and any call keeps the buffer's length; a bad record is one of them
+-- Where each number stands in a record, for any sets, texts and bodies (ByteLayout):
+--   minute-bits, hour-bits, day-bits, month-bits, weekday-bits, flag-bits, timed-command: of a timed entry, bit by bit
+--   setting-bytes, boot-bytes, record-bytes: of the other bodies, and of a record
+-- Of any number of records and any bytes (Composition):
+--   records-of-joined, records-joined: a good list of records is written, and read in front of any bytes, item by item
+--   cut-one, cut-below, cut-short, kind-unknown, kind-skipped: 22, 23 and skipped, by length and kind
+--   compile-refuses, compile-too-long, compile-no-room, compile-writes: what the writer answers, one equation for each way
+--   decompile-refuses, decompile-too-many, decompile-too-long, decompile-no-room, decompile-writes: and the reader
+-- ManyRecords uses skipped-kinds, fault-lowered, later-writer and records-joined for any number of records.
 -- Extremes uses them for each kind and both directions, the second dialect, any buffers, and a list with every kind of record.
 -- Assumes nothing.
 use mathlib.Core.Path.{_≡_, refl, sym, ap, _∙_}
@@ -44,6 +53,10 @@ use Rattle.records.specs.Calls.{compiled, textOf, decompiled, recordFaul
 use Rattle.records.specs.Writers.{LineMeans, Record, longestBody, Framed, All, bytesOf, kept, Sent, asRecords, Writer, itemsSent, ChangesNone}
 use Rattle.records.proofs.Means.{no-line, no-line-back}
 use Rattle.records.proofs.Decompiling.{said-sound, refusal-small, fault-near}
+pub use Rattle.records.proofs.ByteLayout.{minute-bits, hour-bits, day-bits, month-bits, weekday-bits, flag-bits, timed-command, setting-bytes, boot-bytes, record-bytes}
+pub use Rattle.records.proofs.Composition.{records-of-joined, records-joined, cut-one, cut-below, cut-short, kind-unknown, kind-skipped}
+pub use Rattle.records.proofs.Composition.{compile-refuses, compile-too-long, compile-no-room, compile-writes}
+pub use Rattle.records.proofs.Composition.{decompile-refuses, decompile-too-many, decompile-too-long, decompile-no-room, decompile-writes}
 pub use Rattle.records.proofs.Faults.{fault-none, fault-lowered, lowered-two, none-bad-mixed}
 use Rattle.records.proofs.Saids.{Alike, kept-alike, sent-said, Says, Sendable, items-said}
 

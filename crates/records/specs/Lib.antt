@@ -8,5 +8,6 @@ pub mod ReaderSteps
 pub mod Computing
 pub mod Examples
 pub mod ByteRows
+pub mod LayoutRows
 pub mod BodyRows
 pub mod CounterExamples
