@@ -5,6 +5,7 @@ pub mod Digits
 pub mod Runs
 pub mod Places
 pub mod Sets
+pub mod Ones
 pub mod LeastBit
 pub mod Together
 pub mod LittleEndian

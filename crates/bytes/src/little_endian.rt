@@ -5,6 +5,7 @@ ghost use lib.ListN.{length};
 ghost use Rattle.bytes.specs.Runs.{between};
 ghost use Rattle.bytes.specs.Clipped.{Wrote};
 ghost use Rattle.bytes.specs.LittleEndian.{littleEndian, numberOf, width};
+use crate::write::after;
 use crate::write::byte;
 
 fn wide(b: u8) -> u64
@@ -27,10 +28,13 @@ pub fn read(s: &[u8], at: usize, size: usize) -> u64
     n
 }
 
-// Writes a number in so many bytes at a place, as far as they fit, and answers the place after them.
+// Writes a number in so many bytes at a place, as far as they fit, and answers the place after them. Where nothing fits, no byte is worked out.
 pub fn write(out: &mut [u8], at: usize, n: u64, size: usize) -> usize
     ensures { λ r. ⌜ Wrote at (littleEndian size n) (now (out .entry)) r (now (out .exit)) ⌝ }
 {
+    if out.len() <= at {
+        return after(at, size);
+    }
     let mut next = at;
     let mut i = 0;
     let mut rest = n;

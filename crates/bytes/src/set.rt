@@ -2,6 +2,7 @@
 ghost use mathlib.Core.Path.{_≡_};
 ghost use Prim.Native.Nat.{_≤_};
 ghost use Rattle.bytes.specs.Sets.{hasBit, put};
+ghost use Rattle.bytes.specs.Passing.{countBelow};
 ghost use Rattle.bytes.specs.Search.{from};
 
 // Whether the set has n.
@@ -22,6 +23,17 @@ pub fn with(set: u64, n: u64) -> u64
         return set | 1 << n;
     }
     set
+}
+
+// How many values below n the set has.
+pub fn below(set: u64, n: u64) -> u64
+    requires { ⌜ n ≤ 64 ⌝ }
+    ensures { λ r. ⌜ (r ≡ countBelow (hasBit set) n) × (r ≤ n) ⌝ }
+{
+    if n < 64 {
+        return u64::count_ones(set % (1 << n)) as u64;
+    }
+    u64::count_ones(set) as u64
 }
 
 // The least value of the set from `at` on and below `end`, or `end` where there is none; `at` where that isn't below `end`.

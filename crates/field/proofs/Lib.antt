@@ -21,6 +21,7 @@ pub mod Dialects
 pub mod FirstDialect
 pub mod FieldTests
 pub mod TextBytes
+pub mod ListSizes
 pub mod Writing
 pub mod Composition
 pub mod ElementForms

@@ -11,9 +11,7 @@ use native.Mathlib.Omega.{arith}
 use lib.Dec.{ltb}
 use lib.ListN.{length}
 use borrow.Author.Tests.{le-leb, eq-eqb, ne-eqb, ltb-false}
-use mir.Val.{boolByte}
 use Rattle.bytes.specs.Digits.{numberText}
-use Rattle.bytes.proofs.Digits.{one-digit, two-digits}
 use Rattle.bytes.specs.Clipped.{lastPlace, Wrote}
 use Rattle.bytes.specs.Sets.{hasBit, fromOn}
 use Rattle.bytes.specs.Search.{from}
@@ -71,19 +69,6 @@ member-first v = append-nil (numberText v)
 pub member-later : (v : ℕ) → memberText false v ≡ 44 ∷ numberText v
 unfolding memberText listRest afterCommas
 member-later v = ap (λ (s : List ℕ). 44 ∷ s) (append-nil (numberText v))
-
-pub bool-small : (b : Bool) → boolByte b ≤ 1
-bool-small true = omega arith
-bool-small false = omega arith
-
--- its length, by its digits
-pub member-short : (v : ℕ) (first : Bool) → v < 10 → length (memberText first v) ≡ 2 - boolByte first
-member-short v true h = rw (member-first v, one-digit v h)
-member-short v false h = rw (member-later v, one-digit v h)
-
-pub member-long : (v : ℕ) (first : Bool) → 10 ≤ v → length (memberText first v) ≡ 3 - boolByte first
-member-long v true h = rw (member-first v, two-digits v h)
-member-long v false h = rw (member-later v, two-digits v h)
 
 -- ---- from one value to the next
 

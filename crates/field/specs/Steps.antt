@@ -1,9 +1,11 @@
 -- What the functions inside promise each other. What a reader must believe is in Values and Written.
 -- Assumes nothing.
-use Prim.Native.Nat.{ℕ, _-_, _≤_, _<_}
+use Prim.Native.Nat.{ℕ, _-_, _*_, _≤_, _<_, min}
 use mathlib.Core.Bool.{Bool, true, false, cond, _&&_}
 use mathlib.Core.List.{List, [], _∷_}
 use lib.Dec.{eqb, ltb}
+use Rattle.bytes.specs.Sets.{hasBit}
+use Rattle.bytes.specs.Passing.{countBelow}
 use Rattle.field.specs.declared.Limits.{Limits}
 use Rattle.field.specs.Written.{afterCommas, listText}
 
@@ -23,3 +25,7 @@ listRest false vs = afterCommas vs
 -- a value alone
 unfoldable pub memberText : Bool → ℕ → List ℕ
 memberText first v = listRest first (v ∷ [])
+
+-- how many bytes the values below n have in a list, each with a comma: three, less one for each of one digit
+abbrev pub sizeBelow : ℕ → ℕ → ℕ
+sizeBelow set n = 3 * countBelow (hasBit set) n - countBelow (hasBit set) (min n 10)

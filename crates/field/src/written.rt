@@ -4,12 +4,13 @@ ghost use mathlib.Core.Path.{_≡_};
 ghost use Prim.Native.Nat.{_<_, _≤_};
 ghost use lib.ListN.{length};
 ghost use Rattle.bytes.specs.Clipped.{Wrote};
-ghost use Rattle.field.specs.Steps.{InWord, memberText};
+ghost use Rattle.field.specs.Steps.{InWord, memberText, sizeBelow};
 ghost use Rattle.field.specs.Written.{gives, stepOf, starText, members, listText, fieldText, isField};
 use crate::Limits;
 use crate::values::bit_of;
 use crate::values::with_values;
 use bytes::set;
+use bytes::size::lesser;
 use bytes::write;
 
 // Whether a step gives the set. Its second value is looked for before all of them are put together.
@@ -53,23 +54,10 @@ fn write_star(n: u8, out: &mut [u8], at: usize) -> usize
     write::number(out, next, n)
 }
 
-// How many bytes a value of a list has, with a comma in front unless it is the first.
-fn member_size(value: u8, first: bool) -> usize
-    ensures { λ r. ⌜ r ≡ length (memberText first value) ⌝ }
-{
-    if value < 10 {
-        return 2 - first as usize;
-    }
-    3 - first as usize
-}
-
-// Writes it. Where nothing fits, as where a text is only measured, no digit is worked out.
+// A value of a list, with a comma in front unless it is the first.
 fn write_member(value: u8, first: bool, out: &mut [u8], at: usize) -> usize
     ensures { λ r. ⌜ Wrote at (memberText first value) (now (out .entry)) r (now (out .exit)) ⌝ }
 {
-    if out.len() <= at {
-        return write::after(at, member_size(value, first));
-    }
     if first {
         return write::number(out, at, value);
     }
@@ -77,8 +65,30 @@ fn write_member(value: u8, first: bool, out: &mut [u8], at: usize) -> usize
     write::number(out, next, value)
 }
 
+// How many bytes the values below n have in a list, each with a comma: three, or two where there is one digit.
+fn size_below(set: u64, n: u64) -> u64
+    requires { ⌜ n ≤ 64 ⌝ }
+    ensures { λ r. ⌜ r ≡ sizeBelow set n ⌝ }
+{
+    let short = lesser(n as usize, 10) as u64;
+    3 * set::below(set, n) - set::below(set, short)
+}
+
+// How many bytes the list has: no comma is in front.
+fn list_size(limits: Limits, set: u64) -> usize
+    requires { ⌜ (limits .first ≤ limits .bits) × (limits .bits ≤ 64) ⌝ }
+    ensures { λ r. ⌜ r ≡ length (listText (members limits set)) ⌝ }
+{
+    let all = size_below(set, limits.bits as u64);
+    let before = size_below(set, limits.first as u64);
+    if before < all {
+        return (all - before - 1) as usize;
+    }
+    0
+}
+
 // The values of the set, from one to the next.
-fn write_list(limits: Limits, set: u64, out: &mut [u8], start: usize) -> usize
+fn write_values(limits: Limits, set: u64, out: &mut [u8], start: usize) -> usize
     requires { ⌜ limits .bits ≤ 64 ⌝ }
     ensures { λ r. ⌜ Wrote start (listText (members limits set)) (now (out .entry)) r (now (out .exit)) ⌝ }
 {
@@ -92,6 +102,17 @@ fn write_list(limits: Limits, set: u64, out: &mut [u8], start: usize) -> usize
         value = set::next(set, value + 1, bits);
     }
     at
+}
+
+// The list. Where nothing fits, as where a text is only measured, its values are counted and not gone through.
+fn write_list(limits: Limits, set: u64, out: &mut [u8], at: usize) -> usize
+    requires { ⌜ (limits .first ≤ limits .bits) × (limits .bits ≤ 64) ⌝ }
+    ensures { λ r. ⌜ Wrote at (listText (members limits set)) (now (out .entry)) r (now (out .exit)) ⌝ }
+{
+    if out.len() <= at {
+        return write::after(at, list_size(limits, set));
+    }
+    write_values(limits, set, out, at)
 }
 
 // Writes the text at a place, as far as it fits, and answers the place after it.
