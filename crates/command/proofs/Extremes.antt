@@ -63,7 +63,7 @@ plain-used s = (
 
 -- ---- commands of any length
 
--- `\\%` n times
+-- `\%` n times
 abbrev escapes : ℕ → List ℕ
 escapes zero = []
 escapes (suc n) = 92 ∷ 37 ∷ escapes n
