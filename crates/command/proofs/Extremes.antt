@@ -1,11 +1,11 @@
 -- The theorems of commands, each used where it says most; and what doesn't meet the words of the functions' promises.
 -- Assumes nothing.
-use mathlib.Core.Path.{_≡_, refl, ap}
+use mathlib.Core.Path.{_≡_, refl, ap, _∙_}
 use mathlib.Core.Bool.{Bool, true, false, true≢false, false≢true}
-use mathlib.Core.List.{List, [], _∷_}
-use Prim.Native.Nat.{ℕ, _+_, _≤_}
+use mathlib.Core.List.{List, [], _∷_, _++_}
+use Prim.Native.Nat.{ℕ, zero, suc, _+_, _≤_}
 use native.Mathlib.Omega.{arith}
-use lib.ListN.{length}
+use lib.ListN.{length, replicate}
 use borrow.Author.Tests.{le-leb}
 use Rattle.bytes.specs.Texts.{text}
 use Rattle.command.specs.declared.Piece.{Piece}
@@ -16,7 +16,7 @@ use Rattle.command.specs.Parts.{Stdin, absent, given, shellLine, inputOf
 use Rattle.command.specs.Buffers.{haveRoom}
 use Rattle.command.specs.Steps.{ahead, StepIs, ShellIs}
 use Rattle.command.specs.Computing.{splitting}
-use Rattle.command.proofs.Theorems.{escaped, kept, ends, unescaped, plain, split-length}
+use Rattle.command.proofs.Theorems.{escaped, kept, ends, unescaped, plain, split-length, inputText, endsWhole, inShell, shell-none, shell-escaped, input-none, input-escaped, shell-joined, shell-cut, input-joined}
 
 -- split-length: two buffers as long as the command are always enough
 pub room-enough : (c shell input : List ℕ) → length c ≤ length shell → length c ≤ length input → haveRoom c shell input ≡ true
@@ -60,6 +60,42 @@ plain-used s = (
   plain 10 s (λ e. omega (arith, e)) (λ e. omega (arith, e)),
   plain 255 s (λ e. omega (arith, e)) (λ e. omega (arith, e)),
 )
+
+-- ---- commands of any length
+
+-- `\%` n times
+abbrev escapes : ℕ → List ℕ
+escapes zero = []
+escapes (suc n) = 92 ∷ 37 ∷ escapes n
+
+escapes-whole : (n : ℕ) → (inShell false (escapes n) ≡ true) × (endsWhole false (escapes n) ≡ true)
+escapes-whole zero = (refl, refl)
+escapes-whole (suc n) = escapes-whole n
+
+escapes-are : (n : ℕ) → (shellLine (escapes n) ≡ replicate n 37) × (inputText (escapes n) ≡ replicate n 37)
+escapes-are zero = (shell-none .0, input-none)
+escapes-are (suc n) =
+    let later = escapes-are n in
+    (shell-escaped (escapes n) .0 ∙ ap (λ (s : List ℕ). 37 ∷ s) (later .0), input-escaped (escapes n) ∙ ap (λ (s : List ℕ). 37 ∷ s) (later .1))
+
+-- shell-joined, shell-cut, input-joined: after as many as there are, whatever comes then
+pub escapes-used : (n : ℕ) (s : List ℕ)
+    → (shellLine (escapes n ++ s) ≡ replicate n 37 ++ shellLine s)
+    × (inputOf (escapes n ++ s) ≡ inputOf s)
+    × (shellLine (escapes n ++ 37 ∷ s) ≡ replicate n 37)
+    × (inputOf (escapes n ++ 37 ∷ s) ≡ given (inputText s))
+    × (inputText (escapes n ++ s) ≡ replicate n 37 ++ inputText s)
+escapes-used n s =
+    let w = escapes-whole n in
+    let e = escapes-are n in
+    let j = shell-joined (escapes n) s (w .0) in
+    let c = shell-cut (escapes n) s (w .0) in (
+      j .0 ∙ ap (λ (t : List ℕ). t ++ shellLine s) (e .0),
+      j .1,
+      c .0 ∙ e .0,
+      c .1,
+      input-joined (escapes n) s (w .1) ∙ ap (λ (t : List ℕ). t ++ inputText s) (e .1),
+    )
 
 -- ---- what doesn't meet them
 

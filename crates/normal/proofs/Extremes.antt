@@ -1,10 +1,12 @@
 -- The theorems of meanings and normal texts, each used where it says most: any table of the second dialect, read back in the first; and one table
 -- with quoted settings, two offsets, `@reboot` and a range over the join. A theorem that said less would not give these.
 -- Assumes nothing.
-use mathlib.Core.Path.{_≡_, refl, _∙_}
+use mathlib.Core.Path.{_≡_, refl, ap, _∙_}
 use mathlib.Core.Bool.{true}
 use mathlib.Core.List.{List, [], _∷_, _++_}
-use Prim.Native.Nat.{ℕ, _≤_}
+use Prim.Native.Nat.{ℕ, zero, suc, _*_, _≤_}
+use native.Mathlib.Omega.{arith}
+use lib.ListN.{length}
 use lib.IntN.{pos, negsuc}
 use Rattle.bytes.specs.declared.class.Class.the-variants.{InLine}
 use Rattle.bytes.specs.Runs.{areOf}
@@ -15,12 +17,12 @@ use Rattle.crontab.specs.Lines.{linesOf}
 use Rattle.line.specs.Offsets.{utc, mayStand}
 use Rattle.crontab.specs.Items.{itemsOf}
 use Rattle.crontab.specs.Tables.{tableOf}
-use Rattle.normal.specs.Meanings.{setting, boot, timed, entriesIn, ofUser, meaningOf, offsetsFrom, entryOffsets, lineItems, itemsIn}
+use Rattle.normal.specs.Meanings.{Item, setting, boot, timed, entriesIn, ofUser, meaningOf, offsetsFrom, entryOffsets, lineItems, itemsIn}
 use Rattle.normal.specs.Texts.{nameText, valueText, scheduleText, itemText, normalText, fits}
 use Rattle.normal.specs.Proper.{isName, isValue, isCommand, isSchedule, isItem, areItems}
 use Rattle.normal.specs.NormalForms.{normalForm}
 use Rattle.normal.specs.Computing.{writing}
-use Rattle.normal.proofs.Theorems.{line-proper, line-back, name-bare, value-bare, meaning-lines, meaning-proper, meaning-few, meaning-offsets, read-back, normal-in-either, offsets-back, equal-forms, equal-texts, normal-again, form-again}
+use Rattle.normal.proofs.Theorems.{line-proper, line-back, name-bare, value-bare, meaning-lines, meaning-proper, meaning-few, meaning-offsets, read-back, normal-in-either, offsets-back, equal-forms, equal-texts, normal-again, form-again, text-joined, EachShort, fits-exact}
 
 -- ---- any table that is good in the second dialect
 
@@ -96,6 +98,43 @@ bare-used name value p e =
     let is : nameText name ≡ name = rw b refl in
     let v = value-bare Wrapping name value p (rw is e) in
     rw (b, v) refl
+
+-- ---- any number of items
+
+-- `@reboot a` n times
+abbrev boots : ℕ → List Item
+boots zero = []
+boots (suc n) = boot (text "a") ∷ boots n
+
+abbrev bootLines : ℕ → List ℕ
+bootLines zero = []
+bootLines (suc n) = text "@reboot a\n" ++ bootLines n
+
+boots-text : (n : ℕ) → normalText (boots n) ≡ bootLines n
+unfolding writing
+boots-text zero = refl
+boots-text (suc n) = ap (λ (s : List ℕ). text "@reboot a\n" ++ s) (boots-text n)
+
+boots-long : (n : ℕ) → length (bootLines n) ≡ 10 * n
+boots-long zero = omega arith
+boots-long (suc n) = omega (arith, boots-long n)
+
+boots-short : (n : ℕ) → EachShort (boots n)
+unfolding writing
+boots-short zero = tt
+boots-short (suc n) = (omega arith, boots-short n)
+
+-- text-joined: before any items
+pub boots-joined : (n : ℕ) (is : List Item) → normalText (boots n ++ is) ≡ bootLines n ++ normalText is
+boots-joined n is = text-joined (boots n) is ∙ ap (λ (s : List ℕ). s ++ normalText is) (boots-text n)
+
+-- fits-exact: 4,915 of them are a table, and one more isn't
+pub boots-fit : (n : ℕ) → (n ≤ 4915 → fits (boots n) ≡ true) × (fits (boots n) ≡ true → n ≤ 4915)
+boots-fit n =
+    let e : length (normalText (boots n)) ≡ 10 * n = rw (boots-text n) (boots-long n) in (
+      (λ h. fits-exact (boots n) .1 (boots-short n, omega (arith, e))),
+      (λ f. let k = fits-exact (boots n) .0 f .1 in omega (arith, e, k)),
+    )
 
 -- ---- one table
 
