@@ -104,6 +104,11 @@ fn write_values(limits: Limits, set: u64, out: &mut [u8], start: usize) -> usize
     at
 }
 
+// Whether there are two values or more, so that it is worth counting them.
+fn has_several(set: u64) -> bool {
+    u64::trailing_zeros(set) + u64::leading_zeros(set) < 63
+}
+
 // The list. Where nothing fits, as where a text is only measured, its values are counted and not gone through.
 fn write_list(limits: Limits, set: u64, out: &mut [u8], at: usize) -> usize
     requires { ⌜ (limits .first ≤ limits .bits) × (limits .bits ≤ 64) ⌝ }
@@ -124,7 +129,10 @@ pub fn write(limits: Limits, set: u64, star: bool, out: &mut [u8], at: usize) ->
         let n = step_of(limits, set);
         return write_star(n, out, at);
     }
-    write_list(limits, set, out, at)
+    if has_several(set) {
+        return write_list(limits, set, out, at);
+    }
+    write_values(limits, set, out, at)
 }
 
 // Whether a field may mean a set and a flag: a step gives the set; or it isn't empty and has no bit but those of the field's values.
