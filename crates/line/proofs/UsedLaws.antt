@@ -1,7 +1,7 @@
 -- Laws of lines that nothing else uses, used for any bytes and any lengths: a hypothesis more, or a part less of a conclusion, breaks one of these.
 -- Assumes nothing.
 use mathlib.Core.Path.{_≡_, refl}
-use mathlib.Core.Bool.{true, false}
+use mathlib.Core.Bool.{true}
 use mathlib.Core.List.{List, [], _∷_, _++_}
 use Prim.Native.Nat.{ℕ, _+_, _≤_, _<_}
 use native.Mathlib.Omega.{arith}
@@ -52,9 +52,9 @@ pub known-any : (s : List ℕ) {when : When} → wordOf s ≡ Known when
     → AnyOf s (text "@reboot" ∷ text "@yearly" ∷ text "@annually" ∷ text "@monthly" ∷ text "@weekly" ∷ text "@daily" ∷ text "@midnight" ∷ text "@hourly" ∷ [])
 known-any s e = known-word s e
 
-pub offset-any : (rules : Rules) (s : List ℕ) {name value : Part} {zone : Zone} → readLine rules s ≡ Setting name value zone
-    → (partBytes s name ≡ text "CRON_TZ" → zone ≡ zone.Offset (offsetOf (partBytes s value)))
-    × ((partBytes s name ≡ text "CRON_TZ" → ⊥) → zone ≡ zone.Same)
+pub offset-any : (rules : Rules) (s : List ℕ) {name value : Part} {z : Zone} → readLine rules s ≡ Setting name value z
+    → (partBytes s name ≡ text "CRON_TZ" → z ≡ zone.Offset (offsetOf (partBytes s value)))
+    × ((partBytes s name ≡ text "CRON_TZ" → ⊥) → z ≡ zone.Same)
 offset-any rules s e = let o = offset-name rules s e in (o .0, o .1)
 
 -- a field of any length, with any blanks after it, is one of those that FiveFields is about
