@@ -7,3 +7,5 @@ pub mod NextCalls
 pub mod Used
 pub mod DemandNumbers
 pub mod EachAnswer
+pub mod LentAnswers
+pub mod Plainly

@@ -15,3 +15,8 @@ pub mod CounterExamples
 pub mod FiveFields
 pub mod WholeLines
 pub mod Columns
+pub mod ColumnRefusals
+pub mod FieldWays
+pub mod OffsetTexts
+pub mod SettingParts
+pub mod UsedLaws
