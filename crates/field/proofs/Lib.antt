@@ -29,6 +29,7 @@ pub mod RangeValues
 pub mod ElementRefusals
 pub mod StarFields
 pub mod NameTexts
+pub mod NameEnds
 pub mod BothDialects
 pub mod WrittenLists
 pub mod Theorems
