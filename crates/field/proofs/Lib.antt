@@ -34,3 +34,4 @@ pub mod BothDialects
 pub mod WrittenLists
 pub mod Theorems
 pub mod Extremes
+pub mod UsedLaws
