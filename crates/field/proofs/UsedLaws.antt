@@ -86,7 +86,7 @@ module _ (l : Limits) (column : ℕ) where
     pub zero-used : (readField l column (text "9998-9999/0") ≡ Refused 8 column) × (l .wraps ≡ true → readField l column (text "9999-9998/0") ≡ Refused 8 column)
     zero-used = (
       range-zero l column (text "9998") (text "9999") (text "0") (numbers-are .3) (numbers-are .2) (numbers-are .1)
-      (record { from = h; to = omega arith }) (record { from = omega arith; to = k }) (inl (omega arith)) refl,
+          (record { from = h; to = omega arith }) (record { from = omega arith; to = k }) (inl (omega arith)) refl,
       (λ w.
           range-zero l column (text "9999") (text "9998") (text "0") (numbers-are .2) (numbers-are .3) (numbers-are .1)
           (record { from = omega arith; to = k }) (record { from = h; to = omega arith }) (inr w) refl),

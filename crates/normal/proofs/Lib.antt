@@ -14,3 +14,4 @@ pub mod LineItems
 pub mod Theorems
 pub mod Extremes
 pub mod CounterExamples
+pub mod UsedLaws
