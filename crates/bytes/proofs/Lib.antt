@@ -14,3 +14,5 @@ pub mod Marks
 pub mod Written
 pub mod ClippedBytes
 pub mod CounterExamples
+pub mod AllBytesTried
+pub mod UsedLaws

@@ -5,3 +5,4 @@ pub mod Filling
 pub mod Buffers
 pub mod Composition
 pub mod Extremes
+pub mod UsedLaws

@@ -29,7 +29,9 @@ pub mod RangeValues
 pub mod ElementRefusals
 pub mod StarFields
 pub mod NameTexts
+pub mod NameEnds
 pub mod BothDialects
 pub mod WrittenLists
 pub mod Theorems
 pub mod Extremes
+pub mod UsedLaws

@@ -24,6 +24,7 @@
 --   range-outside, range-reversed, range-zero: and otherwise has 6, 7 or 8, in numbers of any size (ElementRefusals)
 --   star-alone, star-stepped, star-zero, star-malformed, star-other, star-values: a field that begins with `*` (StarFields)
 --   alike-exact, name-any-case, month-exact, weekday-exact: a name in any letter case, and no other bytes (NameTexts)
+--   sunday-exact, end-named, end-numbered, upper-wraps, upper-week, upper-plain: the ends of a range, by their bytes (NameEnds)
 --   form-in-both, same-in-both: what both dialects read alike (BothDialects)
 -- Of the text of a set and a flag (ticket 2026-06), over usual limits, as the five fields have:
 --   field-fits: what may be written has no bit past the field's

@@ -14,3 +14,4 @@ pub mod Written
 pub mod Computing
 pub mod Examples
 pub mod ByteRows
+pub mod NameRows

@@ -10,6 +10,8 @@ pub mod Writing
 pub mod Walks
 pub mod Forms
 pub mod Composition
+pub mod LineItems
 pub mod Theorems
 pub mod Extremes
 pub mod CounterExamples
+pub mod UsedLaws

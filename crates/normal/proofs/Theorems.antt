@@ -17,6 +17,8 @@
 --   text-joined, text-one, short-joined, entries-joined: the text of items, their shortness and their entries, item by item
 --   boot-text, timed-text, setting-text: the text of each kind of item
 --   name-exact, value-exact, in-double, in-single: quotes exactly where a bare reading would differ, double before single
+--   setting-items, entry-items, ignored-items, refused-items, item-is: what each kind of line gives (LineItems)
+--   name-bare-exact, value-bare-exact, otherwise-double, otherwise-single, double-in-single, name-reads, value-reads: the bytes that stand bare (LineItems)
 --   fits-exact: the two limits
 --   form-refuses, form-too-long, form-no-room, form-writes: what the call answers, one equation for each way
 -- Extremes uses them for the second dialect, and for a table with quoted settings, offsets and a range over the join.

@@ -12,3 +12,5 @@ pub mod Composition
 pub mod Theorems
 pub mod ManyRecords
 pub mod Extremes
+pub mod KindNumbers
+pub mod UsedLaws

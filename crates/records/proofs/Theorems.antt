@@ -12,6 +12,7 @@
 -- Where each number stands in a record, for any sets, texts and bodies (ByteLayout):
 --   minute-bits, hour-bits, day-bits, month-bits, weekday-bits, flag-bits, timed-command: of a timed entry, bit by bit
 --   setting-bytes, boot-bytes, record-bytes: of the other bodies, and of a record
+--   kind-is: the kind of each item's record (KindNumbers)
 -- Of any number of records and any bytes (Composition):
 --   records-of-joined, records-joined: a good list of records is written, and read in front of any bytes, item by item
 --   cut-one, cut-below, cut-short, kind-unknown, kind-skipped: 22, 23 and skipped, by length and kind
