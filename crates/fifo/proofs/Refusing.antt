@@ -1,6 +1,6 @@
 -- What the calls answer, an equation for each way that an answer can go, for any jobs, numbers and rooms: a refused call leaves the room as it was.
 -- Assumes nothing.
-use mathlib.Core.Path.{_≡_, refl, ap, _∙_}
+use mathlib.Core.Path.{_≡_}
 use mathlib.Core.Bool.{true, false}
 use mathlib.Core.List.{List}
 use Prim.Native.Nat.{ℕ, _≤_, _<_}
