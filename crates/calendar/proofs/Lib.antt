@@ -9,3 +9,4 @@ pub mod Months
 pub mod OffCalendar
 pub mod Theorems
 pub mod Extremes
+pub mod LeapRule

@@ -6,6 +6,7 @@
 --   parts-within: how large the parts of a date are
 --   cycle: after 400 years all is the same but the year
 --   direct-is-walk: the date worked out directly is the one that the walk comes to
+--   LeapRule: which years are leap, in plain numbers: leap-exact, leap-days, plain-days
 -- Assumes nothing.
 use mathlib.Core.Path.{_≡_, refl, subst}
 use mathlib.Core.Bool.{Bool, true, false, cond, _&&_}

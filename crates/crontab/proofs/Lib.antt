@@ -20,3 +20,4 @@ pub mod CounterExamples
 pub mod LineByLine
 pub mod EntryTimes
 pub mod LineEnds
+pub mod EntryAnswers

@@ -24,6 +24,8 @@
 --   LineByLine: what each line of a table is in it, by the lines before it: good-accepted, all-accepted, too-long, fault-of-line, entry-too-many, last-cut,
 --     entry-of-line, setting-of-line, no-setting-of-line; LineEnds: line-ends, line-alone, cut-is
 --   EntryTimes: what an entry does goes by its time and its offset alone
+--   EntryAnswers: an equation for each way that an answer about an entry, its owner or a setting can go: entry-none, entry-bad, asked-found, asked-none, owner-found,
+--     owner-none, owner-user, owner-system, clock-plainly, clock-timed, settings-bad, lines-bad
 -- Extremes uses table-sound, cut-refused, next-setting, first-dialect-same and never-reversed for system tables, their last entry and a line past the last.
 -- Assumes nothing.
 use mathlib.Core.Path.{_≡_, refl}

@@ -17,3 +17,4 @@ pub mod Growth
 pub mod Theorems
 pub mod Extremes
 pub mod QueueChanges
+pub mod Refusing

@@ -1,6 +1,7 @@
 -- What is proved of the line in bytes and of lists of calls, for any jobs. The claims are in specs/Fairness, FairEvery, Waits,
 -- RefusedCalls, Buffer and Steady; the lemmas in the files beside this one.
 -- QueueChanges says in other words who is queued after each call and in which order: init-leaves, tick-leaves, tick-queues, pop-leaves, pop-nothing, in-file-order.
+-- Refusing has an equation for each way that an answer can go: no-queue, look-says, no-queue-tick, off-tick, tick-says, init-short, init-says.
 -- Assumes nothing.
 use mathlib.Core.Path.{_≡_, refl, sym, _∙_}
 use mathlib.Core.Bool.{Bool, true, false, cond, true≢false}

@@ -11,3 +11,4 @@ pub mod WholeRuns
 pub mod Pieces
 pub mod Theorems
 pub mod Extremes
+pub mod ListAnswers

@@ -14,6 +14,8 @@
 --   merged-room: the room is the shorter run, as long as a 32-bit number counts its places
 --   firings-kept, merged-kept: a refused call changes no number of a run
 --   Extremes uses these at their edges: entry-list-ends, entry-list-rises, table-list-ends, table-list-rises, split-ends, runs-all, piece-least
+--   ListAnswers has an equation for each way that an answer can go: list-refused, list-first-off, list-last-off, list-at-boot, list-by-time, table-bad, table-first-off,
+--     table-last-off, table-listed, fits-all, fits-some
 -- Assumes nothing.
 use mathlib.Core.Path.{_≡_, refl, sym, ap, subst, _∙_}
 use mathlib.Core.Bool.{Bool, true, false, cond, true≢false}

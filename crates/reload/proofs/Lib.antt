@@ -4,3 +4,4 @@ pub mod Reloads
 pub mod Exits
 pub mod Theorems
 pub mod Extremes
+pub mod ReloadAnswers

@@ -11,3 +11,4 @@ pub mod Theorems
 pub mod Extremes
 pub mod Used
 pub mod Plainly
+pub mod TableAnswers

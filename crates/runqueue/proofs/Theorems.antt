@@ -26,6 +26,7 @@
 --   Extremes uses these at their edges: fair-east, refused-four, due-last, chain-last, chain-ends, chain-goes-to-end, ticks-last, goes-on-last, shifts-ends,
 --     moves-last
 --   Plainly says the claims without their names, for any table, entry, minute and calls, so that no hypothesis can be added to one
+--   TableAnswers: what a table says of its entries is what they say (jobs-are), what a refused one is answered (bad-table), and the other claims without their names
 -- Assumes nothing.
 use Rattle.fifo.specs.declared.Ticked.the-variants.{Refused as NotTicked}
 use Rattle.fifo.specs.declared.Popped.the-variants.{Refused as NotPopped}

@@ -1,4 +1,4 @@
--- Ticket 2026-10 in plain orders, of any entry and any minutes: which minutes call it beside a mark, and what the mark becomes.
+-- Ticket 2026-10 in plain orders, of any entry and any minutes: which minutes call it beside a mark, and what the mark becomes; what a mark may be.
 -- Assumes nothing.
 use mathlib.Core.Path.{_≡_, refl}
 use mathlib.Core.Bool.{Bool, true, false}
@@ -7,8 +7,10 @@ use Prim.Native.Nat.{ℕ, _+_, _≤_, _<_}
 use native.Mathlib.Nat.{lt-of-not-le}
 use native.Mathlib.Decide.{decLe}
 use native.Mathlib.Omega.{arith}
+use borrow.Author.Tests.{le-leb, lt-leb}
+use Rattle.calendar.specs.Dates.{lastMinute}
 use Rattle.schedule.specs.declared.jump.Mark.the-variants.{None, At}
-use Rattle.schedule.specs.Jumps.{caseOf, judged, markAfter}
+use Rattle.schedule.specs.Jumps.{isMark, caseOf, judged, markAfter}
 use Rattle.schedule.proofs.Search.{some-passes, passes-some}
 use Rattle.schedule.proofs.Jumps.{case-above, case-below, case-after, case-held}
 
@@ -59,3 +61,14 @@ module _ (h m : ℕ) where
   pub mark-held : m ≤ h → h < m + 180 → markAfter (At h) m ≡ At h
   unfolding markAfter
   mark-held u v = rw (case-held h m u v)
+
+-- ---- what a mark may be: none, or a minute of the calendar
+
+pub mark-none : isMark None ≡ true
+mark-none = refl
+
+pub mark-on : (h : ℕ) → h ≤ lastMinute → isMark (At h) ≡ true
+mark-on h on = le-leb h lastMinute on
+
+pub mark-off : (h : ℕ) → lastMinute < h → isMark (At h) ≡ false
+mark-off h off = lt-leb h lastMinute off

@@ -23,3 +23,4 @@ pub mod KnownLocalDays
 pub mod Theorems
 pub mod Extremes
 pub mod DayRules
+pub mod Zones
