@@ -21,3 +21,4 @@ pub mod LineByLine
 pub mod EntryTimes
 pub mod LineEnds
 pub mod EntryAnswers
+pub mod UsedLaws

@@ -3,3 +3,4 @@ pub mod Texts
 pub mod Pieces
 pub mod Extremes
 pub mod LineBytes
+pub mod NumberTexts

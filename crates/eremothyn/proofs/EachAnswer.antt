@@ -1,13 +1,15 @@
 -- What each call answers for each outcome, in C's numbers, for any table, rules, entry, minute and run: a value is itself, a refusal 4,294,967,296 more than its
 -- number, a list of which more remain 8,589,934,592 more than its count. No width of a number and no entry, line or minute is left out.
 -- Assumes nothing.
-use mathlib.Core.Path.{_≡_, ap}
+use mathlib.Core.Path.{_≡_, refl, ap}
 use mathlib.Core.List.{List, [], _∷_}
 use Prim.Native.Nat.{ℕ, suc, _+_, _-_}
 use Rattle.bytes.specs.Laid.{laid}
 use Rattle.bytes.specs.Runs.{between}
 use Rattle.command.specs.Buffers.{Split, splitStep}
 use Rattle.command.specs.declared.SplitAnswer.the-variants as split
+use Rattle.command.specs.declared.Input.{Input}
+use Rattle.command.specs.declared.Input.the-variants as input
 use Rattle.command.specs.Parts.{inputOf, inputLength}
 use Rattle.line.specs.declared.Rules.{Rules}
 use Rattle.crontab.specs.declared.entry.Entry.{Entry}
@@ -212,3 +214,9 @@ module _ (s : List ℕ) (kind dialect : ℕ) where
 pub six-parts : (minute : ℕ) (run : List ℕ) → dateRefusal minute run ≡ 0
     → dateRun minute run ≡ laid (datePart minute Year ∷ datePart minute Month ∷ datePart minute Day ∷ datePart minute Hour ∷ datePart minute Minute ∷ datePart minute Weekday ∷ []) run
 six-parts minute run granted = date-parts minute run granted
+
+-- the numbers of a command's two parts
+pub split-numbers : ((n : ℕ) (i : Input) → splitNumber (split.Written n i) ≡ n) × ((n : ℕ) → splitNumber (split.Refused n) ≡ 4294967296 + n)
+    × ((n : ℕ) → inputNumber (input.Length n) ≡ n) × (inputNumber input.None ≡ 4294967296)
+unfolding splitNumber inputNumber
+split-numbers = ((λ n i. refl), (λ n. refl), (λ n. refl), refl)

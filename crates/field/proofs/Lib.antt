@@ -35,3 +35,4 @@ pub mod WrittenLists
 pub mod Theorems
 pub mod Extremes
 pub mod UsedLaws
+pub mod StarFlags
