@@ -43,7 +43,9 @@ def write(path, text):
 
 
 def snake(word):
-    """A word of several parts: each part that begins in lower case is in snake case."""
+    """A word of several parts: each part that begins in lower case is in snake case. A byte, as b'A', is no word."""
+    if re.search(r"'\w", word):
+        return word
     parts = []
     for part in word.split("-"):
         if re.match(r"[a-z]", part) and re.search(r"[A-Z]", part):

@@ -10,7 +10,7 @@ use crate::number::Number;
 fn lower(b: u8) -> u8
     ensures { result ≡ lower b }
 {
-    if (b'a' <= b) & (b <= b'z') { b + 32 } else { b }
+    if (b'A' <= b) & (b <= b'Z') { b + 32 } else { b }
 }
 
 // Whether s is a name, which is given in lower case.
