@@ -1,0 +1,26 @@
+use mathlib.Core.Path.{◌≡◌, sym}
+use Prim.Native.Nat.{◌+◌, ◌-◌}
+use native.Mathlib.Omega.{arith}
+use Rattle.calendar.specs.Gregorian.{year_days}
+use Rattle.calendar.specs.Walk.{span}
+use Rattle.calendar.proofs.Spans.{span-next}
+use Rattle.calendar.proofs.Years.{after-cycles, years-small}
+use Rattle.calendar.proofs.walk.days_before_year.Goals as goal
+
+-- the days with one year more
+more : (c : tie.After-year-days invariant-loop decreases-loop)
+    → c.before.before.loop.days + c.year-days.result ≡ span year_days 1970 (c.before.before.loop.at + 1 - 1970)
+more c =
+    omega (arith, span-next year_days 1970 c.before.before.loop.at c.before.before.loop.invariant.0, c.year-days.ensures)
+
+pub loop-at-init : goal.loop-at-init
+loop-at-init c = (omega arith, omega arith, sym (after-cycles _))
+
+pub overflow_add-days : goal.overflow_add-days
+overflow_add-days c = omega (arith, more c, years-small (c.loop-at.at + 1 - 1970) (omega arith))
+
+pub loop-at-preserved : goal.loop-at-preserved
+loop-at-preserved c = (omega arith, omega arith, more c)
+
+pub returns : goal.returns
+returns c = let e : c.loop-at.at ≡ c.args.year = omega arith in rw (← e) c.loop-at.invariant.2
