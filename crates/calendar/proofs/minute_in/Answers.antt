@@ -5,14 +5,15 @@ use native.Mathlib.Omega.{arith}
 use Rattle.calendar.specs.Dates.{calendar_days, days_before, minute_at, minute_of}
 use Rattle.calendar.proofs.Dates.{OnCalendar, on-calendar, days_before-small}
 use Rattle.calendar.proofs.minute_in.Goals as goal
+use Rattle.calendar.proofs.minute_in.Goals.{After-days_before_month, Start}
 
-on : (c : tie.Start) → let a = c.args in OnCalendar a.year a.month a.day a.hour a.minute
-on c = on-calendar c.requires.1
+on : (c : Start) → let a = c.args in OnCalendar a.year a.month a.day a.hour a.minute
+on c = on-calendar c.requires.last_year_value
 
-days-small : (c : tie.After-days-before-month)
-    → c.before.args.start + c.days-before-month.result + (c.before.args.day - 1) < calendar_days
+days-small : (c : After-days_before_month)
+    → c.args.start + c.days_before_month.result + (c.args.day - 1) < calendar_days
 unfolding days_before
-days-small c = omega (arith, days_before-small (on c.before), c.days-before-month.ensures, c.before.requires.0)
+days-small c = omega (arith, days_before-small (on c.before), c.days_before_month.ensures, c.requires.start_value)
 
 pub days_before_month-requires : goal.days_before_month-requires
 days_before_month-requires c = ((on c).month_from, (on c).month_to)
@@ -21,7 +22,7 @@ pub overflow_add-days : goal.overflow_add-days
 overflow_add-days c = omega (arith, days-small c)
 
 pub overflow_sub-days : goal.overflow_sub-days
-overflow_sub-days c = (on c).day_from
+overflow_sub-days c = (on c.before).day_from
 
 pub overflow_add-days-2 : goal.overflow_add-days-2
 overflow_add-days-2 c = omega (arith, days-small c)
@@ -30,14 +31,14 @@ pub overflow_mul-result : goal.overflow_mul-result
 overflow_mul-result c = omega (arith, days-small c)
 
 pub overflow_mul-result-2 : goal.overflow_mul-result-2
-overflow_mul-result-2 c = omega (arith, (on c).hour_to)
+overflow_mul-result-2 c = omega (arith, (on c.before).hour_to)
 
 pub overflow_add-result : goal.overflow_add-result
-overflow_add-result c = omega (arith, days-small c, (on c).hour_to)
+overflow_add-result c = omega (arith, days-small c, (on c.before).hour_to)
 
 pub overflow_add-result-2 : goal.overflow_add-result-2
-overflow_add-result-2 c = omega (arith, days-small c, (on c).hour_to, (on c).minute_to)
+overflow_add-result-2 c = omega (arith, days-small c, (on c.before).hour_to, (on c.before).minute_to)
 
 pub returns : goal.returns
 unfolding minute_of minute_at days_before
-returns c = rw c.requires.1 (simp (c.days_before_month.ensures, c.requires.0))
+returns c = rw c.requires.last_year_value (simp (c.days_before_month.ensures, c.requires.start_value))

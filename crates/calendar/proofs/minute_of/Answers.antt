@@ -9,7 +9,7 @@ pub days_before_year-start-requires : goal.days_before_year-start-requires
 days_before_year-start-requires c = let o = on-calendar (sym c.on_calendar.ensures ∙ c.if-on_calendar.true) in (o.year_from, o.year_to)
 
 pub minute_in-requires : goal.minute_in-requires
-minute_in-requires c = (c.days_before_year-start.ensures, sym c.on_calendar.ensures ∙ c.if-on_calendar.true)
+minute_in-requires c = record { start_value = c.days_before_year-start.ensures; last_year_value = sym c.on_calendar.ensures ∙ c.if-on_calendar.true }
 
 pub returns : goal.returns
 unfolding minute_of

@@ -10,10 +10,11 @@ use Rattle.calendar.proofs.Tests.{and-true}
 use Rattle.calendar.proofs.Spans.{span-mono}
 use Rattle.calendar.proofs.Years.{years-small, months-days}
 use Rattle.calendar.proofs.month_start.Goals as goal
+use Rattle.calendar.proofs.month_start.Goals.{Then-year}
 
 -- a year that passed the test is on the calendar
-on : (c : tie.Then1) → (1970 ≤ c.before.args.count / 12) × (c.before.args.count / 12 ≤ 9999)
-on c = let t = and-true _ _ c.if1.true in (leb-true _ _ t.0, leb-true _ _ t.1)
+on : (c : Then-year) → (1970 ≤ c.args.count / 12) × (c.args.count / 12 ≤ 9999)
+on c = let t = and-true _ _ c.if-year.true in (leb-true _ _ t.0, leb-true _ _ t.1)
 
 year-most : (y : ℕ) → year_days y ≤ 366
 unfolding year_days
@@ -29,7 +30,7 @@ days_before_year-requires c = on c
 pub overflow_add-result : goal.overflow_add-result
 overflow_add-result c =
     let n = c.args.count in
-    let o = on c in
+    let o = on c.before.before in
     omega (
       arith,
       c.days_before_year.ensures,

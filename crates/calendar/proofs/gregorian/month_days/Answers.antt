@@ -28,5 +28,5 @@ overflow_cast-result c = omega (arith, lengths-small (c.args.month - 1) (omega a
 pub returns : goal.returns
 unfolding month_days month_length month_table
 returns c =
-    simp (le-leb 1 _ c.if1.false, le-leb _ 12 c.if2.false)
-    (rw (← c.is-leap.ensures, c.if3.false))
+    simp (le-leb 1 _ c.if-month-lt1.false, le-leb _ 12 c.if-month-gt12.false)
+    (rw (← c.is_leap.ensures, c.if-is_leap-month.false))

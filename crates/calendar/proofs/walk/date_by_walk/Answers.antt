@@ -10,13 +10,14 @@ use Rattle.calendar.proofs.Spans.{Falls}
 use Rattle.calendar.proofs.Dates.{year-falls, month-falls}
 use Rattle.calendar.proofs.Minutes.{date_of-off}
 use Rattle.calendar.proofs.walk.date_by_walk.Goals as goal
+use Rattle.calendar.proofs.walk.date_by_walk.Goals.{After-month_of-month, After-year_of-year}
 
-in-year : (c : tie.After-year-of) → Falls year_days 1970 8030 (c.before.before.args.minute / 1440) c.year-of.result
-in-year c = rw c.year-of.ensures (year-falls _ (omega arith))
+in-year : (c : After-year_of-year) → Falls year_days 1970 8030 (c.args.minute / 1440) c.year_of-year.result
+in-year c = rw c.year_of-year.ensures (year-falls _ (omega arith))
 
-in-month : (c : tie.After-month-of)
-    → Falls (month_days c.before.year-of.result.at) 1 12 c.before.year-of.result.rest c.month-of.result
-in-month c = rw c.month-of.ensures (month-falls _ _ (in-year c.before).inside)
+in-month : (c : After-month_of-month)
+    → Falls (month_days c.year_of-year.result.at) 1 12 c.year_of-year.result.rest c.month_of-month.result
+in-month c = rw c.month_of-month.ensures (month-falls _ _ (in-year c.before).inside)
 
 pub returns-then-minute-gt-LAST_MINUTE : goal.returns-then-minute-gt-LAST_MINUTE
 returns-then-minute-gt-LAST_MINUTE c = c.no_date.ensures ∙ date_of-off _ c.if-minute-gt-LAST_MINUTE.true
@@ -25,7 +26,7 @@ pub month_of-month-requires : goal.month_of-month-requires
 month_of-month-requires c = (in-year c).inside
 
 pub overflow_add-date : goal.overflow_add-date
-overflow_add-date c = omega (arith, (in-year c).sum, (in-month c).sum)
+overflow_add-date c = omega (arith, (in-year c.before.before).sum, (in-month c.before).sum)
 
 pub returns : goal.returns
 unfolding date_of date_at weekday_of

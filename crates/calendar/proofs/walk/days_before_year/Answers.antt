@@ -6,12 +6,13 @@ use Rattle.calendar.specs.Walk.{span}
 use Rattle.calendar.proofs.Spans.{span-next}
 use Rattle.calendar.proofs.Years.{after-cycles, years-small}
 use Rattle.calendar.proofs.walk.days_before_year.Goals as goal
+use Rattle.calendar.proofs.walk.days_before_year.Goals.{After-year_days-days}
 
 -- the days with one year more
-more : (c : tie.After-year-days invariant-loop decreases-loop)
-    → c.before.before.loop.days + c.year-days.result ≡ span year_days 1970 (c.before.before.loop.at + 1 - 1970)
+more : (c : After-year_days-days)
+    → c.loop-at.days + c.year_days-days.result ≡ span year_days 1970 (c.loop-at.at + 1 - 1970)
 more c =
-    omega (arith, span-next year_days 1970 c.before.before.loop.at c.before.before.loop.invariant.0, c.year-days.ensures)
+    omega (arith, span-next year_days 1970 c.loop-at.at c.loop-at.invariant.0, c.year_days-days.ensures)
 
 pub loop-at-init : goal.loop-at-init
 loop-at-init c = (omega arith, omega arith, sym (after-cycles _))
