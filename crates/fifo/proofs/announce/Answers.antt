@@ -26,12 +26,12 @@ set_mark-requires c = ((c.args.n, c.requires.0), c.requires.2)
 pub join-requires : goal.join-requires
 join-requires c =
     (
-      written_is c.args.n _ c.args.buffer.now (omega arith) (queue-known _ _ c.requires.0).roomy-is (marked c.before.before.before) c.set_mark.ensures,
-      rw (read c.before.before.before) c.requires.1,
+      written_is c.args.n _ c.args.buffer.now (omega arith) (queue-known _ _ c.requires.0).roomy-is (marked (goal.at.join-requires c).After-set_mark) c.set_mark.ensures,
+      rw (read (goal.at.join-requires c).After-set_mark) c.requires.1,
     )
 
 pub returns : goal.returns
 unfolding joined
 returns c =
     let w = (queue_of c.args.buffer.now).waiting in
-    let over = written_over c.args.n _ c.args.buffer.now (omega arith) (queue-known _ _ c.requires.0).roomy-is (marked c.before.before.before.before.before.before) c.set_mark.ensures in record { answer = rw (read c.before.before.before.before.before.before) at c.join.ensures.answer; room = (rw (read c.before.before.before.before.before.before) at c.join.ensures.bytes) ∙ over _ (omega (arith, length-append w (callees c.args.n c.args.called.now w))) }
+    let over = written_over c.args.n _ c.args.buffer.now (omega arith) (queue-known _ _ c.requires.0).roomy-is (marked (goal.at.returns c).After-set_mark) c.set_mark.ensures in record { answer = rw (read (goal.at.returns c).After-set_mark) at c.join.ensures.answer; room = (rw (read (goal.at.returns c).After-set_mark) at c.join.ensures.bytes) ∙ over _ (omega (arith, length-append w (callees c.args.n c.args.called.now w))) }

@@ -17,14 +17,14 @@ pub gather_entries-requires : goal.gather_entries-requires
 gather_entries-requires c =
     let both = (and-eq-true_iff (c.has_room.result && c.is_head.result) (leb c.number-count.result c.args.n)).0 c.if-has_room-is_head.true in
     let roomy = ((and-eq-true_iff c.has_room.result c.is_head.result).0 both.0).0 in
-    let few = rw (counted c.before.before.before.before) at (leb-true c.number-count.result c.args.n both.1) in
-    (counted c.before.before.before.before ∙ count-few c.args.n c.args.buffer.now (roomy-size _ _ (sym c.has_room.ensures ∙ roomy)) few, c.requires.0, c.requires.1)
+    let few = rw (counted (goal.at.gather_entries-requires c).After-number-count) at (leb-true c.number-count.result c.args.n both.1) in
+    (counted (goal.at.gather_entries-requires c).After-number-count ∙ count-few c.args.n c.args.buffer.now (roomy-size _ _ (sym c.has_room.ensures ∙ roomy)) few, c.requires.0, c.requires.1)
 
 pub returns-then-has_room-is_head : goal.returns-then-has_room-is_head
 unfolding is_queue
 returns-then-has_room-is_head c =
-    record { answer = rw (← c.has_room.ensures, ← c.is_head.ensures, ← (counted c.before.before.before.before.before), c.if-has_room-is_head.true) c.gather_entries.ensures.answer; seen = c.gather_entries.ensures.seen }
+    record { answer = rw (← c.has_room.ensures, ← c.is_head.ensures, ← (counted (goal.at.returns-then-has_room-is_head c).After-number-count), c.if-has_room-is_head.true) c.gather_entries.ensures.answer; seen = c.gather_entries.ensures.seen }
 
 pub returns : goal.returns
 unfolding is_queue
-returns c = record { answer = rw (← c.has_room.ensures, ← c.is_head.ensures, ← (counted c.before.before.before), c.if-has_room-is_head.false); seen = λ e. absurd (false≢true e) }
+returns c = record { answer = rw (← c.has_room.ensures, ← c.is_head.ensures, ← (counted (goal.at.returns c).After-number-count), c.if-has_room-is_head.false); seen = λ e. absurd (false≢true e) }

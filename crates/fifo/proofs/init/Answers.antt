@@ -20,29 +20,24 @@ enough c = sym c.has_room.ensures ∙ c.if-has_room.true
 -- the queue is empty
 emptied : (c : After-clear) → queue_of c.clear.new.buffer ≡ record { mark = None; waiting = [] }
 emptied c =
-    written c.args.n _ c.args.buffer.now (omega arith) (enough c.before.before) (none-proper c.args.n None refl) c.clear.ensures
+    written c.args.n _ c.args.buffer.now (omega arith) (enough (goal.at.After-clear c).Then-has_room) (none-proper c.args.n None refl) c.clear.ensures
 
 pub clear-requires : goal.clear-requires
-clear-requires c = omega (arith, roomy-size _ _ (enough c.before))
+clear-requires c = omega (arith, roomy-size _ _ (enough (goal.at.clear-requires c).Then-has_room))
 
 pub join-requires : goal.join-requires
 join-requires c =
     (
-      written_is c.args.n _ c.args.buffer.now (omega arith) (enough c.before.before.before.before.before.before) (none-proper c.args.n None refl) c.clear.ensures,
-      rw (emptied c.before.before.before.before) (gathered_none 1024),
+      written_is c.args.n _ c.args.buffer.now (omega arith) (enough (goal.at.join-requires c).Then-has_room) (none-proper c.args.n None refl) c.clear.ensures,
+      rw (emptied (goal.at.join-requires c).After-clear) (gathered_none 1024),
     )
 
 pub returns-then-has_room : goal.returns-then-has_room
 unfolding init_called joined
 returns-then-has_room c =
-    let over = written_over c.args.n _ c.args.buffer.now (omega arith) (enough c.before.before.before.before.before.before.before.before.before) (none-proper c.args.n None refl) c.clear.ensures in
-    let r = rw (enough c.before.before.before.before.before.before.before.before.before) (
-      ap Joined (rw (emptied c.before.before.before.before.before.before.before) at c.join.ensures.answer),
-      (rw (emptied c.before.before.before.before.before.before.before) at c.join.ensures.bytes) ∙ over _ (omega arith),
-    ) in
-    record { answer = r.0; room = r.1 }
+    let over = written_over c.args.n _ c.args.buffer.now (omega arith) (enough (goal.at.returns-then-has_room c).Then-has_room) (none-proper c.args.n None refl) c.clear.ensures in
+    record { answer = rw (enough (goal.at.returns-then-has_room c).Then-has_room) (ap Joined (rw (emptied (goal.at.returns-then-has_room c).After-clear) at c.join.ensures.answer)); room = rw (enough (goal.at.returns-then-has_room c).Then-has_room) ((rw (emptied (goal.at.returns-then-has_room c).After-clear) at c.join.ensures.bytes) ∙ over _ (omega arith)) }
 
 pub returns : goal.returns
 unfolding init_called
-returns c = let r = rw (sym c.has_room.ensures ∙ c.if-has_room.false) (refl, refl) in
-    record { answer = r.0; room = r.1 }
+returns c = record { answer = rw (sym c.has_room.ensures ∙ c.if-has_room.false) refl; room = rw (sym c.has_room.ensures ∙ c.if-has_room.false) refl }

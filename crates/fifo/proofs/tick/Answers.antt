@@ -18,8 +18,7 @@ gather-requires c = (gathered_none 1024, refl)
 
 pub returns-then-minute-gt-LAST_MINUTE : goal.returns-then-minute-gt-LAST_MINUTE
 unfolding tick_called
-returns-then-minute-gt-LAST_MINUTE c = let r = rw (sym c.gather.ensures.answer ∙ c.if-gather.true, lt-leb c.before.args.minute last_minute (omega arith)) (refl, refl) in
-    record { answer = r.0; room = r.1 }
+returns-then-minute-gt-LAST_MINUTE c = record { answer = rw (sym c.gather.ensures.answer ∙ c.if-gather.true, lt-leb c.args.minute last_minute (omega arith)) refl; room = rw (sym c.gather.ensures.answer ∙ c.if-gather.true, lt-leb c.args.minute last_minute (omega arith)) refl }
 
 pub announce-requires : goal.announce-requires
 announce-requires c =
@@ -34,10 +33,8 @@ unfolding queue_of
 returns-then-gather c =
     let is = sym c.gather.ensures.answer ∙ c.if-gather.true in
     let marked = rw (c.mark_after-mark.ensures, c.mark_of.ensures) at c.announce.ensures.room in
-    let r = rw (tick-done _ _ _ _ is c.if-minute-gt-LAST_MINUTE.false) (ap Joined c.announce.ensures.answer, marked) in
-    record { answer = r.0; room = r.1 }
+    record { answer = rw (tick-done _ _ _ _ is c.if-minute-gt-LAST_MINUTE.false) (ap Joined c.announce.ensures.answer); room = rw (tick-done _ _ _ _ is c.if-minute-gt-LAST_MINUTE.false) marked }
 
 pub returns : goal.returns
 unfolding tick_called
-returns c = let r = rw (sym c.gather.ensures.answer ∙ c.if-gather.false) (refl, refl) in
-    record { answer = r.0; room = r.1 }
+returns c = record { answer = rw (sym c.gather.ensures.answer ∙ c.if-gather.false) refl; room = rw (sym c.gather.ensures.answer ∙ c.if-gather.false) refl }

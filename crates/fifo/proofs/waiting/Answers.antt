@@ -15,7 +15,7 @@ pub returns-then-places-lt-FIRST : goal.returns-then-places-lt-FIRST
 returns-then-places-lt-FIRST c = omega (arith, waiting-length c.args.buffer.now)
 
 pub returns-then-count-most : goal.returns-then-count-most
-returns-then-count-most c = omega (arith, counted c.before, waiting-length c.args.buffer.now)
+returns-then-count-most c = omega (arith, counted (goal.at.returns-then-count-most c).After-number-count, waiting-length c.args.buffer.now)
 
 pub returns : goal.returns
-returns c = omega (arith, counted c.before, waiting-length c.args.buffer.now)
+returns c = omega (arith, counted (goal.at.returns c).After-number-count, waiting-length c.args.buffer.now)

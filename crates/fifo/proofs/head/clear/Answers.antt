@@ -8,19 +8,19 @@ pub store-requires : goal.store-requires
 store-requires c = omega (arith, c.requires)
 
 pub store-requires-2 : goal.store-requires-2
-store-requires-2 c = omega (arith, c.store.auto.0, c.requires)
+store-requires-2 c = omega (arith, c.store.auto.buffer, c.requires)
 
 pub store-requires-3 : goal.store-requires-3
 store-requires-3 c =
-    omega (arith, c.store-2.auto.0, c.store.auto.0, c.requires)
+    omega (arith, c.store-2.auto.buffer, c.store.auto.buffer, c.requires)
 
 pub store-requires-4 : goal.store-requires-4
 store-requires-4 c =
-    omega (arith, c.store-3.auto.0, c.store-2.auto.0, c.store.auto.0, c.requires)
+    omega (arith, c.store-3.auto.buffer, c.store-2.auto.buffer, c.store.auto.buffer, c.requires)
 
 pub store-requires-5 : goal.store-requires-5
 store-requires-5 c =
-    omega (arith, c.store-4.auto.0, c.store-3.auto.0, c.store-2.auto.0, c.store.auto.0, c.requires)
+    omega (arith, c.store-4.auto.buffer, c.store-3.auto.buffer, c.store-2.auto.buffer, c.store.auto.buffer, c.requires)
 
 pub returns : goal.returns
 returns c =

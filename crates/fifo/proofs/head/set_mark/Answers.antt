@@ -18,9 +18,9 @@ overflow_cast-n-2 c =
 
 pub store-requires-2 : goal.store-requires-2
 store-requires-2 c =
-    omega (arith, c.store.auto.0, (queue-known c.requires.0.0 c.args.buffer.now c.requires.0.1).size_is)
+    omega (arith, c.store.auto.buffer, (queue-known c.requires.0.0 c.args.buffer.now c.requires.0.1).size_is)
 
 pub returns : goal.returns
 returns c =
     rw (c.store-2.ensures, c.store.ensures, c.mark_number-n.ensures)
-    (laid-mark _ _ (laid-queue c.requires.0.0 c.args.buffer.now (λ i. omega (arith, c.type_inv.buffer i)) c.requires.0.1) c.args.mark)
+    (laid-mark _ _ (laid-queue c.requires.0.0 c.args.buffer.now (λ i. omega (arith, c.slice_known-1.given i)) c.requires.0.1) c.args.mark)

@@ -17,7 +17,7 @@ overflow_sub-count-2 c = omega (arith, c.requires.2)
 
 pub store-requires : goal.store-requires
 store-requires c =
-    omega (arith, waiting-length c.args.buffer.now, c.move_up.auto.0, c.requires.1, c.requires.2)
+    omega (arith, waiting-length c.args.buffer.now, c.move_up.auto.buffer, c.requires.1, c.requires.2)
 
 pub returns : goal.returns
 returns c =

@@ -28,14 +28,14 @@ overflow_add-i c = omega (arith, waiting-length c.args.buffer.now, c.requires.0)
 pub returns-then-n-e : goal.returns-then-n-e
 returns-then-n-e c =
     let l = (queue_of c.args.buffer.now).waiting in
-    record { answer = sym (cut-over l c.loop-i.i _ (omega (arith, c.requires.0)) (entry c.before) _ c.if-n-e.true); seen = λ e. absurd (false≢true e) }
+    record { answer = sym (cut-over l c.loop-i.i _ (omega (arith, c.requires.0)) (entry (goal.at.returns-then-n-e c).After-number-e) _ c.if-n-e.true); seen = λ e. absurd (false≢true e) }
 
 pub returns-then-has : goal.returns-then-has
 returns-then-has c =
     let l = (queue_of c.args.buffer.now).waiting in
     let inv = c.loop-i.invariant in
     let waits = sym (inv.2 _) ∙ sym c.has.ensures ∙ c.if-has.true in
-    record { answer = sym (cut_twice l c.loop-i.i _ (omega (arith, c.requires.0)) (entry c.before.before.before.before.before) _ waits); seen = λ e. absurd (false≢true e) }
+    record { answer = sym (cut_twice l c.loop-i.i _ (omega (arith, c.requires.0)) (entry (goal.at.returns-then-has c).After-number-e) _ waits); seen = λ e. absurd (false≢true e) }
 
 pub loop-i-preserved : goal.loop-i-preserved
 loop-i-preserved c =
@@ -46,9 +46,9 @@ loop-i-preserved c =
     let h : i < length l = omega (arith, c.requires.0) in
     let new = sym (inv.2 e) ∙ sym c.has.ensures ∙ c.if-has.false in (
       omega arith,
-      rw (take_next l i e h (entry c.before.before.before.before.before.before.before)) (entries-snoc _ (take i l) e inv.1 c.if-n-e.false new),
-      rw (c.add.ensures, take_next l i e h (entry c.before.before.before.before.before.before.before)) (gathered-more _ (take i l) e (omega (arith, inv.3)) inv.2),
-      c.add.auto.0 ∙ inv.3,
+      rw (take_next l i e h (entry (goal.at.loop-i-preserved c).After-number-e)) (entries-snoc _ (take i l) e inv.1 c.if-n-e.false new),
+      rw (c.add.ensures, take_next l i e h (entry (goal.at.loop-i-preserved c).After-number-e)) (gathered-more _ (take i l) e (omega (arith, inv.3)) inv.2),
+      c.add.auto.words ∙ inv.3,
     )
 
 pub returns : goal.returns

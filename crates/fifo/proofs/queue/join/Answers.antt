@@ -27,7 +27,7 @@ offer-count-requires c =
     λ t. rw c.loop-i.invariant.room-is (join-room a.n a.buffer.now a.called.now c.loop-i.i (omega arith) p.0 (omega arith) (sym (joins c) ∙ t))
 
 pub overflow_add-count : goal.overflow_add-count
-overflow_add-count c = omega (arith, c.offer-count.ensures.bytes.1, c.loop-i.invariant.count_most)
+overflow_add-count c = omega (arith, c.offer-count.ensures.small, c.loop-i.invariant.count_most)
 
 pub loop-i-preserved : goal.loop-i-preserved
 loop-i-preserved c =
@@ -36,8 +36,8 @@ loop-i-preserved c =
     let p = c.requires in
     let f = c.loop-i.invariant in
     let step = join-next a.n a.buffer.now a.called.now c.loop-i.i (omega arith) p.0 (omega arith) in
-    fills-more _ _ _ _ f (omega arith) (o.ensures.1.0 ∙ rw (joins c.before.before.before, f.room-is) step) (o.auto.0 ∙ f.length-is)
-    (ap (λ (r : ℕ). c.loop-i.count + r) (o.ensures.0 ∙ rw (joins c.before.before.before)))
+    fills-more _ _ _ _ f (omega arith) (o.ensures.bytes ∙ rw (joins (goal.at.loop-i-preserved c).After-has-in-loop-i, f.room-is) step) (o.auto.buffer ∙ f.length-is)
+    (ap (λ (r : ℕ). c.loop-i.count + r) (o.ensures.answer ∙ rw (joins (goal.at.loop-i-preserved c).After-has-in-loop-i)))
 
 pub returns : goal.returns
 unfolding callees joined

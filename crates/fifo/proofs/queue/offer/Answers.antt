@@ -8,9 +8,7 @@ pub push-requires : goal.push-requires
 push-requires c = c.requires c.if-joins.true
 
 pub returns-then-joins : goal.returns-then-joins
-returns-then-joins c = let r = rw (c.push.ensures, c.if-joins.true) (refl, (refl, omega arith)) in
-    record { answer = r.0; bytes = r.1; small = r.2 }
+returns-then-joins c = record { answer = rw c.if-joins.true; bytes = rw (c.push.ensures, c.if-joins.true); small = omega arith }
 
 pub returns : goal.returns
-returns c = let r = rw c.if-joins.false (refl, (refl, omega arith)) in
-    record { answer = r.0; bytes = r.1; small = r.2 }
+returns c = record { answer = rw c.if-joins.false; bytes = rw c.if-joins.false; small = omega arith }

@@ -10,26 +10,26 @@ use Rattle.fifo.proofs.queue.push.Goals as goal
 use Rattle.fifo.proofs.queue.push.Goals.{After-number-n}
 
 -- the number that was read is how many wait
-counted : (c : After-number-n) → c.number-n.result ≡ length (queue_of c.before.args.buffer.now).waiting
+counted : (c : After-number-n) → c.number-n.result ≡ length (queue_of c.args.buffer.now).waiting
 unfolding count_of
 counted c =
     let n : c.number-n.result ≡ count_of c.args.buffer.now = c.number-n.ensures in
     omega (arith, n, waiting-length c.args.buffer.now, c.requires.1)
 
 pub overflow_add-n : goal.overflow_add-n
-overflow_add-n c = omega (arith, counted c.before, c.before.requires.2)
+overflow_add-n c = omega (arith, counted (goal.at.overflow_add-n c).After-number-n, c.requires.2)
 
 pub store-requires : goal.store-requires
-store-requires c = omega (arith, counted c.before, c.before.requires.1)
+store-requires c = omega (arith, counted (goal.at.store-requires c).After-number-n, c.requires.1)
 
 pub overflow_add-n-2 : goal.overflow_add-n-2
 overflow_add-n-2 c =
-    omega (arith, counted c.before.before.before.before.before, c.before.requires.2)
+    omega (arith, counted (goal.at.overflow_add-n-2 c).After-number-n, c.requires.2)
 
 pub store-requires-2 : goal.store-requires-2
 store-requires-2 c =
-    omega (arith, c.store.auto.0, c.before.requires.1)
+    omega (arith, c.store.auto.buffer, c.requires.1)
 
 pub returns : goal.returns
 returns c =
-    rw (c.store-2.ensures, c.store.ensures, counted c.before.before.before.before.before.before.before.before) (laid-push _ _ c.requires.0 _ c.requires.1)
+    rw (c.store-2.ensures, c.store.ensures, counted (goal.at.returns c).After-number-n) (laid-push _ _ c.requires.0 _ c.requires.1)
