@@ -32,7 +32,7 @@ unfolding found_or
 loop-c-preserved c =
     let loop = c.loop-c in
     let step = c.advance-step.ensures in
-    let kept = not-refused c.advance-step.result.item (λ f is. last-variant (rw is c.before.before.before.before c.in_default.keys2)) in
+    let kept = not-refused c.advance-step.result.item c.in_default.not-Refused in
     (rw (c.found_or-found.ensures, c.is_wanted-this.ensures) (finding-next step _ loop.found kept ∙ loop.invariant.0), step.reached)
 
 pub returns : goal.returns

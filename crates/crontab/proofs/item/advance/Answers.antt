@@ -10,7 +10,7 @@ pub one_line-step-requires : goal.one_line-step-requires
 one_line-step-requires c = (c.loop-c.invariant.reached, c.loop-c-test.true)
 
 pub returns-in_default : goal.returns-in_default
-returns-in_default c = skipped-item c.loop-c.invariant c.one_line-step.ensures (λ is. first-variant (rw is at c.in_default.keys2))
+returns-in_default c = skipped-item c.loop-c.invariant c.one_line-step.ensures c.in_default.not-Nothing
 
 pub loop-c-smaller : goal.loop-c-smaller
 loop-c-smaller c = let step = c.one_line-step.ensures in omega (arith, step.onward, step.reached.place)

@@ -27,5 +27,4 @@ owner_from-requires c =
 
 pub returns : goal.returns
 unfolding owner_of between
-returns c = let r = c.owner_from.ensures in
-    record { answer = r.0; run = r.1 }
+returns c = c.owner_from.ensures

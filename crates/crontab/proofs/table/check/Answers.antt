@@ -12,5 +12,5 @@ returns-in-Refused c = found-verdict _ _ c.find-found.ensures c.in-Refused.is
 pub returns : goal.returns
 returns c =
     let found = c.find-found.result in
-    let kept = not-refused found.item (λ f is. last-variant (rw is at c.in_default.keys2)) in
+    let kept = not-refused found.item c.in_default.not-Refused in
     good-verdict found.item found.line found.count kept ∙ found-verdict _ _ c.find-found.ensures refl
