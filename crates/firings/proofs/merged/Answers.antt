@@ -1,0 +1,33 @@
+-- `firings::merged` meets its contract: each way out is a law of the call.
+-- Assumes nothing.
+use mathlib.Core.Path.{refl}
+use Rattle.firings.specs.Calls.{refused_merged}
+use Rattle.firings.proofs.Exits.{merged-bad, merged-first-off, merged-last-off, merged-listed, good-entries}
+use Rattle.firings.proofs.merged.Goals as goal
+
+pub returns-then-refusal-ne0 : goal.returns-then-refusal-ne0
+unfolding refused_merged
+returns-then-refusal-ne0 c = record { answer = rw (← c.read-read.ensures, merged-bad c.read-read.result _ _ _ _ c.if-refusal-ne0.true) refl; minutes = rw (← c.read-read.ensures, merged-bad c.read-read.result _ _ _ _ c.if-refusal-ne0.true) refl; entries = rw (← c.read-read.ensures, merged-bad c.read-read.result _ _ _ _ c.if-refusal-ne0.true) refl }
+
+pub returns-then-a-gt-LAST_MINUTE : goal.returns-then-a-gt-LAST_MINUTE
+unfolding refused_merged
+returns-then-a-gt-LAST_MINUTE c =
+    let read = c.read-read in
+    record { answer = rw (← read.ensures, merged-first-off read.result _ _ _ _ c.if-refusal-ne0.false c.if-a-gt-LAST_MINUTE.true) refl; minutes = rw (← read.ensures, merged-first-off read.result _ _ _ _ c.if-refusal-ne0.false c.if-a-gt-LAST_MINUTE.true) refl; entries = rw (← read.ensures, merged-first-off read.result _ _ _ _ c.if-refusal-ne0.false c.if-a-gt-LAST_MINUTE.true) refl }
+
+pub returns-then-b-gt-LAST_MINUTE : goal.returns-then-b-gt-LAST_MINUTE
+unfolding refused_merged
+returns-then-b-gt-LAST_MINUTE c =
+    let read = c.read-read in
+    record { answer = rw (← read.ensures, merged-last-off read.result _ _ _ _ c.if-refusal-ne0.false c.if-a-gt-LAST_MINUTE.false c.if-b-gt-LAST_MINUTE.true) refl; minutes = rw (← read.ensures, merged-last-off read.result _ _ _ _ c.if-refusal-ne0.false c.if-a-gt-LAST_MINUTE.false c.if-b-gt-LAST_MINUTE.true) refl; entries = rw (← read.ensures, merged-last-off read.result _ _ _ _ c.if-refusal-ne0.false c.if-a-gt-LAST_MINUTE.false c.if-b-gt-LAST_MINUTE.true) refl }
+
+pub fill-requires : goal.fill-requires
+fill-requires c =
+    (rw c.read-read.ensures (good-entries _ _), c.if-a-gt-LAST_MINUTE.false, c.if-b-gt-LAST_MINUTE.false)
+
+pub returns : goal.returns
+returns c =
+    let read = c.read-read in
+    let r = rw (← read.ensures, merged-listed read.result _ _ _ _ c.if-refusal-ne0.false c.if-a-gt-LAST_MINUTE.false c.if-b-gt-LAST_MINUTE.false)
+    c.fill.ensures in
+    record { answer = r.0; minutes = r.1; entries = r.2 }

@@ -1,0 +1,24 @@
+-- `normal::normal_form` meets its contract, by what the first walk answers.
+-- Assumes nothing.
+use mathlib.Core.Path.{refl, sym, ◌∙◌}
+use Rattle.normal.specs.NormalForms.{refused_form}
+use Rattle.normal.proofs.Forms.{form-short, form-refused, form-written, normal-form-is}
+use Rattle.normal.proofs.normal_form.Goals as goal
+
+pub returns-then-text-size : goal.returns-then-text-size
+unfolding refused_form
+returns-then-text-size c =
+    let e = sym c.in-Written.is ∙ c.write.ensures.is in
+    record { answer = rw (normal-form-is _ _ _, ← (form-short _ _ _ e c.if-text-size.true)) refl; text = rw (normal-form-is _ _ _, ← (form-short _ _ _ e c.if-text-size.true)) refl }
+
+pub returns-else-text-size : goal.returns-else-text-size
+returns-else-text-size c =
+    let e = sym c.in-Written.is ∙ c.write.ensures.is in
+    let r = rw (normal-form-is _ _ _) (form-written _ _ _ e c.if-text-size.false c.write-in-Written.ensures) in
+    record { answer = r.0; text = r.1 }
+
+pub returns-in-Refused : goal.returns-in-Refused
+unfolding refused_form
+returns-in-Refused c =
+    let e = sym c.in-Refused.is ∙ c.write.ensures.is in
+    record { answer = rw (normal-form-is _ _ _, ← (form-refused _ _ _ e)) refl; text = rw (normal-form-is _ _ _, ← (form-refused _ _ _ e)) refl }

@@ -1,0 +1,63 @@
+use mathlib.Core.Path.{refl}
+use Prim.Native.Nat.{◌-◌}
+use native.Mathlib.Omega.{arith}
+use Rattle.crontab.proofs.Walks.{step_less}
+use Rattle.normal.proofs.Walks.{table-long, last-variant, not-refused, going-starts, going-within, going_next, going-refused, refused-some, going-good}
+use Rattle.normal.proofs.Walks.{left-starts, left-ends, text-parts, parts_next, short-next}
+use Rattle.normal.proofs.Forms.{lined-onward, judged-starts, judged-next, judged-ends, refused-tried, text-refused, text-good}
+use Rattle.normal.proofs.table.write.Goals as goal
+
+pub returns-then-s-gt-MAX_TABLE : goal.returns-then-s-gt-MAX_TABLE
+returns-then-s-gt-MAX_TABLE c = refused-tried (text-refused _ _ 1 (table-long _ _ c.if-s-gt-MAX_TABLE.true) (λ z. omega (arith, z))) (λ z. omega (arith, z)) refl
+
+pub loop-c-init : goal.loop-c-init
+loop-c-init c = let short = c.if-s-gt-MAX_TABLE.false in (going-starts _ _ short, judged-starts _ (left-starts _ _ short) (omega arith), refl)
+
+pub advance-step-requires : goal.advance-step-requires
+advance-step-requires c = c.loop-c.invariant.0.reached
+
+pub shape_of-out-in-Refused : goal.shape_of-out-in-Refused
+shape_of-out-in-Refused c = c.loop-c.invariant.2
+
+pub returns-in-Refused : goal.returns-in-Refused
+returns-in-Refused c =
+    let at = c.loop-c in
+    let step = c.advance-step.ensures in
+    let is = c.in-Refused.is in
+    let some = refused-some step at.invariant.0 is in
+    refused-tried (text-refused _ _ _ (going-refused step at.invariant.0 is) some) some at.invariant.2
+
+pub write-next-requires : goal.write-next-requires
+write-next-requires c = going-within c.advance-step.ensures c.loop-c.invariant.0
+
+pub overflow_sub-short : goal.overflow_sub-short
+overflow_sub-short c = lined-onward c.loop-c.invariant.1.lined c.write-next.ensures
+
+pub loop-c-smaller : goal.loop-c-smaller
+loop-c-smaller c = step_less c.advance-step.ensures c.loop-c-test.true
+
+pub loop-c-preserved : goal.loop-c-preserved
+loop-c-preserved c =
+    let at = c.loop-c in
+    let step = c.advance-step.ensures in
+    let kept = not-refused c.advance-step.result.item (λ f is. last-variant (rw is at c.in_default.keys2)) in
+    let so = judged-next at.invariant.1 (parts_next step kept (text-parts _)) (short-next step kept) c.write-next.ensures in
+    (going_next step at.invariant.0 kept, so, so.lined.wrote.size)
+
+pub shape_of-out-then-short-at : goal.shape_of-out-then-short-at
+shape_of-out-then-short-at c = c.loop-c.invariant.2
+
+pub returns-then-short-at : goal.returns-then-short-at
+returns-then-short-at c =
+    let at = c.loop-c in
+    let end = c.loop-c-test.false in
+    rw c.if-short-at.true at (judged-ends at.invariant.1 (left-ends _ _ at.c end) (text-good _ _ (going-good at.invariant.0 end)))
+
+pub shape_of-out : goal.shape_of-out
+shape_of-out c = c.loop-c.invariant.2
+
+pub returns : goal.returns
+returns c =
+    let at = c.loop-c in
+    let end = c.loop-c-test.false in
+    rw c.if-short-at.false at (judged-ends at.invariant.1 (left-ends _ _ at.c end) (text-good _ _ (going-good at.invariant.0 end)))
