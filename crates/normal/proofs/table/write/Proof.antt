@@ -27,25 +27,25 @@ returns c = refused-tried (text-refused _ _ 1 (table-long _ _ c.if1.true) (λ z.
 loop-holds : tie.Need-loop-init invariant-loop decreases-loop
 loop-holds c = let short = c.if1.false in (going-starts _ _ short, judged-starts _ (left-starts _ _ short) (omega arith), refl)
 
-advance-requires : tie.Need-advance-requires invariant-loop decreases-loop
-advance-requires c κs = c.before.before.loop.invariant.0.reached
+next-item-requires : tie.Need-next-item-requires invariant-loop decreases-loop
+next-item-requires c κs = c.before.before.loop.invariant.0.reached
 
 returns-2 : tie.Need-returns-2 invariant-loop decreases-loop
 returns-2 c =
     let at = c.before.before.before.before.before.before.before.loop in
-    let step = c.before.before.before.before.advance.ensures in
+    let step = c.before.before.before.before.next_item.ensures in
     let is = c.before.item.given.1 in
     let some = refused-some step at.invariant.0 is in
     refused-tried (text-refused _ _ _ (going-refused step at.invariant.0 is) some) some at.invariant.2
 
 write-requires : tie.Need-write-requires invariant-loop decreases-loop
-write-requires c κs = going-within c.before.before.before.advance.ensures c.before.before.before.before.before.before.loop.invariant.0
+write-requires c κs = going-within c.before.before.before.next_item.ensures c.before.before.before.before.before.before.loop.invariant.0
 
 loop-again : tie.Need-loop-preserved invariant-loop decreases-loop
 loop-again c =
     let at = c.before.before.before.before.before.before.before.before.before.loop in
-    let step = c.before.before.before.before.before.before.advance.ensures in
-    let kept = not-refused c.before.before.before.before.before.before.advance.result.item (λ f is. last-variant (rw is at c.before.before.before.before.match.keys2)) in
+    let step = c.before.before.before.before.before.before.next_item.ensures in
+    let kept = not-refused c.before.before.before.before.before.before.next_item.result.item (λ f is. last-variant (rw is at c.before.before.before.before.match.keys2)) in
     let so = judged-next at.invariant.1 (parts_next step kept (text-parts _)) (short-next step kept) c.before.before.write.ensures in
     (going_next step at.invariant.0 kept, so, so.lined.wrote.size)
 
@@ -69,14 +69,14 @@ write_spec =
     decreases-loop
     returns
     loop-holds
-    advance-requires
+    next-item-requires
     (λ c. search rules)
     (λ c. c.before.before.before.before.before.before.before.loop.invariant.2)
     returns-2
     write-requires
     (λ c. lined-onward c.before.before.before.before.before.before.before.before.before.loop.invariant.1.lined c.before.before.write.ensures)
     (λ c. omega arith)
-    (λ c. let at = c.before.before.before.before.before.before in step_less at.advance.ensures at.before.if2.true)
+    (λ c. let at = c.before.before.before.before.before.before in step_less at.next_item.ensures at.before.if2.true)
     loop-again
     (λ c. c.before.before.before.loop.invariant.2)
     returns-3
