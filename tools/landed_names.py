@@ -45,18 +45,17 @@ records: said_from decode_from, said_of decode, items_said decoded_items, fault_
   ReaderSteps InnerReaders, WriterSteps InnerWriters
 runqueue: ahead_of biased_offset_of, hold-reached limit-reached, hold-plainly limit-plainly,
   hold-exact limit-exact
-reload: line_in queue_in, Duties EntryMeanings, Duty EntryMeaning, alike_same same-meaning-same,
-  alike-eq same-meaning-eq, is_alike is_same_meaning, alike-not same-meaning-not, alike-other same-meaning-other,
-  alike-owner same-meaning-owner, alike_is same-meaning-is, ahead-same biased-offset-same
+reload: line_in queue_in, Duties EntryMeanings, Duty EntryMeaning, is_alike is_same_meaning, alike-owner same-meaning-owner, ahead-same biased-offset-same
 eremothyn: told-apart answers-distinct, ToldApart AnswersDistinct, Apart Distinct, radio record_calls
 """
 
 # Words that other crates, or other files, have in another meaning: a pattern of paths, and the words there.
 LOCAL = [
-    (r"crates/(?!schedule/(src/jump|must-fail)|fifo/specs/Examples)", "marked has_member"),
+    (r"crates/(?!schedule/(src/jump|must-fail)|fifo/specs/Examples|eremothyn/specs/(FourWays|ManyEntries))", "marked has_member"),
     (r"crates/(?!command/)", "ahead biased_offset"),
     (r"crates/(fifo|runqueue|reload|eremothyn)/", "line_of queue_of"),
-    (r"crates/reload/(?!must-fail)", "alike same_meaning"),
+    (r"crates/reload/(?!must-fail)", "alike same_meaning, alike_same same-meaning-same, alike-eq same-meaning-eq, alike_is same-meaning-is"),
+    (r"crates/reload/", "alike-not same-meaning-not, alike-other same-meaning-other"),
     (r"crates/(octets|command|crontab_firings|firings|normal|records)/", "laid over_front"),
     (r"crates/eremothyn/(?!proofs/Demand)", "laid over_front"),
     (r"crates/eremothyn/proofs/Demand", "laid stored"),
@@ -65,7 +64,11 @@ LOCAL = [
     (r"crates/(fifo|reload)/|crates/runqueue/(?!specs/Examples)", "Line Queue"),
     (r"crates/(command|crontab|field|normal|reload)/specs/Lib", "Steps Inner"),
     (r"crates/octets/(?!src)|crates/(crontab|reload)/proofs/(Choices|Reloads|peers|chosen)", "mark with_member"),
-    (r"crates/(crontab|reload)/|crates/runqueue/(src|proofs/(Exits|init|tick))", "marks members"),
+    (r"crates/(crontab|reload)/proofs", "chosen_more selected-more, chosen-refused selected-refused, chosen-off selected-off, chosen_at selected-at"),
+    (r"crates/fifo/", "line-proper queue-proper, stands waits"),
+    (r"crates/fifo/proofs/(SingleTicks|Steady|QueueChanges|Refusing|Filling|Growth|Extremes)", "line queue"),
+    (r"crates/fifo/proofs/(WaitingBits|Gathered|queue/gather)", "mark with_member"),
+    (r"crates/(crontab|reload)/|crates/runqueue/(src|proofs/(Exits|Joiners|init|tick))", "marks members"),
     (r"crates/(field|normal)/src", "written format"),
 ]
 
@@ -125,11 +128,11 @@ def turn_words(top):
             if re.search(pattern, path):
                 here.update(pairs(more))
         with open(path, encoding="utf-8") as file:
-            text = file.read()
+            landed = text = file.read()
         for pattern, new in PHRASES:
             text = re.sub(pattern, new, text)
         turned = WORD.sub(lambda m: here.get(m.group(0), m.group(0)), text)
-        if turned != text:
+        if turned != landed:
             with open(path, "w", encoding="utf-8") as file:
                 file.write(turned)
 
