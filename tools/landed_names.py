@@ -1,9 +1,9 @@
 #!/usr/bin/env python3
 """Brings a checkout of the last landed commit, after port.py and tools/port_names.py, to the names of today.
 
-usage: python3 tools/landed_names.py FOLDER
+usage: python3 tools/landed_names.py [FOLDER]          in a checkout of that commit, or on the folder that holds it
 
-What then differs between the crates of FOLDER and those here, comments aside, is a true change. The tables are the list of what was renamed:
+What then differs between its crates and those here, comments aside, is a true change. The tables are the list of what was renamed:
 `old new` for a word of definitions, theorems, modules and functions, by the crate that has it first, and the files that moved.
 """
 
@@ -60,7 +60,7 @@ LOCAL = [
     (r"crates/eremothyn/(?!proofs/Demand)", "laid over_front"),
     (r"crates/eremothyn/proofs/Demand", "laid stored"),
     (r"crates/(fifo|reload|runqueue)/", "laid stored"),
-    (r"crates/(crontab|reload|runqueue)/", "Which Selector, Chosen Selection, chosen select"),
+    (r"crates/(crontab|reload|runqueue)/", "Which Selector, Chosen Selection"),
     (r"crates/(fifo|reload)/|crates/runqueue/(?!specs/Examples)", "Line Queue"),
     (r"crates/(command|crontab|field|normal|reload)/specs/Lib", "Steps Inner"),
     (r"crates/octets/(?!src)|crates/(crontab|reload)/proofs/(Choices|Reloads|peers|chosen)", "mark with_member"),
@@ -99,6 +99,8 @@ PHRASES = [
     (r"\bmark::", "bitset::"),
     (r"\boctets::mark\b", "octets::bitset"),
     (r"\bpub mod mark;", "pub mod bitset;"),
+    (r"\b(crontab::|crate::|mod |(?<![.:])\b(?=chosen::)|Rattle\.crontab\.(?:specs\.declared|proofs)\.)chosen\b", r"\1select"),
+    (r"\bsrc/alike\.rt", "src/same_meaning.rt"),
     (r"\bfront\.laid\b", "front.over_front"),
     (r"\b(Rattle\.octets\.specs\.(?:Marks|BitSets)\.\{(?:marked, )?)mark\b", r"\1with_member"),
     (r"(?m)^(    ensures \{ (?:words|marks)\.new ≡ (?:cond chosen \()?)mark\b", r"\1with_member"),
@@ -153,7 +155,7 @@ def move(top):
 
 
 def main():
-    top = sys.argv[1]
+    top = sys.argv[1] if len(sys.argv) > 1 else "."
     turn_words(top)
     move(top)
 
