@@ -44,7 +44,7 @@ records: said_from decode_from, said_of decode, items_said decoded_items, fault_
   unseens-said unseen-decoded, table-said table-decoded, said-form decoded-form, said-starts decoded-starts, said-end decoded-end,
   ReaderSteps InnerReaders, WriterSteps InnerWriters
 runqueue: ahead_of biased_offset_of, hold-reached limit-reached, hold-plainly limit-plainly,
-  hold-exact limit-exact
+  hold-exact limit-exact, from-720 from-max_west
 reload: line_in queue_in, Duties EntryMeanings, Duty EntryMeaning, is_alike is_same_meaning, alike-owner same-meaning-owner, ahead-same biased-offset-same
 eremothyn: told-apart answers-distinct, ToldApart AnswersDistinct, Apart Distinct, radio record_calls
 """
