@@ -105,7 +105,7 @@ def turn_documents():
         if re.match(r"[a-z]", word):
             back.setdefault(plain(word), set()).add(word)
     paths = [os.path.join("docs", f) for f in sorted(os.listdir("docs")) if f.endswith(".md")]
-    for path in paths + ["README.md", "CONTRIBUTING.md"]:
+    for path in paths + [f for f in ("README.md", "CONTRIBUTING.md") if os.path.exists(f)]:
         def turned(match):
             word = match.group(0)
             others = back.get(plain(word), set())

@@ -29,7 +29,7 @@ use Rattle.line.specs.Limits.{max_line}
 use Rattle.crontab.specs.Lines.{lines_of}
 use Rattle.line.specs.Lines.{read_line}
 use Rattle.crontab.specs.Items.{done, moved, placed, after_line, last_fault, items_from, items_of}
-use Rattle.crontab.specs.Inner.{items_at, behind, Reached, LineAt, given, counted, Sound, Under, Leads, ended_step, step_at, StepIs, ItemIs}
+use Rattle.crontab.specs.Inner.{items_at, behind, Reached, LineAt, given, counted, Sound, Under, Stays, Leads, ended_step, step_at, StepIs, ItemIs}
 use Rattle.crontab.proofs.Lines.{line_end, end-found, stop-found, lines-first, next_start, last_line, ended-line}
 use Rattle.line.proofs.Theorems.{force-in, setting-proper, entry-proper}
 
@@ -83,9 +83,9 @@ module _ (rules : Rules) (s : List ℕ) (c : Cursor) (stop end : ℕ) (there : L
   pub line-stops : stop - c.at ≡ skipped InLine bytes 0
   line-stops = stop-found s c.at stop end there.stops found
 
-  step_is : (i : Item) (k : ℕ) (o : ℤ) → record { item = i; line = c.line; next = next k o } ≡ step_at rules s c → items_at rules s c ≡ given c.line i (items_at rules s (next k o)) → k ≡ counted i c.count → k ≤ max_entries
-      → OffsetInRange o → Under (length s) c.line c.offset o i → StepIs rules s c (record { item = i; line = c.line; next = next k o })
-  step_is i k o same g e few zone under =
+  step_is : (i : Item) (k : ℕ) (o : ℤ) → record { item = i; next = next k o } ≡ step_at rules s c → items_at rules s c ≡ given c.line i (items_at rules s (next k o)) → k ≡ counted i c.count → k ≤ max_entries
+      → OffsetInRange o → Under (length s) c.offset i → Stays c.line c.offset o i → StepIs rules s c (record { item = i; next = next k o })
+  step_is i k o same g e few zone under stays =
       record {
         is = same;
         gives = g;
@@ -100,6 +100,7 @@ module _ (rules : Rules) (s : List ℕ) (c : Cursor) (stop end : ℕ) (there : L
             };
         counts = e;
         under = under;
+        stays = stays;
       }
 
   module _ {when : When} {first : ℕ} (is : read_line rules bytes ≡ line.Entry when first) where
@@ -124,13 +125,13 @@ module _ (rules : Rules) (s : List ℕ) (c : Cursor) (stop end : ℕ) (there : L
 
   -- the table ends there: its own fault, or 26
   pub step-last : length s ≤ end → {o : ℤ} → o ≡ c.offset
-      → StepIs rules s c (record { item = item.Refused (last_fault (end - c.at) c.count (read_line rules bytes)); line = c.line; next = next c.count o })
+      → StepIs rules s c (record { item = item.Refused (last_fault (end - c.at) c.count (read_line rules bytes)); next = next c.count o })
   unfolding items_at items_from given counted step_at between
   step-last h {o} same =
       step_is (item.Refused (last_fault (end - c.at) c.count (read_line rules bytes))) c.count o
       (rw (same, ← found, le-ltb end (length s) h))
       (rw (lines-first s c.at end inside found, last_line s c.at end inside found h, size)) refl reached.few
-      (subst OffsetInRange (sym same) reached.zone) tt
+      (subst OffsetInRange (sym same) reached.zone) tt tt
 
   -- a newline ends it
   module _ (ended : end < length s) where
@@ -154,35 +155,35 @@ module _ (rules : Rules) (s : List ℕ) (c : Cursor) (stop end : ℕ) (there : L
       in-zones : OffsetInRange o
       in-zones = subst OffsetInRange (sym same) reached.zone
 
-      pub step-nothing : read_line rules bytes ≡ line.Ignored → StepIs rules s c (record { item = item.Nothing; line = c.line; next = next c.count o })
+      pub step-nothing : read_line rules bytes ≡ line.Ignored → StepIs rules s c (record { item = item.Nothing; next = next c.count o })
       unfolding after_line given counted ended_step
-      step-nothing is = step_is item.Nothing c.count o (rw (step-ended, is, same)) (here ∙ rw (is, same)) refl reached.few in-zones same
+      step-nothing is = step_is item.Nothing c.count o (rw (step-ended, is, same)) (here ∙ rw (is, same)) refl reached.few in-zones tt same
 
-      pub step-refused : {f : Fault} → read_line rules bytes ≡ line.Refused f → StepIs rules s c (record { item = item.Refused f; line = c.line; next = next c.count o })
+      pub step-refused : {f : Fault} → read_line rules bytes ≡ line.Refused f → StepIs rules s c (record { item = item.Refused f; next = next c.count o })
       unfolding after_line given counted ended_step
-      step-refused {f} is = step_is (item.Refused f) c.count o (rw (step-ended, is, same)) (here ∙ rw is) refl reached.few in-zones tt
+      step-refused {f} is = step_is (item.Refused f) c.count o (rw (step-ended, is, same)) (here ∙ rw is) refl reached.few in-zones tt tt
 
       pub step-entry : {when : When} {first : ℕ} → read_line rules bytes ≡ line.Entry when first → c.count < max_entries
-          → StepIs rules s c (record { item = item.Entry (placed c.at c.line (end - c.at) c.offset when first); line = c.line; next = next (c.count + 1) o })
+          → StepIs rules s c (record { item = item.Entry (placed c.at c.line (end - c.at) c.offset when first); next = next (c.count + 1) o })
       unfolding after_line given counted ended_step
       step-entry {when} {first} is h =
           step_is (item.Entry (placed c.at c.line (end - c.at) c.offset when first)) (c.count + 1) o
           (rw (step-ended, is, lt-ltb c.count max_entries h, same))
-          (here ∙ rw (is, lt-ltb c.count max_entries h, same)) refl (omega arith) in-zones (refl, entry_here is, refl)
+          (here ∙ rw (is, lt-ltb c.count max_entries h, same)) refl (omega arith) in-zones (refl, entry_here is) refl
 
       pub step-full : {when : When} {first : ℕ} → read_line rules bytes ≡ line.Entry when first → max_entries ≤ c.count
-          → StepIs rules s c (record { item = item.Refused (record { number = 12; column = 1 }); line = c.line; next = next c.count o })
+          → StepIs rules s c (record { item = item.Refused (record { number = 12; column = 1 }); next = next c.count o })
       unfolding after_line given counted ended_step
       step-full is h =
           step_is (item.Refused (record { number = 12; column = 1 })) c.count o (rw (step-ended, is, le-ltb c.count max_entries h, same)) (here ∙ rw (is, le-ltb c.count max_entries h)) refl
-          reached.few in-zones tt
+          reached.few in-zones tt tt
 
     pub step-setting : {name value : Part} {zone : Zone} {o : ℤ} → read_line rules bytes ≡ line.Setting name value zone → o ≡ in_force zone c.offset
-        → StepIs rules s c (record { item = item.Setting (moved c.at name) (moved c.at value); line = c.line; next = next c.count o })
+        → StepIs rules s c (record { item = item.Setting (moved c.at name) (moved c.at value); next = next c.count o })
     unfolding after_line given counted ended_step
     step-setting {name} {value} {zone} {o} is same =
         step_is (item.Setting (moved c.at name) (moved c.at value)) c.count o (rw (step-ended, is, same)) (here ∙ rw (is, same)) refl reached.few
-        (subst OffsetInRange (sym same) (force-in zone c.offset (setting-proper rules bytes is).3 reached.zone)) tt
+        (subst OffsetInRange (sym same) (force-in zone c.offset (setting-proper rules bytes is).3 reached.zone)) tt tt
 
 -- ---- from line to line up to an item
 
@@ -212,12 +213,12 @@ module _ {rules : Rules} {s : List ℕ} {from c : Cursor} (so : Skipped rules s 
         reached = step.reached;
         left = so.left ∙ step.gives ∙ rw is;
         count = step.counts ∙ rw is so.count;
-        offset = (rw is at step.under) ∙ so.offset;
+        offset = (rw is at step.stays) ∙ so.offset;
         onward = omega (arith, so.onward, step.onward);
       }
 
   -- an item ends it
-  pub skipped-item : {r : Step} → StepIs rules s c r → (r.item ≡ item.Nothing → ⊥) → ItemIs rules s from r
+  pub skipped-item : {r : Step} → StepIs rules s c r → (r.item ≡ item.Nothing → ⊥) → ItemIs rules s from (record { item = r.item; line = c.line; next = r.next })
   skipped-item {r} step some =
       record {
         gives = so.left ∙ step.gives;
@@ -225,6 +226,7 @@ module _ {rules : Rules} {s : List ℕ} {from c : Cursor} (so : Skipped rules s 
         reached = step.reached;
         counts = rw (← so.count) step.counts;
         under = rw (← so.offset) step.under;
+        stays = rw (← so.offset) step.stays;
       }
     where
       past : (x : Item) → (x ≡ item.Nothing → ⊥) → Leads (length s) from.at r.next.at x
@@ -236,4 +238,4 @@ module _ {rules : Rules} {s : List ℕ} {from c : Cursor} (so : Skipped rules s 
   -- the table's end does
   pub skipped-end : length s ≤ c.at → ItemIs rules s from (record { item = item.Nothing; line = c.line; next = c })
   unfolding given counted
-  skipped-end h = record { gives = so.left; leads = h; reached = so.reached; counts = so.count; under = so.offset }
+  skipped-end h = record { gives = so.left; leads = h; reached = so.reached; counts = so.count; under = tt; stays = so.offset }

@@ -28,7 +28,7 @@ use Rattle.line.specs.declared.Fault.{Fault}
 use Rattle.crontab.specs.declared.item.Cursor.{Cursor}
 use Rattle.crontab.specs.declared.item.Item.TheVariants as item
 use Rattle.crontab.specs.declared.item.Item.TheVariants.{Nothing, Setting, Refused}
-use Rattle.crontab.specs.declared.item.Step.{Step}
+use Rattle.crontab.specs.declared.item.NextItem.{NextItem}
 use Rattle.crontab.specs.Limits.{max_table, max_entries}
 use Rattle.crontab.specs.Items.{items_of}
 use Rattle.crontab.specs.Inner.{items_at, Reached, ItemIs}
@@ -74,7 +74,7 @@ module _ (p : Entry → Bool) (rules : Rules) (s : List ℕ) where
   unfolding table_of empty_table refused_table no_entries bit_set_of
   selecting-starts h = record { entries = no_entries; table = rw (items-start rules s h); full = refl; marked = refl; reached = start-reached s h }
 
-module _ {p : Entry → Bool} {rules : Rules} {s : List ℕ} {c : Cursor} {members : List ℕ} (so : Selecting p rules s c members) {r : Step} (step : ItemIs rules s c r) where
+module _ {p : Entry → Bool} {rules : Rules} {s : List ℕ} {c : Cursor} {members : List ℕ} (so : Selecting p rules s c members) {r : NextItem} (step : ItemIs rules s c r) where
   pub selecting-ends : r.item ≡ Nothing → record { refusal = 0; count = c.count; members = members } ≡ selected_by p (table_of rules s)
   unfolding selected_by
   selecting-ends is = rw (← (table-nothing step so.entries is ∙ so.table), so.marked)

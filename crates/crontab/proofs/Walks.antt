@@ -14,12 +14,12 @@ use Rattle.crontab.specs.declared.entry.Entry.{Entry}
 use Rattle.crontab.specs.declared.item.Cursor.{Cursor}
 use Rattle.crontab.specs.declared.item.Item.{Item}
 use Rattle.crontab.specs.declared.item.Item.TheVariants as item
-use Rattle.crontab.specs.declared.item.Step.{Step}
+use Rattle.crontab.specs.declared.item.NextItem.{NextItem}
 use Rattle.crontab.specs.declared.find.Wanted.{Wanted}
 use Rattle.crontab.specs.declared.find.Finding.{Finding}
 use Rattle.crontab.specs.Limits.{max_entries}
 use Rattle.crontab.specs.Items.{Items, done, fault, setting, entry}
-use Rattle.crontab.specs.Inner.{items_at, given, counted, ItemIs, Sound, Under, Leads}
+use Rattle.crontab.specs.Inner.{items_at, given, counted, ItemIs, Sound, Under, Stays, Leads}
 use Rattle.crontab.specs.Tables.{refused_table, with_entry, with_items}
 use Rattle.crontab.specs.Findings.{is_wanted, refused_finding, found_or, finding_from}
 use Rattle.crontab.proofs.Tables.{good}
@@ -53,7 +53,7 @@ leads-on (item.Setting name value) h l = l
 leads-on (item.Entry e) h l = l
 leads-on (item.Refused f) h l = l
 
-module _ {rules : Rules} {s : List ℕ} {c : Cursor} {r : Step} (step : ItemIs rules s c r) where
+module _ {rules : Rules} {s : List ℕ} {c : Cursor} {r : NextItem} (step : ItemIs rules s c r) where
   -- each step leaves less to walk
   pub step_less : c.at < length s → length s + 1 - r.next.at < length s + 1 - c.at
   step_less h = omega (arith, leads-on r.item h step.leads, step.reached.place)
@@ -68,7 +68,7 @@ module _ {rules : Rules} {s : List ℕ} {c : Cursor} {r : Step} (step : ItemIs r
     leads : Leads (length s) c.at r.next.at x
     leads = rw is at step.leads
 
-    under : Under (length s) r.line c.offset r.next.offset x
+    under : Under (length s) c.offset x
     under = rw is at step.under
 
   pub left-nothing : r.item ≡ item.Nothing → items_at rules s c ≡ done
@@ -138,19 +138,19 @@ module _ {rules : Rules} {s : List ℕ} {c : Cursor} {r : Step} (step : ItemIs r
   -- ---- what is found
 
   module _ (w : Wanted) (found : Finding) where
-    finding-given : (x : Item) (later : Items) (n : ℕ) (o : ℤ) → Kept x → Under (length s) n c.offset o x
+    finding-given : (x : Item) (later : Items) (n : ℕ) (o : ℤ) → Kept x → Stays n c.offset o x
         → finding_from w (found_or w found n c.count x) (counted x c.count) later ≡ finding_from w found c.count (given n x later)
     unfolding finding_from found_or is_wanted given counted
     finding-given item.Nothing later n o kept u = refl
     finding-given (item.Setting name value) later n o kept u = refl
-    finding-given (item.Entry e) later n o kept u = rw u.2
+    finding-given (item.Entry e) later n o kept u = rw u
     finding-given (item.Refused f) later n o kept u = absurd kept
 
     pub finding-next : Kept r.item
         → finding_from w (found_or w found r.line c.count r.item) r.next.count (items_at rules s r.next) ≡ finding_from w found c.count (items_at rules s c)
     finding-next kept =
         ap (λ (k : ℕ). finding_from w (found_or w found r.line c.count r.item) k (items_at rules s r.next)) step.counts
-        ∙ finding-given r.item (items_at rules s r.next) r.line r.next.offset kept step.under
+        ∙ finding-given r.item (items_at rules s r.next) r.line r.next.offset kept step.stays
         ∙ ap (finding_from w found c.count) (sym step.gives)
 
     pub finding-refused : {f : Fault} → r.item ≡ item.Refused f → refused_finding f r.line ≡ finding_from w found c.count (items_at rules s c)

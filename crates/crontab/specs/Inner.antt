@@ -15,6 +15,7 @@ use Rattle.crontab.specs.declared.item.Cursor.{Cursor}
 use Rattle.crontab.specs.declared.item.Item.{Item}
 use Rattle.crontab.specs.declared.item.Item.TheVariants as item
 use Rattle.crontab.specs.declared.item.Step.{Step}
+use Rattle.crontab.specs.declared.item.NextItem.{NextItem}
 use Rattle.crontab.specs.Limits.{max_table, max_entries}
 use Rattle.line.specs.Limits.{max_line}
 use Rattle.crontab.specs.Refusals.{too_many_entries}
@@ -67,12 +68,19 @@ pub record Sound (n : ℕ) (e : Entry) : Type 0 where
   pub within : e.end ≤ n
   pub zone : OffsetInRange e.offset
 
--- an entry of n bytes is sound, on the line of its step and under the offset of its cursor, which an ignored line keeps
-abbrev pub Under : ℕ → ℕ → ℤ → ℤ → Item → Type 0
-Under n line offset next item.Nothing = next ≡ offset
-Under n line offset next (item.Setting name value) = Unit {0}
-Under n line offset next (item.Entry e) = (e.offset ≡ offset) × Sound n e × (e.line ≡ line)
-Under n line offset next (item.Refused f) = Unit {0}
+-- an entry of n bytes is sound, and under the offset of its cursor
+abbrev pub Under : ℕ → ℤ → Item → Type 0
+Under n offset item.Nothing = Unit {0}
+Under n offset (item.Setting name value) = Unit {0}
+Under n offset (item.Entry e) = (e.offset ≡ offset) × Sound n e
+Under n offset (item.Refused f) = Unit {0}
+
+-- an entry is on the line of its step, and an ignored line keeps the offset
+abbrev pub Stays : ℕ → ℤ → ℤ → Item → Type 0
+Stays line offset next item.Nothing = next ≡ offset
+Stays line offset next (item.Setting name value) = Unit {0}
+Stays line offset next (item.Entry e) = e.line ≡ line
+Stays line offset next (item.Refused f) = Unit {0}
 
 -- how far a step leads: past its item, or to the end where there is none
 abbrev pub Leads : ℕ → ℕ → ℕ → Item → Type 0
@@ -88,18 +96,18 @@ too_many = record { number = too_many_entries; column = 1 }
 
 -- a line that ends in a newline, and the cursor after it
 unfoldable pub ended_step : Cursor → ℕ → Line → Step
-ended_step c end line.Ignored = record { item = item.Nothing; line = c.line; next = behind c end c.count c.offset }
+ended_step c end line.Ignored = record { item = item.Nothing; next = behind c end c.count c.offset }
 ended_step c end (line.Setting name value zone) =
-    record { item = item.Setting (moved c.at name) (moved c.at value); line = c.line; next = behind c end c.count (in_force zone c.offset) }
+    record { item = item.Setting (moved c.at name) (moved c.at value); next = behind c end c.count (in_force zone c.offset) }
 ended_step c end (line.Entry when start) =
     cond (ltb c.count max_entries)
-    (record { item = item.Entry (placed c.at c.line (end - c.at) c.offset when start); line = c.line; next = behind c end (c.count + 1) c.offset })
-    (record { item = item.Refused too_many; line = c.line; next = behind c end c.count c.offset })
-ended_step c end (line.Refused f) = record { item = item.Refused f; line = c.line; next = behind c end c.count c.offset }
+    (record { item = item.Entry (placed c.at c.line (end - c.at) c.offset when start); next = behind c end (c.count + 1) c.offset })
+    (record { item = item.Refused too_many; next = behind c end c.count c.offset })
+ended_step c end (line.Refused f) = record { item = item.Refused f; next = behind c end c.count c.offset }
 
 -- a last line without one
 abbrev pub cut_step : Cursor → ℕ → Line → Step
-cut_step c end x = record { item = item.Refused (last_fault (end - c.at) c.count x); line = c.line; next = behind c end c.count c.offset }
+cut_step c end x = record { item = item.Refused (last_fault (end - c.at) c.count x); next = behind c end c.count c.offset }
 
 -- the line at a cursor, up to a newline or the table's end
 unfoldable pub step_at : Rules → List ℕ → Cursor → Step
@@ -111,16 +119,18 @@ step_at rules s c =
 -- what a step over one line is, and what follows for walks
 pub record StepIs (rules : Rules) (s : List ℕ) (c : Cursor) (r : Step) : Type 0 where
   pub is : r ≡ step_at rules s c
-  pub gives : items_at rules s c ≡ given r.line r.item (items_at rules s r.next)
+  pub gives : items_at rules s c ≡ given c.line r.item (items_at rules s r.next)
   pub onward : c.at < r.next.at
   pub reached : Reached s r.next
   pub counts : r.next.count ≡ counted r.item c.count
-  pub under : Under (length s) r.line c.offset r.next.offset r.item
+  pub under : Under (length s) c.offset r.item
+  pub stays : Stays c.line c.offset r.next.offset r.item
 
 -- what holds of a step to the next item
-pub record ItemIs (rules : Rules) (s : List ℕ) (c : Cursor) (r : Step) : Type 0 where
+pub record ItemIs (rules : Rules) (s : List ℕ) (c : Cursor) (r : NextItem) : Type 0 where
   pub gives : items_at rules s c ≡ given r.line r.item (items_at rules s r.next)
   pub leads : Leads (length s) c.at r.next.at r.item
   pub reached : Reached s r.next
   pub counts : r.next.count ≡ counted r.item c.count
-  pub under : Under (length s) r.line c.offset r.next.offset r.item
+  pub under : Under (length s) c.offset r.item
+  pub stays : Stays r.line c.offset r.next.offset r.item

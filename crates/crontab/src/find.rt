@@ -118,7 +118,7 @@ pub fn find(s: &[u8], rules: Rules, wanted: Wanted) -> Finding
     let mut c = item::START;
     while c.at < s.len() {
         let count = c.count as u64;
-        let step = item::advance(s, rules, c);
+        let step = item::next_item(s, rules, c);
         c = step.next;
         let item = step.item;
         let so_far = found.item;

@@ -38,9 +38,16 @@ pub enum Item {
     Refused(Fault),
 }
 
-// An item, the number of its line, and the cursor after it.
+// What the line at a cursor is, and the cursor after it.
 #[derive(Clone, Copy)]
 pub struct Step {
+    pub item: Item,
+    pub next: Cursor,
+}
+
+// The first item from a cursor on, the number of its line, and the cursor after it.
+#[derive(Clone, Copy)]
+pub struct NextItem {
     pub item: Item,
     pub line: usize,
     pub next: Cursor,
@@ -100,7 +107,6 @@ fn ended(s: &[u8], rules: Rules, c: Cursor, stop: usize, end: usize) -> Step
     match line::judge(&s[at..end], rules, stop - at) {
         Line::Ignored => Step {
             item: Item::Nothing,
-            line: c.line,
             next,
         },
         Line::Setting { name, value, zone } => Step {
@@ -108,26 +114,22 @@ fn ended(s: &[u8], rules: Rules, c: Cursor, stop: usize, end: usize) -> Step
                 name: moved(name, at),
                 value: moved(value, at),
             },
-            line: c.line,
             next: behind(c, end, c.count, in_force(zone, c.offset)),
         },
         Line::Entry { when, start } => {
             if c.count == MAX_ENTRIES {
                 return Step {
                     item: Item::Refused(TOO_MANY),
-                    line: c.line,
                     next,
                 };
             }
             Step {
                 item: Item::Entry(placed(c, end - at, when, start)),
-                line: c.line,
                 next: behind(c, end, c.count + 1, c.offset),
             }
         }
         Line::Refused(fault) => Step {
             item: Item::Refused(fault),
-            line: c.line,
             next,
         },
     }
@@ -169,13 +171,12 @@ fn last(s: &[u8], rules: Rules, c: Cursor, stop: usize) -> Step
     let line = line::judge(&s[at..end], rules, stop - at);
     Step {
         item: Item::Refused(last_fault(line, end - at, c.count)),
-        line: c.line,
         next: behind(c, end, c.count, c.offset),
     }
 }
 
 // The line at a cursor. One search finds the line's end and its first forbidden byte.
-fn one_line(s: &[u8], rules: Rules, c: Cursor) -> Step
+pub fn advance(s: &[u8], rules: Rules, c: Cursor) -> Step
     requires { Reached s.now c × (c.at < length s.now) }
     ensures { StepIs rules s.now c result }
 {
@@ -188,20 +189,24 @@ fn one_line(s: &[u8], rules: Rules, c: Cursor) -> Step
 }
 
 // The first item from a cursor on: ignored lines are skipped.
-pub fn advance(s: &[u8], rules: Rules, from: Cursor) -> Step
+pub fn next_item(s: &[u8], rules: Rules, from: Cursor) -> NextItem
     requires { Reached s.now from }
     ensures { ItemIs rules s.now from result }
 {
     let mut c = from;
     while c.at < s.len() {
-        let step = one_line(s, rules, c);
+        let step = advance(s, rules, c);
         let item = step.item;
         let Item::Nothing = item else {
-            return step;
+            return NextItem {
+                item,
+                line: c.line,
+                next: step.next,
+            };
         };
         c = step.next;
     }
-    Step {
+    NextItem {
         item: Item::Nothing,
         line: c.line,
         next: c,

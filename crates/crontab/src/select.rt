@@ -107,7 +107,7 @@ pub fn read(s: &[u8], rules: Rules, which: Selector) -> Selection
         let count = c.count;
         let under = date;
         let offset = c.offset;
-        let step = item::advance(s, rules, c);
+        let step = item::next_item(s, rules, c);
         c = step.next;
         date = moved_on(which, under, offset, c.offset);
         let item = step.item;

@@ -68,7 +68,7 @@ pub fn read(s: &[u8], rules: Rules) -> Table
     let mut c = item::START;
     loop {
         let count = c.count;
-        let step = item::advance(s, rules, c);
+        let step = item::next_item(s, rules, c);
         c = step.next;
         let item = step.item;
         match item {

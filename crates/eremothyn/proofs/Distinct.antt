@@ -69,12 +69,12 @@ use Rattle.eremothyn.specs.Commands.{split_number, input_number, split_in, split
 use Rattle.eremothyn.specs.NormalForms.{normal_number}
 use Rattle.eremothyn.specs.Queue.{tick_number, pop_number}
 use Rattle.eremothyn.specs.Lists.{filled_number}
-use Rattle.eremothyn.specs.Distinct.{ShowsRefused, ShowsGranted, Shows, ShowsRecord, ShowsFilled, Stays}
+use Rattle.eremothyn.specs.Distinct.{granted, TellsRefused, Tells, TellsFilled, by_refusal, by_entry, by_line, by_due, by_next, by_split, by_form, by_tick, by_pop, Stays}
 
 -- ---- the macro
 
 -- of an answer that isn't above 4,294,967,296, of one where more remain, and of a refusal
-pub small-granted : (number : ℕ) → number ≤ refused_from → ShowsGranted number
+pub small-granted : (number : ℕ) → number ≤ refused_from → Tells granted number
 unfolding is_refused
 small-granted number h = (le-ltb refused_from (number % more_from) (omega arith), h)
 
@@ -83,19 +83,12 @@ unfolding is_refused
 more-granted n h =
     le-ltb refused_from ((more_from + n) % more_from) (omega arith)
 
-refused-told : (n : ℕ) → IsRefusal n → ShowsRefused n (refused_from + n)
+refused-told : (n : ℕ) → IsRefusal n → TellsRefused n (refused_from + n)
 unfolding is_refused
 refused-told n h = (lt-ltb refused_from ((refused_from + n) % more_from) (omega (arith, h.0, h.1)), refl, h)
 
--- an answer that is no refusal, and one that is
-granted-tells : {A : Type 0} {refused : ℕ → A} {a : A} (number : ℕ) → ((n : ℕ) → a ≡ refused n → ◌≡◌ {A = ℕ} 0 1) → number ≤ refused_from → Shows refused a number
-granted-tells number other h = record { refusing = λ n e. absurd (let z = other n e in omega arith); granting = λ none. small-granted number h }
-
-refused-tells : {A : Type 0} {refused : ℕ → A} (n : ℕ) → ((m : ℕ) → refused n ≡ refused m → n ≡ m) → IsRefusal n → Shows refused (refused n) (refused_from + n)
-refused-tells n same h = record { refusing = λ m e. rw (← (same m e)) (refused-told n h); granting = λ none. absurd (none n refl) }
-
 -- a record's answer, where its value is small unless it is refused, and its refusal has eight bits
-answer-tells : (refusal value : ℕ) → refusal ≤ 255 → (refusal ≡ 0 → value ≤ refused_from) → ShowsRecord refusal (answer_of refusal value)
+answer-tells : (refusal value : ℕ) → refusal ≤ 255 → (refusal ≡ 0 → value ≤ refused_from) → Tells (by_refusal refusal) (answer_of refusal value)
 unfolding answer_of
 answer-tells zero value s h = small-granted value (h refl)
 answer-tells (suc n) value s h = refused-told (suc n) (omega arith, s)
@@ -118,7 +111,7 @@ of-few minute = go (leb minute last_minute)
     go true = omega arith
     go false = omega arith
 
-pub part-tells : (minute : ℕ) (part : DatePart) → ShowsRecord (date_of minute).refusal (date_part minute part)
+pub part-tells : (minute : ℕ) (part : DatePart) → Tells (by_refusal (date_of minute).refusal) (date_part minute part)
 unfolding date_part date_of
 part-tells minute part = answer-tells (date_of minute).refusal (part_in (date_of minute).date part) (of-few minute) (go (leb minute last_minute) refl)
   where
@@ -138,7 +131,7 @@ minute-few year month day hour minute = go (exists year month day hour minute &&
     go false = omega arith
 
 pub minute-tells : (year month day hour minute : ℕ)
-    → ShowsRecord (minute_of year month day hour minute).refusal (date_minute year month day hour minute)
+    → Tells (by_refusal (minute_of year month day hour minute).refusal) (date_minute year month day hour minute)
 unfolding date_minute
 minute-tells year month day hour minute =
     answer-tells (minute_of year month day hour minute).refusal (minute_of year month day hour minute).minute (minute-few year month day hour minute)
@@ -153,18 +146,18 @@ date-few minute run = go (eqb (date_of minute).refusal 0) (leb 6 (length run))
     go true false = omega arith
     go false b = of-few minute
 
-pub date-tells : (minute : ℕ) (run : List ℕ) → ShowsRecord (date_refusal minute run) (date_answer minute run)
+pub date-tells : (minute : ℕ) (run : List ℕ) → Tells (by_refusal (date_refusal minute run)) (date_answer minute run)
 unfolding date_answer
 date-tells minute run = answer-tells (date_refusal minute run) 6 (date-few minute run) (λ z. omega arith)
 
 -- ---- tables and settings
 
-pub check-tells : (rules : Rules) (table : List ℕ) → ShowsRecord (table_of rules table).refusal (check_number (table_of rules table))
+pub check-tells : (rules : Rules) (table : List ℕ) → Tells (by_refusal (table_of rules table).refusal) (check_number (table_of rules table))
 unfolding check_number
 check-tells rules table = answer-tells (table_of rules table).refusal (table_of rules table).count (omega (arith, (table-sound rules table).number)) (λ z. omega (arith, (table-sound rules table).few))
 
 pub setting-tells : (rules : Rules) (table : List ℕ) (line : ℕ) (what : Shown)
-    → let a = setting_in (items_of rules table) line in ShowsRecord a.refusal (setting_number a what)
+    → let a = setting_in (items_of rules table) line in Tells (by_refusal a.refusal) (setting_number a what)
 unfolding setting_number
 setting-tells rules table line what =
     answer-tells (setting_in (items_of rules table) line).refusal (shown_in (setting_in (items_of rules table) line) what)
@@ -176,15 +169,15 @@ setting-tells rules table line what =
     small ValueOffset h = let i = (setting-inside rules table line).value in omega (arith, i.order, i.within)
     small ValueLength h = let i = (setting-inside rules table line).value in omega (arith, i.order, i.within)
 
-pub line-tells : (a : LineAnswer) → LineBounded a → Shows line.Refused a (line_number a)
+pub line-tells : (a : LineAnswer) → LineBounded a → Tells (by_line a) (line_number a)
 unfolding line_number
-line-tells (line.At k) h = granted-tells k (λ n e. cc) (omega arith)
-line-tells (line.Refused number) h = refused-tells number (λ n e. cc) h
+line-tells (line.At k) h = small-granted k (omega arith)
+line-tells (line.Refused number) h = refused-told number h
 
 -- ---- owners
 
 pub owner-tells : (rules : Rules) (table : List ℕ) (i : ℕ) (what : Owned)
-    → let a = owner_in rules table i in ShowsRecord a.refusal (owner_number a what)
+    → let a = owner_in rules table i in Tells (by_refusal a.refusal) (owner_number a what)
 unfolding owner_number
 owner-tells rules table i what =
     answer-tells a.refusal (owned_in a.owner what) (owner-number rules table i) (λ z. small what (owner-short rules table i z) (owner-inside rules table i))
@@ -202,19 +195,19 @@ owner-tells rules table i what =
 
 -- ---- entries
 
-pub due-tells : (a : DueAnswer) → DueBounded a → Shows due.Refused a (due_number a)
+pub due-tells : (a : DueAnswer) → DueBounded a → Tells (by_due a) (due_number a)
 unfolding due_number
-due-tells due.Yes h = granted-tells 1 (λ n e. cc) (omega arith)
-due-tells due.No h = granted-tells 0 (λ n e. cc) (omega arith)
-due-tells (due.Refused number) h = refused-tells number (λ n e. cc) h
+due-tells due.Yes h = small-granted 1 (omega arith)
+due-tells due.No h = small-granted 0 (omega arith)
+due-tells (due.Refused number) h = refused-told number h
 
-pub next-tells : (a : NextAnswer) → NextBounded a → Shows next.Refused a (next_number a)
+pub next-tells : (a : NextAnswer) → NextBounded a → Tells (by_next a) (next_number a)
 unfolding next_number
-next-tells (next.At m) h = granted-tells m (λ n e. cc) (omega arith)
-next-tells (next.Refused number) h = refused-tells number (λ n e. cc) h
+next-tells (next.At m) h = small-granted m (omega arith)
+next-tells (next.Refused number) h = refused-told number h
 
 pub place-tells : (rules : Rules) (table : List ℕ) (i : ℕ) (what : Place)
-    → let a = entry_in (table_of rules table) i in Shows entry.Refused a (place_number a what)
+    → let a = entry_in (table_of rules table) i in Tells (by_entry a) (place_number a what)
 unfolding place_number
 place-tells rules table i what = go (entry_in (table_of rules table) i) (entry-told rules table i) (λ e. entry-on-line rules table i)
   where
@@ -224,9 +217,9 @@ place-tells rules table i what = go (entry_in (table_of rules table) i) (entry-t
     small CommandLength e s h l = omega (arith, s.some, s.within)
 
     go : (a : EntryAnswer) → EntryBounded (length table) a → ((e : Entry) → a ≡ entry.Found e → (1 ≤ e.line) × (e.line ≤ length table + 1))
-        → Shows entry.Refused a (place_number a what)
-    go (entry.Found e) (s, h) on = granted-tells (place_in e what) (λ n q. cc) (small what e s h (on e refl).1)
-    go (entry.Refused number) h on = refused-tells number (λ n e. cc) h
+        → Tells (by_entry a) (place_number a what)
+    go (entry.Found e) (s, h) on = small-granted (place_in e what) (small what e s h (on e refl).1)
+    go (entry.Refused number) h on = refused-told number h
 
 -- ---- commands
 
@@ -237,7 +230,7 @@ command-length table e s =
     let b = s.within in
     omega (arith, length-take-le (e.end - e.start) (drop e.start table) (omega (arith, length-drop e.start table)))
 
-step-tells : (c shell input : List ℕ) → length c ≤ max_table → let a = (split_step c shell input).answer in Shows split.Refused a (split_number a)
+step-tells : (c shell input : List ℕ) → length c ≤ max_table → let a = (split_step c shell input).answer in Tells (by_split a) (split_number a)
 unfolding split_step split_number
 step-tells c shell input h = go (have_room c shell input)
   where
@@ -251,61 +244,61 @@ step-tells c shell input h = go (have_room c shell input)
         })
         (record { answer = split.Refused 18; shell = shell; input = input })
         in
-        Shows split.Refused r.answer (split_number r.answer)
-    go true = granted-tells (length (shell_line c)) (λ n e. cc) (omega (arith, split-length c))
-    go false = refused-tells 18 (λ n e. cc) (omega arith)
+        Tells (by_split r.answer) (split_number r.answer)
+    go true = small-granted (length (shell_line c)) (omega (arith, split-length c))
+    go false = refused-told 18 (omega arith)
 
 pub split-tells : (rules : Rules) (table : List ℕ) (i : ℕ) (shell input : List ℕ)
-    → let a = (split_of rules table i shell input).answer in Shows split.Refused a (split_number a)
+    → let a = (split_of rules table i shell input).answer in Tells (by_split a) (split_number a)
 unfolding split_of split_in split_number
 split-tells rules table i shell input = go (entry_in (table_of rules table) i) (entry-told rules table i)
   where
-    go : (x : EntryAnswer) → EntryBounded (length table) x → let a = (split_in table x shell input).answer in Shows split.Refused a (split_number a)
+    go : (x : EntryAnswer) → EntryBounded (length table) x → let a = (split_in table x shell input).answer in Tells (by_split a) (split_number a)
     go (entry.Found e) (s, h) = step-tells (between table e.start e.end) shell input (omega (arith, command-length table e s))
-    go (entry.Refused number) h = refused-tells number (λ n e. cc) h
+    go (entry.Refused number) h = refused-told number h
 
 input-small : (n : ℕ) (x : Stdin) → length (text_of x) ≤ n → n ≤ max_table → input_number (input_length x) ≤ refused_from
 unfolding input_number input_length text_of
 input-small n absent h k = omega arith
 input-small n (given t) h k = omega arith
 
-pub stdin-tells : (rules : Rules) (table : List ℕ) (i : ℕ) → Shows entry.Refused (entry_in (table_of rules table) i) (stdin_length rules table i)
+pub stdin-tells : (rules : Rules) (table : List ℕ) (i : ℕ) → Tells (by_entry (entry_in (table_of rules table) i)) (stdin_length rules table i)
 unfolding stdin_length stdin_in
 stdin-tells rules table i = go (entry_in (table_of rules table) i) (entry-told rules table i)
   where
-    go : (x : EntryAnswer) → EntryBounded (length table) x → Shows entry.Refused x (stdin_in table x)
+    go : (x : EntryAnswer) → EntryBounded (length table) x → Tells (by_entry x) (stdin_in table x)
     go (entry.Found e) (s, h) =
         let c = between table e.start e.end in
-        granted-tells _ (λ n q. cc) (input-small (length table) (input_of c) (omega (arith, split-length c, command-length table e s)) h)
-    go (entry.Refused number) h = refused-tells number (λ n e. cc) h
+        small-granted _ (input-small (length table) (input_of c) (omega (arith, split-length c, command-length table e s)) h)
+    go (entry.Refused number) h = refused-told number h
 
 -- ---- normal forms
 
 -- by what a writer's answer tells
-pub form-tells : (most : ℕ) (before : List ℕ) (f : NormalForm) → most ≤ refused_from → FormBounded most before f → Shows normal.Refused f.answer (normal_number f.answer)
+pub form-tells : (most : ℕ) (before : List ℕ) (f : NormalForm) → most ≤ refused_from → FormBounded most before f → Tells (by_form f.answer) (normal_number f.answer)
 unfolding normal_number
 form-tells most before f small = go f.answer
   where
-    go : (a : NormalAnswer) → Told most before a f.buffer → Shows normal.Refused a (normal_number a)
-    go (normal.Written size) h = granted-tells size (λ n e. cc) (omega (arith, h.0))
-    go (normal.Refused number) h = refused-tells number (λ n e. cc) h.0
+    go : (a : NormalAnswer) → Told most before a f.buffer → Tells (by_form a) (normal_number a)
+    go (normal.Written size) h = small-granted size (omega (arith, h.0))
+    go (normal.Refused number) h = refused-told number h.0
 
 -- ---- the line of waiting jobs
 
-pub tick-tells : (n : ℕ) (a : CountAnswer) → n ≤ max_entries → TickedWithin n a → Shows tick.Refused a (tick_number a)
+pub tick-tells : (n : ℕ) (a : CountAnswer) → n ≤ max_entries → TickedWithin n a → Tells (by_tick a) (tick_number a)
 unfolding tick_number
-tick-tells n (tick.Joined k) few h = granted-tells k (λ n e. cc) (omega arith)
-tick-tells n (tick.Refused number) few h = refused-tells number (λ n e. cc) h
+tick-tells n (tick.Joined k) few h = small-granted k (omega arith)
+tick-tells n (tick.Refused number) few h = refused-told number h
 
-pub pop-tells : (n : ℕ) (a : FrontAnswer) → n ≤ max_entries → PoppedWithin n a → Shows pop.Refused a (pop_number a)
+pub pop-tells : (n : ℕ) (a : FrontAnswer) → n ≤ max_entries → PoppedWithin n a → Tells (by_pop a) (pop_number a)
 unfolding pop_number
-pop-tells n (pop.Entry e) few h = granted-tells e (λ n q. cc) (omega arith)
-pop-tells n pop.Nothing few h = granted-tells refused_from (λ n e. cc) (omega arith)
-pop-tells n (pop.Refused number) few h = refused-tells number (λ n e. cc) h
+pop-tells n (pop.Entry e) few h = small-granted e (omega arith)
+pop-tells n pop.Nothing few h = small-granted refused_from (omega arith)
+pop-tells n (pop.Refused number) few h = refused-told number h
 
 -- ---- lists
 
-pub list_tells : (r : Filled) → Few r → ShowsFilled r (filled_number r)
+pub list_tells : (r : Filled) → Few r → TellsFilled r (filled_number r)
 unfolding filled_number
 list_tells (list.All n) h = ((small-granted n (omega arith)).0, omega arith)
 list_tells (list.More n) h = (more-granted n (omega arith), omega arith, omega arith)
@@ -314,7 +307,7 @@ list_tells (list.Refused n) h = refused-told n h
 -- ---- what is refused changes nothing
 
 step_stays : (c shell input : List ℕ)
-    → let s = split_step c shell input in Stays split.Refused s.answer shell s.shell × Stays split.Refused s.answer input s.input
+    → let s = split_step c shell input in Stays (by_split s.answer) shell s.shell × Stays (by_split s.answer) input s.input
 unfolding split_step
 step_stays c shell input = go (have_room c shell input)
   where
@@ -328,31 +321,40 @@ step_stays c shell input = go (have_room c shell input)
         })
         (record { answer = split.Refused 18; shell = shell; input = input })
         in
-        Stays split.Refused s.answer shell s.shell × Stays split.Refused s.answer input s.input
-    go true = ((λ n e. cc), (λ n e. cc))
-    go false = ((λ n e. refl), (λ n e. refl))
+        Stays (by_split s.answer) shell s.shell × Stays (by_split s.answer) input s.input
+    go true = (tt, tt)
+    go false = (refl, refl)
 
 pub split_stays : (rules : Rules) (table : List ℕ) (i : ℕ) (shell input : List ℕ)
-    → let s = split_of rules table i shell input in Stays split.Refused s.answer shell s.shell × Stays split.Refused s.answer input s.input
+    → let s = split_of rules table i shell input in Stays (by_split s.answer) shell s.shell × Stays (by_split s.answer) input s.input
 unfolding split_of split_in
 split_stays rules table i shell input = go (entry_in (table_of rules table) i)
   where
     go : (x : EntryAnswer)
-        → let s = split_in table x shell input in Stays split.Refused s.answer shell s.shell × Stays split.Refused s.answer input s.input
+        → let s = split_in table x shell input in Stays (by_split s.answer) shell s.shell × Stays (by_split s.answer) input s.input
     go (entry.Found e) = step_stays (between table e.start e.end) shell input
-    go (entry.Refused number) = ((λ n e. refl), (λ n e. refl))
+    go (entry.Refused number) = (refl, refl)
 
-pub date-stays : (minute : ℕ) (run : List ℕ) → Stays suc (date_refusal minute run) run (date_run minute run)
+pub date-stays : (minute : ℕ) (run : List ℕ) → Stays (by_refusal (date_refusal minute run)) run (date_run minute run)
 unfolding date_run
 date-stays minute run = go (date_refusal minute run)
   where
-    go : (n : ℕ) → Stays suc n run (cond (eqb n 0) (over_front (parts_of (date_of minute).date) run) run)
-    go zero k e = absurd (omega (arith, e))
-    go (suc n) k e = rw (ne_eqb (suc n) 0 (λ e. omega (arith, e)))
+    go : (n : ℕ) → Stays (by_refusal n) run (cond (eqb n 0) (over_front (parts_of (date_of minute).date) run) run)
+    go zero = tt
+    go (suc n) = rw (ne_eqb (suc n) 0 (λ e. omega (arith, e)))
 
-pub form-stays : (most : ℕ) (before : List ℕ) (f : NormalForm) → FormBounded most before f → Stays normal.Refused f.answer before f.buffer
+pub form-stays : (most : ℕ) (before : List ℕ) (f : NormalForm) → FormBounded most before f → Stays (by_form f.answer) before f.buffer
 form-stays most before f = go f.answer
   where
-    go : (a : NormalAnswer) → Told most before a f.buffer → Stays normal.Refused a before f.buffer
-    go (normal.Written size) h n e = cc
-    go (normal.Refused number) h n e = h.1
+    go : (a : NormalAnswer) → Told most before a f.buffer → Stays (by_form a) before f.buffer
+    go (normal.Written size) h = tt
+    go (normal.Refused number) h = h.1
+
+pub tick-keeps : (a : CountAnswer) (before after : List ℕ) → ((n : ℕ) → a ≡ tick.Refused n → after ≡ before) → Stays (by_tick a) before after
+tick-keeps (tick.Joined k) before after h = tt
+tick-keeps (tick.Refused n) before after h = h n refl
+
+pub pop-keeps : (a : FrontAnswer) (before after : List ℕ) → ((n : ℕ) → a ≡ pop.Refused n → after ≡ before) → Stays (by_pop a) before after
+pop-keeps (pop.Entry e) before after h = tt
+pop-keeps pop.Nothing before after h = tt
+pop-keeps (pop.Refused n) before after h = h n refl

@@ -74,11 +74,11 @@ use Rattle.eremothyn.specs.Tables.{check_number}
 use Rattle.eremothyn.specs.declared.entries.Place.TheVariants.{CommandOffset, CommandLength}
 use Rattle.eremothyn.specs.Entries.{next_number, place_number}
 use Rattle.eremothyn.specs.KnownDays.{KnownDays}
-use Rattle.eremothyn.specs.Distinct.{ShowsRecord, ShowsFilled, AnswersDistinct, RefusedStays}
+use Rattle.eremothyn.specs.Distinct.{by_refusal, Tells, TellsFilled, AnswersDistinct, RefusedStays}
 pub use Rattle.eremothyn.proofs.DateRuns.{date-parts}
 pub use Rattle.eremothyn.proofs.Demand.{due-can-fire, queue-fair, queue-fair-every, queue-fair-steady, queue-fair-ends, queue-waits-exactly, queue-waits-at-most, queue-waits-every, waits-third, queue-fair-west, waits-last}
 use Rattle.eremothyn.proofs.Distinct.{small-granted, part-tells, minute-tells, date-tells, check-tells, place-tells, setting-tells, line-tells, owner-tells, due-tells, next-tells}
-use Rattle.eremothyn.proofs.Distinct.{split-tells, stdin-tells, form-tells, tick-tells, pop-tells, list_tells, date-stays, split_stays, form-stays}
+use Rattle.eremothyn.proofs.Distinct.{split-tells, stdin-tells, form-tells, tick-tells, pop-tells, list_tells, date-stays, split_stays, form-stays, tick-keeps, pop-keeps}
 
 -- the table's first entry is timed, and its command ends a byte behind its start
 abbrev reads : List ℕ → Schedule → ℕ → ℕ → Type 0
@@ -180,7 +180,7 @@ next-near table kind dialect entry minute = go (next_in t entry minute) refl (ne
 
     go : (a : NextAnswer) → next_in t entry minute ≡ a → NextBounded a → is_refused (next_number a) ≡ false → next_number a ≤ minute + 21036960
     go (next.At n) e h q = next-in-gap t entry minute n e
-    go (next.Refused number) e h q = absurd (true≢false (sym ((next-tells (next.Refused number) h).refusing number refl).0 ∙ q))
+    go (next.Refused number) e h q = absurd (true≢false (sym (next-tells (next.Refused number) h).0 ∙ q))
 
 -- used for entry 511 of a system table in the second dialect, from minute 0, which is before 1970 locally to the west
 pub next-near-first : (table : List ℕ) → let answer = next_call table 1 1 511 0 in is_refused answer ≡ false → answer ≤ 21036960
@@ -261,10 +261,10 @@ pub granted-told :
     × ((table : List ℕ) (a b n : ℕ) (minutes entries : List ℕ)
     → (merged_in (table_of (rules_of 1 1) table) a b minutes entries).answer ≡ list.More n → is_refused (filled_number (list.More n)) ≡ false)
 granted-told = (
-  (λ table good. (subst (λ (n : ℕ). ShowsRecord n (check_call table 1 1)) good (answers-distinct.check (rules_of 1 1) table)).0),
-  (λ table i a b n run e. (subst (λ (x : Filled). ShowsFilled x (filled_number x)) e (answers-distinct.firings (rules_of 1 1) table i a b run)).0),
+  (λ table good. (subst (λ (n : ℕ). Tells (by_refusal n) (check_call table 1 1)) good (answers-distinct.check (rules_of 1 1) table)).0),
+  (λ table i a b n run e. (subst (λ (x : Filled). TellsFilled x (filled_number x)) e (answers-distinct.firings (rules_of 1 1) table i a b run)).0),
   (λ table a b n minutes entries e.
-      (subst (λ (x : Filled). ShowsFilled x (filled_number x)) e (answers-distinct.merged-firings (rules_of 1 1) table a b minutes entries)).0),
+      (subst (λ (x : Filled). TellsFilled x (filled_number x)) e (answers-distinct.merged-firings (rules_of 1 1) table a b minutes entries)).0),
 )
 
 -- a refused call changes no byte and no number
@@ -276,10 +276,16 @@ refused-stays =
       normal-form = λ d table text. form-stays max_table text (normal_form d table text) (form-told d table text);
       compile = λ d table records. form-stays most_records records (compiled d table records) (compiled-told d table records);
       decompile = λ records text. form-stays max_table text (decompiled records text) (decompiled-told records text);
-      queue-init = λ rules table room. init-stays (table_of rules table) room;
-      queue-reload = reload-stays;
-      queue-tick = λ rules table room minute n. tick-stays (table_of rules table) room n minute;
-      queue-pop = λ rules table room. pop-stays (table_of rules table) room;
+      queue-init = λ rules table room. let s = init_table (table_of rules table) room in tick-keeps s.answer room s.room (init-stays (table_of rules table) room);
+      queue-reload =
+          λ rules old new room.
+          let s = reload_tables rules old new room in
+          tick-keeps s.answer room s.room (reload-stays rules old new room);
+      queue-tick =
+          λ rules table room minute.
+          let s = tick_table (table_of rules table) minute room in
+          tick-keeps s.answer room s.room (λ n. tick-stays (table_of rules table) room n minute);
+      queue-pop = λ rules table room. let s = pop_table (table_of rules table) room in pop-keeps s.answer room s.room (pop-stays (table_of rules table) room);
       firings = firings-kept;
       merged-firings = merged-kept;
     }

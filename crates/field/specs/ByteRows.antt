@@ -1,7 +1,6 @@
 -- Every decision that a field's next byte makes, over all 256 bytes, in both dialects; the lists of names and of refusals whole; and texts that
 -- are almost of a field's form.
--- In the comments `?` is the byte that is tried. Where the form alone decides, one field is enough: `element-single`, `element-range`, `number-other` and
--- `number-long` of proofs/ElementForms hold for any limits.
+-- In the comments `?` is the byte that is tried.
 -- Assumes nothing.
 use Rattle.std.specs.Prelude.{ℕ, ◌+◌, ◌-◌, ◌*◌, ◌/◌, ◌%◌, ◌≡◌, refl, Bool, true, false, List, [], ◌∷◌, ◌++◌, map, replicate}
 use Rattle.octets.specs.Texts.{text}
@@ -92,13 +91,13 @@ unfolding trying reading
 after-digit = refl
 
 -- only a comma, a dash and one more digit may follow: 102 and above are outside every field
-between-digits : Lead (λ b. both weekday_limits (49 ∷ b ∷ text "2"))
-    (one 44 (twice (of (1 ∷ 2 ∷ []))) ∷ one 45 (twice (of (1 ∷ 2 ∷ []))) ∷ range 48 57 (twice outside) ∷ [])
-    (λ b. twice bad)
+between-digits : Lead (λ b. all (49 ∷ b ∷ text "2"))
+    (one 44 (ten (of (1 ∷ 2 ∷ []))) ∷ one 45 (ten (of (1 ∷ 2 ∷ []))) ∷ range 48 57 (ten outside) ∷ [])
+    (λ b. ten bad)
 unfolding trying reading
 between-digits = refl
 
-before-star : Lead (λ b. both weekday_limits (49 ∷ b ∷ text "*")) [] (λ b. twice bad)
+before-star : Lead (λ b. all (49 ∷ b ∷ text "*")) [] (λ b. ten bad)
 unfolding trying reading
 before-star = refl
 
@@ -114,13 +113,13 @@ fourth-digit : Lead (λ b. both minute_limits (text "000" ++ b ∷ [])) (each 48
 unfolding trying reading
 fourth-digit = refl
 
-no-fifth : Lead (λ b. both weekday_limits (text "0001" ++ b ∷ [])) [] (λ b. twice bad)
+no-fifth : Lead (λ b. all (text "0001" ++ b ∷ [])) [] (λ b. ten bad)
 unfolding trying reading
 no-fifth = refl
 
 -- ---- after `*`, and after `*/`
 
-after-star : Lead (λ b. both weekday_limits (42 ∷ b ∷ [])) [] (λ b. twice bad)
+after-star : Lead (λ b. all (42 ∷ b ∷ [])) [] (λ b. ten bad)
 unfolding trying reading
 after-star = refl
 
@@ -150,7 +149,7 @@ after-step : Lead (λ b. both hour_limits (text "*/1" ++ b ∷ []))
 unfolding trying reading
 after-step = refl
 
-after-step-more : Lead (λ b. both weekday_limits (text "*/1" ++ b ∷ text "x")) [] (λ b. twice bad)
+after-step-more : Lead (λ b. all (text "*/1" ++ b ∷ text "x")) [] (λ b. ten bad)
 unfolding trying reading
 after-step-more = refl
 
@@ -169,23 +168,23 @@ unfolding trying reading
 after-range = refl
 
 -- `1-2?1`: a comma, a slash and one more digit may follow, and no second dash
-range-more : Lead (λ b. both weekday_limits (text "1-2" ++ b ∷ text "1"))
-    (one 44 (twice (of (1 ∷ 2 ∷ []))) ∷ one 47 (twice (of (1 ∷ 2 ∷ []))) ∷ range 48 57 (twice outside) ∷ [])
-    (λ b. twice bad)
+range-more : Lead (λ b. all (text "1-2" ++ b ∷ text "1"))
+    (one 44 (ten (of (1 ∷ 2 ∷ []))) ∷ one 47 (ten (of (1 ∷ 2 ∷ []))) ∷ range 48 57 (ten outside) ∷ [])
+    (λ b. ten bad)
 unfolding trying reading
 range-more = refl
 
 -- `1-2/?`
-range-step : Lead (λ b. both weekday_limits (text "1-2/" ++ b ∷ []))
-    (one 48 (twice (Refused 8 1)) ∷ one 49 (twice (of (1 ∷ 2 ∷ []))) ∷ range 50 57 (twice (of (1 ∷ []))) ∷ [])
-    (λ b. twice bad)
+range-step : Lead (λ b. all (text "1-2/" ++ b ∷ []))
+    (one 48 (ten (Refused 8 1)) ∷ one 49 (ten (of (1 ∷ 2 ∷ []))) ∷ range 50 57 (ten (of (1 ∷ []))) ∷ [])
+    (λ b. ten bad)
 unfolding trying reading
 range-step = refl
 
 -- `1-2/1?2`: a comma, and digits
-range-step-more : Lead (λ b. both weekday_limits (text "1-2/1" ++ b ∷ text "2"))
-    (one 44 (twice (of (1 ∷ 2 ∷ []))) ∷ range 48 57 (twice (of (1 ∷ []))) ∷ [])
-    (λ b. twice bad)
+range-step-more : Lead (λ b. all (text "1-2/1" ++ b ∷ text "2"))
+    (one 44 (ten (of (1 ∷ 2 ∷ []))) ∷ range 48 57 (ten (of (1 ∷ []))) ∷ [])
+    (λ b. ten bad)
 unfolding trying reading
 range-step-more = refl
 

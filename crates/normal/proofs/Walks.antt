@@ -16,7 +16,7 @@ use Rattle.crontab.specs.declared.item.Cursor.{Cursor}
 use Rattle.line.specs.declared.Fault.{Fault}
 use Rattle.crontab.specs.declared.item.Item as line
 use Rattle.crontab.specs.declared.item.Item.TheVariants.{Nothing, Setting, Entry, Refused}
-use Rattle.crontab.specs.declared.item.Step.{Step}
+use Rattle.crontab.specs.declared.item.NextItem.{NextItem}
 use Rattle.crontab.specs.Limits.{max_table}
 use Rattle.line.specs.Limits.{max_line}
 use Rattle.crontab.specs.Items.{Items, items_of}
@@ -108,7 +108,7 @@ going-starts d s h =
       verdict = rw (items-start (of_user d) s h, table-verdict (of_user d) s);
     }
 
-module _ {d : Dialect} {s : List ℕ} {c : Cursor} {r : Step} (step : ItemIs (of_user d) s c r) (going : Going d s c) where
+module _ {d : Dialect} {s : List ℕ} {c : Cursor} {r : NextItem} (step : ItemIs (of_user d) s c r) (going : Going d s c) where
   here : SoundItems (of_user d) s going.line c.count (given r.line r.item (items_at (of_user d) s r.next))
   here = rw step.gives at going.sound
 
@@ -173,7 +173,7 @@ pub going-good : {d : Dialect} {s : List ℕ} {c : Cursor} → Going d s c → l
 unfolding verdict_from
 going-good {d} {s} {c} going h = sym (rw (items-end (of_user d) s c h) at going.verdict)
 
-module _ {d : Dialect} {s : List ℕ} {c : Cursor} {r : Step} (step : ItemIs (of_user d) s c r) (kept : Kept r.item) where
+module _ {d : Dialect} {s : List ℕ} {c : Cursor} {r : NextItem} (step : ItemIs (of_user d) s c r) (kept : Kept r.item) where
   pub parts_next : {part : line.Item → List ℕ} {all : List Item → List ℕ} → InParts s part all
       → part r.item ++ all (items_left d s r.next) ≡ all (items_left d s c)
   parts_next parts = parts.next r.line (items_at (of_user d) s r.next) r.item kept ∙ rw step.gives

@@ -27,7 +27,7 @@ pub(crate) fn write(s: &[u8], dialect: Dialect, out: &mut [u8]) -> NormalAnswer
     let mut short = true;
     let mut c = item::START;
     while c.at < s.len() {
-        let step = item::advance(s, rules, c);
+        let step = item::next_item(s, rules, c);
         c = step.next;
         let item = step.item;
         if let Item::Refused(fault) = item {

@@ -34,7 +34,7 @@ fn measure(s: &[u8], dialect: Dialect) -> NormalAnswer
     let mut short = true;
     let mut c = item::START;
     while c.at < s.len() {
-        let step = item::advance(s, rules, c);
+        let step = item::next_item(s, rules, c);
         c = step.next;
         let item = step.item;
         if let Item::Refused(fault) = item {
@@ -65,7 +65,7 @@ fn write(s: &[u8], dialect: Dialect, out: &mut [u8])
     let mut at = 0;
     let mut c = item::START;
     while c.at < s.len() {
-        let step = item::advance(s, rules, c);
+        let step = item::next_item(s, rules, c);
         c = step.next;
         let item = step.item;
         at = pack::write_record(s, item, out, at);

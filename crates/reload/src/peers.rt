@@ -24,7 +24,7 @@ pub(crate) fn read(s: &[u8], rules: Rules, t: &[u8], entry: Entry) -> Selection
     let mut c = item::START;
     loop {
         let count = c.count;
-        let step = item::advance(s, rules, c);
+        let step = item::next_item(s, rules, c);
         c = step.next;
         let item = step.item;
         match item {

@@ -18,7 +18,7 @@ use Rattle.fifo.specs.Waits.{requests, up_to_request}
 use Rattle.fifo.proofs.Theorems.{fair-from, fair, refused-only, fair-in-buffer, fair-steady}
 use Rattle.fifo.proofs.Theorems.{consecutive-some, fair-every-from, fair-every, waits-exactly, waits-at-most, waits-every, called-waits, called-every}
 use Rattle.runqueue.specs.Jobs.{jobs_of}
-use Rattle.runqueue.specs.Demand.{jobs_in, CanFire, TableFair, TableFairFrom, TableRefusedOnly, TableFairInBuffer, TableFairSteady, biased_offset_of, catch_up_limit, OnCalendar}
+use Rattle.runqueue.specs.Demand.{jobs_in, CanFire, TableFair, TableFairFrom, TableRefusedOnly, TableFairInBuffer, TableFairSteady, biased_offset_of, hold, OnCalendar}
 use Rattle.runqueue.specs.Demand.{bound_every_from, OnCalendarEvery, TableFairEvery, TableFairEveryFrom}
 use Rattle.runqueue.specs.Waits.{TableWaitsExactly, TableWaitsAtMost, TableWaitsEvery, TableCalledWaits, TableCalledEvery}
 use Rattle.runqueue.proofs.TableJobs.{soon, few}
@@ -26,12 +26,12 @@ use Rattle.runqueue.proofs.TableJobs.{soon, few}
 -- the third demand, from any line of the table
 pub table-fair-from : TableFairFrom
 table-fair-from rules table e t l second f entries follows end =
-    fair-from (jobs_in rules table) (gap_in (biased_offset_of rules table e) t + catch_up_limit) e t l second (few rules table) f.entry f.timed (soon rules table e t f end) entries follows
+    fair-from (jobs_in rules table) (gap_in (biased_offset_of rules table e) t + hold) e t l second (few rules table) f.entry f.timed (soon rules table e t f end) entries follows
 
 -- from its fresh line: the third demand as it is said
 pub table-fair : TableFair
 table-fair rules table e t first second f follows end =
-    fair (jobs_in rules table) (gap_in (biased_offset_of rules table e) t + catch_up_limit) e t first second (few rules table) f.entry f.timed (soon rules table e t f end) follows
+    fair (jobs_in rules table) (gap_in (biased_offset_of rules table e) t + hold) e t first second (few rules table) f.entry f.timed (soon rules table e t f end) follows
 
 -- a call is refused only for too little room or for a minute off the calendar
 pub table-refused-only : TableRefusedOnly
@@ -40,13 +40,13 @@ table-refused-only rules table cs g = refused-only (jobs_in rules table) cs (few
 -- in one buffer
 pub table-fair-in-buffer : TableFairInBuffer
 table-fair-in-buffer rules table e t size buffer first second f r end =
-    fair-in-buffer (jobs_in rules table) (gap_in (biased_offset_of rules table e) t + catch_up_limit) e t size buffer first second (few rules table) f.entry f.timed (soon rules table e t f end) r
+    fair-in-buffer (jobs_in rules table) (gap_in (biased_offset_of rules table e) t + hold) e t size buffer first second (few rules table) f.entry f.timed (soon rules table e t f end) r
 
 -- in the steady list
 pub table-fair-steady : TableFairSteady
 unfolding jobs_of
 table-fair-steady rules table e t size buffer first f r end =
-    fair-steady (jobs_in rules table) (gap_in (biased_offset_of rules table e) t + catch_up_limit) e t size buffer first (few rules table) f.entry f.timed (soon rules table e t f end) r end.utc
+    fair-steady (jobs_in rules table) (gap_in (biased_offset_of rules table e) t + hold) e t size buffer first (few rules table) f.entry f.timed (soon rules table e t f end) r end.utc
 
 -- ---- requests every k announcements
 
@@ -61,13 +61,13 @@ pub table-fair-every-from : TableFairEveryFrom
 table-fair-every-from rules table k e t l second f entries follows end consecutive =
     let jobs = jobs_in rules table in
     let on = every-on rules table k e t (consecutive-some k (unrefused jobs second) (t + 1) (bound_every_from rules table k e t) 0 consecutive) end in
-    fair-every-from jobs k (gap_in (biased_offset_of rules table e) t + catch_up_limit) e t l second (few rules table) f.entry f.timed (soon rules table e t f on) entries follows consecutive
+    fair-every-from jobs k (gap_in (biased_offset_of rules table e) t + hold) e t l second (few rules table) f.entry f.timed (soon rules table e t f on) entries follows consecutive
 
 pub table-fair-every : TableFairEvery
 table-fair-every rules table k e t first second f follows end consecutive =
     let jobs = jobs_in rules table in
     let on = every-on rules table k e t (consecutive-some k (unrefused jobs second) (t + 1) (bound_every_from rules table k e t) 0 consecutive) end in
-    fair-every jobs k (gap_in (biased_offset_of rules table e) t + catch_up_limit) e t first second (few rules table) f.entry f.timed (soon rules table e t f on) follows consecutive
+    fair-every jobs k (gap_in (biased_offset_of rules table e) t + hold) e t first second (few rules table) f.entry f.timed (soon rules table e t f on) follows consecutive
 
 -- ---- how long an entry waits
 

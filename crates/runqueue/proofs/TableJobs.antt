@@ -34,7 +34,7 @@ use Rattle.fifo.specs.Layout.{limit}
 use Rattle.fifo.specs.Fairness.{CalledWithin}
 use Rattle.fifo.proofs.Theorems.{called-past-limit}
 use Rattle.runqueue.specs.Jobs.{job_at, jobs_of}
-use Rattle.runqueue.specs.Demand.{jobs_in, CanFire, biased_offset_of, catch_up_limit, OnCalendar}
+use Rattle.runqueue.specs.Demand.{jobs_in, CanFire, biased_offset_of, hold, OnCalendar}
 
 fires : (s : Schedule) (m : ℕ) → m < cycle_minutes → matches s m ≡ true → can_fire s ≡ true
 unfolding can_fire
@@ -53,25 +53,25 @@ gap-later o t k h = elim (dec_le max_west (k + o)) [ yes p ↦ rw (le-ltb (k + o
 
 -- an entry that can fire matches a minute soon after every hold has ended
 pub matches-soon : (rules : Rules) (table : List ℕ) (e t : ℕ) → CanFire rules table e → OnCalendar rules table e t
-    → (m : ℕ) × (t + catch_up_limit < m) × (m ≤ t + (gap_in (biased_offset_of rules table e) t + catch_up_limit)) × ((jobs_in rules table).matches e m ≡ true)
+    → (m : ℕ) × (t + hold < m) × (m ≤ t + (gap_in (biased_offset_of rules table e) t + hold)) × ((jobs_in rules table).matches e m ≡ true)
 unfolding jobs_of is_boot fires_at
 matches-soon rules table e t f on = go (job_at (table_of rules table) e).when refl f.timed f.matched
   where
     go : (w : When) → (job_at (table_of rules table) e).when ≡ w → by_when w true (λ s. false) ≡ false → by_when w false (λ s. matches s f.minute) ≡ true
-        → (m : ℕ) × (t + catch_up_limit < m) × (m ≤ t + (gap_in (biased_offset_of rules table e) t + catch_up_limit)) × (by_when (job_at (table_of rules table) e).when false (λ s. matches_in s (biased_offset_of rules table e) m) ≡ true)
+        → (m : ℕ) × (t + hold < m) × (m ≤ t + (gap_in (biased_offset_of rules table e) t + hold)) × (by_when (job_at (table_of rules table) e).when false (λ s. matches_in s (biased_offset_of rules table e) m) ≡ true)
     go Reboot p b m = absurd (true≢false b)
     go (Timed s) p b m =
         let o = biased_offset_of rules table e in
-        let later = gap-later o t (t + catch_up_limit) (omega arith) in
-        let (n, u, v, x) = fires-within-in s o (fires s f.minute f.cycle m) (t + catch_up_limit) (omega (arith, f.entry, on.local, later)) in
+        let later = gap-later o t (t + hold) (omega arith) in
+        let (n, u, v, x) = fires-within-in s o (fires s f.minute f.cycle m) (t + hold) (omega (arith, f.entry, on.local, later)) in
         (n, u, omega arith, rw p x)
 
 -- so a minute calls it soon, whatever the mark
 pub soon : (rules : Rules) (table : List ℕ) (e t : ℕ) → CanFire rules table e → OnCalendar rules table e t
-    → CalledWithin (jobs_in rules table) (gap_in (biased_offset_of rules table e) t + catch_up_limit) e t
+    → CalledWithin (jobs_in rules table) (gap_in (biased_offset_of rules table e) t + hold) e t
 soon rules table e t f on =
     let (m, after, within, matched) = matches-soon rules table e t f on in
-    called-past-limit (jobs_in rules table) (gap_in (biased_offset_of rules table e) t + catch_up_limit) e t m after within matched
+    called-past-limit (jobs_in rules table) (gap_in (biased_offset_of rules table e) t + hold) e t m after within matched
 
 -- and they are few
 pub few : (rules : Rules) (table : List ℕ) → (jobs_in rules table).count < limit

@@ -4,7 +4,6 @@
 -- Assumes nothing.
 use Rattle.std.specs.Prelude.{◌≡◌, ℕ, ◌+◌, ◌-◌, ◌≤◌, ◌<◌, true, false, cond, List, ◌++◌, take}
 use Rattle.schedule.specs.Local.{max_west}
-pub use Rattle.schedule.specs.Jumps.{catch_up_limit}
 use Rattle.octets.specs.Texts.{text}
 use Rattle.calendar.specs.Dates.{last_minute, cycle_minutes}
 use Rattle.schedule.specs.Match.{matches}
@@ -44,9 +43,13 @@ pub record CanFire (rules : Rules) (table : List ℕ) (e : ℕ) : Type 0 where
 abbrev pub biased_offset_of : Rules → List ℕ → ℕ → ℕ
 biased_offset_of rules table e = biased_offset (job_at (table_of rules table) e).offset
 
--- D4: the bound from minute t on: a mark can hold a fixed entry back for `catch_up_limit` minutes
+-- D4: a mark can hold a fixed entry back for so many minutes
+abbrev pub hold : ℕ
+hold = 180
+
+-- D4: the bound from minute t on
 abbrev pub bound_from : Rules → List ℕ → ℕ → ℕ → ℕ
-bound_from rules table e t = bound (jobs_in rules table) (gap_in (biased_offset_of rules table e) t + catch_up_limit)
+bound_from rules table e t = bound (jobs_in rules table) (gap_in (biased_offset_of rules table e) t + hold)
 
 -- D5: the last minute is on the calendar, in UTC and locally
 pub record OnCalendar (rules : Rules) (table : List ℕ) (e t : ℕ) : Type 0 where
@@ -126,7 +129,7 @@ TableFairSteady = (rules : Rules) (table : List ℕ) (e t size : ℕ) (buffer : 
 
 -- D8: k minutes for each entry, less one
 abbrev pub bound_every_from : Rules → List ℕ → ℕ → ℕ → ℕ → ℕ
-bound_every_from rules table k e t = bound_every (jobs_in rules table) k (gap_in (biased_offset_of rules table e) t + catch_up_limit)
+bound_every_from rules table k e t = bound_every (jobs_in rules table) k (gap_in (biased_offset_of rules table e) t + hold)
 
 -- D5, D8: the last minute is on the calendar, in UTC and locally
 pub record OnCalendarEvery (rules : Rules) (table : List ℕ) (k e t : ℕ) : Type 0 where

@@ -95,7 +95,7 @@ fn is_name(text: &str) -> bool {
         && text.replace("::", "").chars().all(is_letter)
 }
 
-/// Peek up every name that a text cites, and answers how many there are.
+/// Looks up every name that a text cites, and answers how many there are.
 fn look_up(whose: &str, own: &str, text: &str, known: &HashSet<String>) -> usize {
     let mut names = cited(text);
     names.retain(|(name, _)| is_name(name));

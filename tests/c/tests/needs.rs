@@ -75,7 +75,7 @@ fn said(missing: &[&str]) -> String {
         text += &match package(name) {
             Some(package) => format!("  {name}: package {package}\n"),
             None => format!(
-                "  {name}: the Rattle kit, which isn't packaged; see 'What it needs' and 'Without the kit' in README.md\n"
+                "  {name}: the Rattle kit, which is no package; see 'What it needs' in README.md, and 'Without the kit'\n"
             ),
         };
     }
@@ -144,10 +144,31 @@ fn by_path(text: &str) -> String {
     text.replace(".ci/needs:", &format!("{}:", word(&command)))
 }
 
-/// An apt-get that fails: what is still missing is named.
+/// An apt-get that fails, or leaves one out: what is still missing is named. The kit alone is none of its packages.
 #[test]
 fn what_no_package_brought_is_still_named() {
-    let path = as_root("needs-failing", &["rt", "make"], "exit 100");
+    let needs = ["rt", "make", "groff"];
+    let named = |missing: &[&str]| {
+        said(missing).replace(
+            ".ci/needs:",
+            &format!("{}:", word(&root().join(".ci/needs"))),
+        )
+    };
+    let path = as_root("needs-failing", &["make"], "exit 100");
+    let (text, complaint, status) = all(&run(&path, ".ci/needs", &needs));
+    assert_eq!((text.as_str(), status), ("", Some(1)));
+    assert!(complaint.ends_with(&named(&["rt", "groff"])), "{complaint}");
+    let path = as_root("needs-kit", &["make", "groff"], "exit 100");
+    assert_eq!(
+        all(&run(&path, ".ci/needs", &needs)),
+        is("", &named(&["rt"]), 1)
+    );
+}
+
+/// An apt-get that fails: what is still missing is named after what it tried.
+#[test]
+fn a_failed_installation_names_what_is_missing() {
+    let path = as_root("needs-failed", &["rt", "make"], "exit 100");
     let missing = ["cargo", "groff"];
     let (text, complaint, status) = all(&run(&path, ".ci/needs", &missing));
     assert_eq!((text.as_str(), status), ("", Some(1)));
@@ -165,10 +186,10 @@ fn nothing_is_installed_without_the_kit() {
         (&["rt"], &["make", "cc"]),
     ];
     for (missing, names) in rows {
-        let path = as_root("needs-kit", names, apt_get);
+        let path = as_root("needs-no-kit", names, apt_get);
         assert_eq!(all(&run(&path, "try", &[])), is("", &said(missing), 1));
     }
-    let path = as_root("needs-kit", &["make", "cargo", "fakeroot"], apt_get);
+    let path = as_root("needs-no-kit", &["make", "cargo", "fakeroot"], apt_get);
     let missing = [
         "rt",
         "cc",

@@ -16,23 +16,23 @@ pub loop-c-init : goal.loop-c-init
 unfolding finding_of
 loop-c-init c = (rw (items-start _ _ c.if-s-gt-MAX_TABLE.false), start-reached _ c.if-s-gt-MAX_TABLE.false)
 
-pub advance-step-requires : goal.advance-step-requires
-advance-step-requires c = c.loop-c.invariant.1
+pub next_item-step-requires : goal.next_item-step-requires
+next_item-step-requires c = c.loop-c.invariant.1
 
 pub returns-in-Refused : goal.returns-in-Refused
 returns-in-Refused c =
     let loop = c.loop-c in
-    c.refused-in-Refused.ensures ∙ finding-refused c.advance-step.ensures _ loop.found c.in-Refused.is ∙ loop.invariant.0
+    c.refused-in-Refused.ensures ∙ finding-refused c.next_item-step.ensures _ loop.found c.in-Refused.is ∙ loop.invariant.0
 
 pub loop-c-smaller : goal.loop-c-smaller
-loop-c-smaller c = step_less c.advance-step.ensures c.loop-c-test.true
+loop-c-smaller c = step_less c.next_item-step.ensures c.loop-c-test.true
 
 pub loop-c-preserved : goal.loop-c-preserved
 unfolding found_or
 loop-c-preserved c =
     let loop = c.loop-c in
-    let step = c.advance-step.ensures in
-    let kept = not-refused c.advance-step.result.item c.in_default.not-Refused in
+    let step = c.next_item-step.ensures in
+    let kept = not-refused c.next_item-step.result.item c.in_default.not-Refused in
     (rw (c.found_or-found.ensures, c.is_wanted-this.ensures) (finding-next step _ loop.found kept ∙ loop.invariant.0), step.reached)
 
 pub returns : goal.returns

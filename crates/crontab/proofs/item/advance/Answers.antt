@@ -1,23 +1,21 @@
-use Prim.Native.Nat.{◌-◌}
+-- `crontab::item::advance` meets its contract: a newline ends the line, or the table does.
+-- Assumes nothing.
 use native.Mathlib.Omega.{arith}
-use Rattle.crontab.proofs.Items.{skipped-none, skipped-line, skipped-item, skipped-end, first-variant}
+use borrow.Author.Rules.{rules}
 use Rattle.crontab.proofs.item.advance.Goals as goal
 
-pub loop-c-init : goal.loop-c-init
-loop-c-init c = skipped-none c.requires
+pub ended-requires : goal.ended-requires
+ended-requires c =
+    let a = c.requires in (
+      record { reached = a.0; inside = a.1; stops = c.skip-stop.ensures.0; ends = c.skip-end.ensures.0 },
+      omega (arith, c.if-end-s.true),
+    )
 
-pub one_line-step-requires : goal.one_line-step-requires
-one_line-step-requires c = (c.loop-c.invariant.reached, c.loop-c-test.true)
+pub returns-then-end-s : goal.returns-then-end-s
+returns-then-end-s c = c.ended.ensures
 
-pub returns-in_default : goal.returns-in_default
-returns-in_default c = skipped-item c.loop-c.invariant c.one_line-step.ensures c.in_default.not-Nothing
-
-pub loop-c-smaller : goal.loop-c-smaller
-loop-c-smaller c = let step = c.one_line-step.ensures in omega (arith, step.onward, step.reached.place)
-
-pub loop-c-preserved : goal.loop-c-preserved
-loop-c-preserved c =
-    skipped-line c.loop-c.invariant c.one_line-step.ensures c.in-Nothing.is
+pub last-requires : goal.last-requires
+last-requires c = search rules
 
 pub returns : goal.returns
-returns c = skipped-end c.loop-c.invariant c.loop-c-test.false
+returns c = c.last.ensures

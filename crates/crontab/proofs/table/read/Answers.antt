@@ -17,37 +17,37 @@ pub loop-entries-init : goal.loop-entries-init
 unfolding table_of empty_table refused_table no_entries
 loop-entries-init c = (rw (items-start _ _ c.if-s-gt-MAX_TABLE.false), start-reached _ c.if-s-gt-MAX_TABLE.false, refl)
 
-pub advance-step-requires : goal.advance-step-requires
-advance-step-requires c = c.loop-entries.invariant.1
+pub next_item-step-requires : goal.next_item-step-requires
+next_item-step-requires c = c.loop-entries.invariant.1
 
 pub returns-in-Nothing : goal.returns-in-Nothing
-returns-in-Nothing c = table-nothing c.advance-step.ensures _ c.in-Nothing.is ∙ c.loop-entries.invariant.0
+returns-in-Nothing c = table-nothing c.next_item-step.ensures _ c.in-Nothing.is ∙ c.loop-entries.invariant.0
 
 pub returns-in-Refused : goal.returns-in-Refused
 returns-in-Refused c =
-    c.refused-in-Refused.ensures ∙ table-refused c.advance-step.ensures _ c.in-Refused.is ∙ c.loop-entries.invariant.0
+    c.refused-in-Refused.ensures ∙ table-refused c.next_item-step.ensures _ c.in-Refused.is ∙ c.loop-entries.invariant.0
 
 pub offset_bounds-entries-count : goal.offset_bounds-entries-count
-offset_bounds-entries-count c = omega (arith, entry-room c.advance-step.ensures c.in-Entry.is)
+offset_bounds-entries-count c = omega (arith, entry-room c.next_item-step.ensures c.in-Entry.is)
 
 pub bounds-entries-count : goal.bounds-entries-count
 bounds-entries-count c =
-    omega (arith, entry-room c.advance-step.ensures c.in-Entry.is, c.loop-entries.invariant.2)
+    omega (arith, entry-room c.next_item-step.ensures c.in-Entry.is, c.loop-entries.invariant.2)
 
 pub loop-entries-smaller-in-Entry : goal.loop-entries-smaller-in-Entry
-loop-entries-smaller-in-Entry c = less-entry c.advance-step.ensures c.in-Entry.is
+loop-entries-smaller-in-Entry c = less-entry c.next_item-step.ensures c.in-Entry.is
 
 pub loop-entries-preserved-in-Entry : goal.loop-entries-preserved-in-Entry
 loop-entries-preserved-in-Entry c =
     let inv = c.loop-entries.invariant in
-    let step = c.advance-step.ensures in
+    let step = c.next_item-step.ensures in
     (table_more step _ c.in-Entry.is ∙ inv.0, step.reached, simp length-set inv.2)
 
 pub loop-entries-smaller : goal.loop-entries-smaller
-loop-entries-smaller c = less-setting c.advance-step.ensures c.in-Setting.is
+loop-entries-smaller c = less-setting c.next_item-step.ensures c.in-Setting.is
 
 pub loop-entries-preserved : goal.loop-entries-preserved
 loop-entries-preserved c =
     let inv = c.loop-entries.invariant in
-    let step = c.advance-step.ensures in
+    let step = c.next_item-step.ensures in
     (table-setting step _ c.in-Setting.is ∙ inv.0, step.reached, inv.2)

@@ -13,8 +13,8 @@ returns-then-s-gt-MAX_TABLE c = refused-tried (text-refused _ _ 1 (table-long _ 
 pub loop-c-init : goal.loop-c-init
 loop-c-init c = let short = c.if-s-gt-MAX_TABLE.false in (going-starts _ _ short, judged-starts _ (left-starts _ _ short) (omega arith), refl)
 
-pub advance-step-requires : goal.advance-step-requires
-advance-step-requires c = c.loop-c.invariant.0.reached
+pub next_item-step-requires : goal.next_item-step-requires
+next_item-step-requires c = c.loop-c.invariant.0.reached
 
 pub shape_of-out-in-Refused : goal.shape_of-out-in-Refused
 shape_of-out-in-Refused c = c.loop-c.invariant.2
@@ -22,25 +22,25 @@ shape_of-out-in-Refused c = c.loop-c.invariant.2
 pub returns-in-Refused : goal.returns-in-Refused
 returns-in-Refused c =
     let at = c.loop-c in
-    let step = c.advance-step.ensures in
+    let step = c.next_item-step.ensures in
     let is = c.in-Refused.is in
     let some = refused-some step at.invariant.0 is in
     refused-tried (text-refused _ _ _ (going-refused step at.invariant.0 is) some) some at.invariant.2
 
 pub write-next-requires : goal.write-next-requires
-write-next-requires c = going-within c.advance-step.ensures c.loop-c.invariant.0
+write-next-requires c = going-within c.next_item-step.ensures c.loop-c.invariant.0
 
 pub overflow_sub-short : goal.overflow_sub-short
 overflow_sub-short c = lined-onward c.loop-c.invariant.1.lined c.write-next.ensures
 
 pub loop-c-smaller : goal.loop-c-smaller
-loop-c-smaller c = step_less c.advance-step.ensures c.loop-c-test.true
+loop-c-smaller c = step_less c.next_item-step.ensures c.loop-c-test.true
 
 pub loop-c-preserved : goal.loop-c-preserved
 loop-c-preserved c =
     let at = c.loop-c in
-    let step = c.advance-step.ensures in
-    let kept = not-refused c.advance-step.result.item (λ f is. last-variant (rw is at c.in_default.keys2)) in
+    let step = c.next_item-step.ensures in
+    let kept = not-refused c.next_item-step.result.item c.in_default.not-Refused in
     let so = judged-next at.invariant.1 (parts_next step kept (text-parts _)) (short-next step kept) c.write-next.ensures in
     (going_next step at.invariant.0 kept, so, so.lined.wrote.size)
 

@@ -38,19 +38,19 @@ loop-holds c =
     let short = c.if1.false in
     (going-starts _ _ short, judged-starts _ (left-starts _ _ short) (omega arith), lined-starts records_of _ (left-starts _ _ short) (omega arith), omega arith, refl, refl)
 
-advance-requires : tie.Need-advance-requires invariant-loop decreases-loop
-advance-requires c κs = c.before.before.loop.invariant.0.reached
+next-item-requires : tie.Need-next-item-requires invariant-loop decreases-loop
+next-item-requires c κs = c.before.before.loop.invariant.0.reached
 
 returns-2 : tie.Need-returns-2 invariant-loop decreases-loop
 returns-2 c =
     let going = c.before.before.before.before.before.before.before.loop.invariant.0 in
-    let step = c.before.before.before.before.advance.ensures in
+    let step = c.before.before.before.before.next_item.ensures in
     let is = c.before.item.given.1 in
     let some = refused-some step going is in
     refused-measured _ (text-refused _ _ _ (going-refused step going is) some) some
 
 write-requires : tie.Need-write-requires invariant-loop decreases-loop
-write-requires c κs = going-within c.before.before.before.advance.ensures c.before.before.before.before.before.before.loop.invariant.0
+write-requires c κs = going-within c.before.before.before.next_item.ensures c.before.before.before.before.before.before.loop.invariant.0
 
 sub-short : tie.Need-overflow-sub-short invariant-loop decreases-loop
 sub-short c = lined-onward c.before.before.before.before.before.before.before.before.loop.invariant.1.lined c.before.write.ensures
@@ -58,14 +58,14 @@ sub-short c = lined-onward c.before.before.before.before.before.before.before.be
 write-record-requires : tie.Need-write-record-requires invariant-loop decreases-loop
 write-record-requires c κs =
     let going = c.before.before.before.before.before.before.before.before.before.loop.invariant.0 in
-    (going.reached.short, going-within c.before.before.before.before.before.before.advance.ensures going)
+    (going.reached.short, going-within c.before.before.before.before.before.before.next_item.ensures going)
 
 loop-again : tie.Need-loop-preserved invariant-loop decreases-loop
 loop-again c =
     let at = c.before.before.before.before.before.before.before.before in
     let inv = at.before.before.before.loop.invariant in
-    let step = at.advance.ensures in
-    let kept = not-refused at.advance.result.item (λ f is. last-variant (rw is at c.before.before.before.before.before.before.match.keys2)) in
+    let step = at.next_item.ensures in
+    let kept = not-refused at.next_item.result.item (λ f is. last-variant (rw is at c.before.before.before.before.before.before.match.keys2)) in
     let text = judged-next inv.1 (parts_next step kept (text-parts _)) (short-next step kept) c.before.before.before.before.write.ensures in
     let wrote = c.before.write-record.ensures in
     let records = lined-next inv.2 (parts_next step kept (record-parts _)) wrote in
@@ -94,7 +94,7 @@ measure-spec =
     decreases-loop
     returns
     loop-holds
-    advance-requires
+    next-item-requires
     (λ c. search rules)
     returns-2
     (λ c. search rules)
@@ -103,7 +103,7 @@ measure-spec =
     (λ c. omega arith)
     (λ c. search rules)
     write-record-requires
-    (λ c. let at = c.before.before.before.before.before.before.before.before in step_less at.advance.ensures at.before.if2.true)
+    (λ c. let at = c.before.before.before.before.before.before.before.before in step_less at.next_item.ensures at.before.if2.true)
     loop-again
     returns-3
     returns-4)

@@ -32,18 +32,18 @@ loop-holds c =
     let short = table-short _ _ good in
     (going-starts _ _ short, lined-starts records_of _ (left-starts _ _ short) (omega arith), refl, good)
 
-advance-requires : tie.Need-advance-requires invariant-loop decreases-loop
-advance-requires c κs = c.before.before.loop.invariant.0.reached
+next-item-requires : tie.Need-next-item-requires invariant-loop decreases-loop
+next-item-requires c κs = c.before.before.loop.invariant.0.reached
 
 write-record-requires : tie.Need-write-record-requires invariant-loop decreases-loop
 write-record-requires c κs =
     let going = c.before.before.before.before.before.loop.invariant.0 in
-    (going.reached.short, going-within c.before.before.advance.ensures going)
+    (going.reached.short, going-within c.before.before.next_item.ensures going)
 
 loop-again : tie.Need-loop-preserved invariant-loop decreases-loop
 loop-again c =
     let inv = c.before.before.before.before.before.before.before.before.loop.invariant in
-    let step = c.before.before.before.before.before.advance.ensures in
+    let step = c.before.before.before.before.before.next_item.ensures in
     let kept = going-kept step inv.0 inv.3 in
     let so = lined-next inv.1 (parts_next step kept (record-parts _)) c.before.before.write-record.ensures in
     (going_next step inv.0 kept, so, so.wrote.size, inv.3)
@@ -60,9 +60,9 @@ write_spec =
     invariant-loop
     decreases-loop
     loop-holds
-    advance-requires
+    next-item-requires
     write-record-requires
-    (λ c. let at = c.before.before.before.before.before in step_less at.advance.ensures at.before.if1.true)
+    (λ c. let at = c.before.before.before.before.before in step_less at.next_item.ensures at.before.if1.true)
     loop-again
     (λ c. search rules)
     returns)

@@ -20,26 +20,26 @@ returns : tie.Need-returns invariant-loop decreases-loop
 returns c = c.refused.ensures ∙ selecting-long _ _ _ c.before.if1.true
 
 returns-2 : tie.Need-returns-2 invariant-loop decreases-loop
-returns-2 c = let at = c.before.before.before in selecting-ends at.before.loop.invariant at.advance.ensures c.enum_told.given.1
+returns-2 c = let at = c.before.before.before in selecting-ends at.before.loop.invariant at.next_item.ensures c.enum_told.given.1
 
 returns-3 : tie.Need-returns-3 invariant-loop decreases-loop
 returns-3 c =
     let at = c.before.before.before.before.before in
-    c.refused2.ensures ∙ selecting-refused at.before.loop.invariant at.advance.ensures c.before.before.item.given.1
+    c.refused2.ensures ∙ selecting-refused at.before.loop.invariant at.next_item.ensures c.before.before.item.given.1
 
 is-same-meaning-requires : tie.Need-is-same-meaning-requires invariant-loop decreases-loop
 is-same-meaning-requires c κs =
     let at = c.before.before.before.before.before in
-    (at.before.before.before.before.before.requires, entry-sound at.advance.ensures c.before.before.item2.given.1)
+    (at.before.before.before.before.before.requires, entry-sound at.next_item.ensures c.before.before.item2.given.1)
 
 loop-again : tie.Need-loop-preserved invariant-loop decreases-loop
 unfolding means_as
 loop-again c =
     let at = c.before.before.before.before.before.before.before in
-    rw (c.add-if.ensures, c.before.is-same-meaning.ensures) (selecting-entry at.before.loop.invariant at.advance.ensures c.before.before.before.before.item2.given.1)
+    rw (c.add-if.ensures, c.before.is-same-meaning.ensures) (selecting-entry at.before.loop.invariant at.next_item.ensures c.before.before.before.before.item2.given.1)
 
 loop-again-2 : tie.Need-loop-preserved-2 invariant-loop decreases-loop
-loop-again-2 c = let at = c.before.before.before in selecting-setting at.before.loop.invariant at.advance.ensures c.enum-told2.given.1
+loop-again-2 c = let at = c.before.before.before in selecting-setting at.before.loop.invariant at.next_item.ensures c.enum-told2.given.1
 
 pub read_spec : {M : Type 1} → statement M
 read_spec =
@@ -59,8 +59,8 @@ read_spec =
     (λ c. search rules)
     is-same-meaning-requires
     (λ c κs. tt)
-    (λ c. less-entry c.before.before.before.before.before.before.before.advance.ensures c.before.before.before.before.item2.given.1)
+    (λ c. less-entry c.before.before.before.before.before.before.before.next_item.ensures c.before.before.before.before.item2.given.1)
     loop-again
     (λ c. search rules)
-    (λ c. less-setting c.before.before.before.advance.ensures c.enum-told2.given.1)
+    (λ c. less-setting c.before.before.before.next_item.ensures c.enum-told2.given.1)
     loop-again-2)
