@@ -22,6 +22,8 @@ TEXTS = (".antt", ".rt", ".edit")
 LEMMAS = ("is_digit", "after_line", "with_byte", "first_byte", "cut_short", "cut_step", "too_long")
 LEMMA = re.compile(rf"(?<![.\w'-])(?:{'|'.join(LEMMAS)})(?![.\w'-])")
 WORD = re.compile(r"(?<![\w'\"\\])[A-Za-z_][\w'₀-₉]*(?:-[\w'₀-₉]+)*")
+# A text in quotes is matched whole, so that no word of it is turned.
+TEXT_OR_WORD = re.compile(rf"\"(?:[^\"\\\n]|\\.)*\"|{WORD.pattern}")
 
 
 def files(top, endings):
@@ -85,7 +87,7 @@ def turn_words(table):
         text = read(path)
         if path.endswith(".antt"):
             text = LEMMA.sub(lambda m: m.group(0) + "_lem", text)
-        turned = WORD.sub(lambda m: table.get(m.group(0), m.group(0)), text)
+        turned = TEXT_OR_WORD.sub(lambda m: table.get(m.group(0), m.group(0)), text)
         if turned != read(path):
             write(path, turned)
 

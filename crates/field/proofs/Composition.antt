@@ -191,7 +191,7 @@ module _ (l : Limits) where
   all-formed column a [] h k = k
   all-formed column a (p ∷ ps) h k =
       let t = (and-eq-true_iff (is_element (element_of l p)) (are_elements l ps)).0 h in
-      all-formed _ _ ps t.1 (judged-formed column a (element_of l p) t.0 k)
+      all-formed (column + length p + 1) _ ps t.1 (judged-formed column a (element_of l p) t.0 k)
 
   pub list-form : (column : ℕ) (s : List ℕ) → is_malformed (list_field l column s) ≡ not (are_elements l (split 44 s))
   unfolding list_field

@@ -4,7 +4,7 @@
 use mathlib.Core.Path.{◌≡◌, refl, sym, ap, ◌∙◌}
 use mathlib.Core.Bool.{Bool, true, false, cond, not, ◌&&◌, and-false, and-eq-true_iff, true≢false}
 use mathlib.Core.List.{List, [], ◌∷◌, ◌++◌}
-use Prim.Native.Nat.{ℕ, suc, ◌+◌, ◌*◌, ◌≤◌}
+use Prim.Native.Nat.{ℕ, suc, ◌+◌, ◌*◌, ◌≤◌, ◌-◌}
 use native.Mathlib.Omega.{arith}
 use lib.Dec.{eqb, leb}
 use lib.ListN.{length, drop, length-append}
@@ -124,7 +124,7 @@ module _ (l : Limits) where
 pub value-joined : (v : ℕ) (s t : List ℕ) → value_from v (s ++ t) ≡ value_from (value_from v s) t
 unfolding value_from
 value-joined v [] t = refl
-value-joined v (x ∷ s) t = value-joined _ s t
+value-joined v (x ∷ s) t = value-joined (v * 10 + (x - 48)) s t
 
 -- one to four digits
 pub is_digit_lem : (d : ℕ) → d ≤ 9 → is_digit (48 + d) ≡ true

@@ -159,14 +159,14 @@ module _ (l : Limits) (a : List ℕ) (list : is_star a ≡ false) where
 -- in each dialect: hours over midnight, and weekdays by names
 pub again-used : (n column : ℕ)
     → (read_field (in_dialect Wrapping hour_limits) column (again n (text "22-1")) ≡ Values 12582915 false)
-    × (read_field weekday_limits column (again n (text "Fri-s_un")) ≡ Values 97 false)
-    × (read_field (in_dialect Wrapping weekday_limits) column (again n (text "Fri-s_un")) ≡ Values 97 false)
+    × (read_field weekday_limits column (again n (text "Fri-sUN")) ≡ Values 97 false)
+    × (read_field (in_dialect Wrapping weekday_limits) column (again n (text "Fri-sUN")) ≡ Values 97 false)
     × (read_field (in_dialect Wrapping minute_limits) column (again n (text "+")) ≡ Refused 5 column)
 unfolding writing is_star
 again-used n column = (
   again-read (in_dialect Wrapping hour_limits) (text "22-1") refl (λ c. refl) n column,
-  again-read weekday_limits (text "Fri-s_un") refl (λ c. refl) n column,
-  again-read (in_dialect Wrapping weekday_limits) (text "Fri-s_un") refl (λ c. refl) n column,
+  again-read weekday_limits (text "Fri-sUN") refl (λ c. refl) n column,
+  again-read (in_dialect Wrapping weekday_limits) (text "Fri-sUN") refl (λ c. refl) n column,
   again-malformed (in_dialect Wrapping minute_limits) (text "+") refl (λ c. refl) n column,
 )
 

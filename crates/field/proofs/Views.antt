@@ -103,7 +103,7 @@ module _ (l : Limits) (last : ℕ) where
   pub all-refused : (column : ℕ) (ps : List (List ℕ)) (number at : ℕ) → judged_all l column (Refused number at) ps ≡ Refused number at
   unfolding judged_all judged
   all-refused column [] number at = refl
-  all-refused column (p ∷ ps) number at = all-refused _ ps number at
+  all-refused column (p ∷ ps) number at = all-refused (column + length p + 1) ps number at
 
   elements-view : (column set : ℕ) (star : Bool) (ps : List (List ℕ)) → column + width ps ≤ last + 1
       → FieldView l last set star (map (element_of l) ps) (judged_all l column (Values set star) ps)

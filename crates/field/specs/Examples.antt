@@ -99,7 +99,7 @@ names : Hold read
     -- `sun` goes by how the ends are written: Sunday alone, every day twice, Sunday twice, and from high to low
     ∷ ((weekday_limits, text "sun-sun"), of (0 ∷ []))
     ∷ ((weekday_limits, text "SUN-sun"), of (0 ∷ []))
-    ∷ ((weekday_limits, text "Sun-s_un"), of (0 ∷ []))
+    ∷ ((weekday_limits, text "Sun-sUN"), of (0 ∷ []))
     ∷ ((weekday_limits, text "suN-mon"), of (0 ∷ 1 ∷ []))
     ∷ ((weekday_limits, text "mon,sat-SUN"), of (1 ∷ 6 ∷ 0 ∷ []))
     ∷ ((weekday_limits, text "tue-sun/5"), of (2 ∷ 0 ∷ []))

@@ -126,7 +126,7 @@ searching-skip {s} {day} {c} {first} (suc n) g h none =
     let e : c + suc n ≡ c + 1 + n = omega arith in
     let out = from-none (matches_in_month s (c % 12 + 1) first) (first + length_of c) first (omega arith) (λ k _ _. month-out s (c % 12 + 1) first k (none c (omega arith) (omega arith))) in
     let on = searching-on g (rw g.start (begins-on c g.low (omega arith))) refl refl (omega (arith, out)) in
-    rw e (searching-skip n on (omega arith) (λ i u v. none i (omega arith) (omega arith)))
+    rw e (searching-skip {c = c + 1} n on (omega arith) (λ i u v. none i (omega arith) (omega arith)))
 
 month-starts : (c : ℕ) → 23640 ≤ c → c ≤ 120000 → month_start c ≡ first_of c
 unfolding month_start first_of

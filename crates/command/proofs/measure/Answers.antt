@@ -1,0 +1,15 @@
+-- `command::measure` meets its contract.
+-- Assumes nothing.
+use Rattle.command.proofs.Buffers.{whole-lengths, cut-lengths}
+use Rattle.command.proofs.measure.Goals as goal
+
+pub returns-in-Whole : goal.returns-in-Whole
+returns-in-Whole c =
+    whole-lengths c.args.c.now c.in-Whole.n
+    (rw c.in-Whole.is at c.shell_end.ensures)
+
+pub returns-in-Cut : goal.returns-in-Cut
+returns-in-Cut c =
+    let told = c.length-1.given in
+    cut-lengths c.args.c.now told.0.0 c.count-m.result told.0.1.0
+    (rw told.1 at c.shell_end.ensures) c.count-m.ensures
