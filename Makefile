@@ -8,7 +8,7 @@
 # bench      the benchmarks
 # soak       compares random calls with the reference program for HOURS, and resumes where the last run ended.
 #            SEED=.. starts another; with ROUND=.. too, it runs one round again
-# figures    draws docs/crates.svg and prints the size of each crate; with LOG=.. of a gate, also the times
+# figures    draws docs/crates.svg and prints the size of each crate
 # format     formats all code: Rattle, Rust and C
 # clean      removes what was built, and what rt keeps
 
@@ -128,7 +128,7 @@ soak: $(LIBRARY)
 
 figures:
 	awk -f docs/picture.awk crates.txt > docs/crates.svg
-	docs/figures.sh $(LOG)
+	docs/figures.sh
 
 format:
 	for crate in crates/*/; do (cd "$$crate" && rt fmt) || exit; done
