@@ -114,6 +114,7 @@ module _ (jobs : Jobs) (e k : ℕ) (some : 0 < k) where
   pub waiting-named : (cs : List Call) (mark : Mark) (l : List ℕ) (p m n since : ℕ) → At e p l → since ≤ k → k + k * p ≤ n + since
       → Runs jobs (record { mark = mark; waiting = l }) cs → ConsecutiveTicksEvery k m n since cs → Names jobs e (up_to n cs)
   unfolding ticked front behind popped
+  waiting-named (pop room ∷ cs) mark [] p m n since a h near r consecutive = elim a [ ]
   waiting-named [] mark l p m n since a h near r consecutive = absurd (omega (arith, consecutive.0, consecutive.1))
   waiting-named (tick minute room ∷ cs) mark l p m zero since a h near r consecutive = absurd consecutive
   waiting-named (tick minute room ∷ cs) mark l p m (suc n) since a h near r consecutive =

@@ -34,6 +34,8 @@ at-standing e (suc p) (x ∷ l) q = there (at-standing e p l q)
 
 at_in : (e p : ℕ) (l : List ℕ) → At e p l → is_waiting e l ≡ true
 unfolding is_waiting
+at_in e zero [] x'' = elim x'' [ ]
+at_in e (suc p) [] x3 = elim x3 [ ]
 at_in e zero (x ∷ l) here = rw (eq-eqb e e refl)
 at_in e (suc p) (x ∷ l) (there a) = rw (at_in e p l a) (either (eqb x e))
   where
@@ -51,6 +53,7 @@ module _ (jobs : Jobs) (e : ℕ) where
   not-before : (cs : List Call) (mark : Mark) (l : List ℕ) (p : ℕ) → entries_of jobs.count l ≡ true → At e p l
       → Runs jobs (record { mark = mark; waiting = l }) cs → Names jobs e (up_to_request p cs) → ⊥
   unfolding ticked front behind popped
+  not-before (pop room ∷ cs) mark [] (suc p) g a r named = elim a [ ]
   not-before [] mark l p g a r named = named
   not-before (c ∷ cs) mark l zero g a r named = named
   not-before (tick minute room ∷ cs) mark l (suc p) g a r named =
@@ -66,6 +69,7 @@ module _ (jobs : Jobs) (e : ℕ) where
   pub named-then : (cs : List Call) (mark : Mark) (l : List ℕ) (p n : ℕ) → At e p l → p < n → p < requests cs
       → Runs jobs (record { mark = mark; waiting = l }) cs → Names jobs e (up_to_request n cs)
   unfolding ticked front behind popped
+  named-then (pop room ∷ cs) mark [] p (suc n) a h more r = elim a [ ]
   named-then cs mark l p zero a h more r = absurd (omega arith)
   named-then [] mark l p (suc n) a h more r = absurd (omega arith)
   named-then (tick minute room ∷ cs) mark l p (suc n) a h more r =

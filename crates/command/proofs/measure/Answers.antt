@@ -10,6 +10,5 @@ returns-in-Whole c =
 
 pub returns-in-Cut : goal.returns-in-Cut
 returns-in-Cut c =
-    let told = c.length-1.given in
-    cut-lengths c.args.c.now told.0.0 c.count-m.result told.0.1.0
-    (rw told.1 at c.shell_end.ensures) c.count-m.ensures
+    cut-lengths c.args.c.now c.in-Cut.length c.count-m.result c.in-Cut.rest
+    (rw c.in-Cut.is at c.shell_end.ensures) c.count-m.ensures

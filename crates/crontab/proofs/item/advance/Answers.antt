@@ -1,0 +1,23 @@
+use Prim.Native.Nat.{◌-◌}
+use native.Mathlib.Omega.{arith}
+use Rattle.crontab.proofs.Items.{skipped-none, skipped-line, skipped-item, skipped-end, first-variant}
+use Rattle.crontab.proofs.item.advance.Goals as goal
+
+pub loop-c-init : goal.loop-c-init
+loop-c-init c = skipped-none c.requires
+
+pub one_line-step-requires : goal.one_line-step-requires
+one_line-step-requires c = (c.loop-c.invariant.reached, c.loop-c-test.true)
+
+pub returns-in_default : goal.returns-in_default
+returns-in_default c = skipped-item c.loop-c.invariant c.one_line-step.ensures (λ is. first-variant (rw is at c.in_default.keys2))
+
+pub loop-c-smaller : goal.loop-c-smaller
+loop-c-smaller c = let step = c.one_line-step.ensures in omega (arith, step.onward, step.reached.place)
+
+pub loop-c-preserved : goal.loop-c-preserved
+loop-c-preserved c =
+    skipped-line c.loop-c.invariant c.one_line-step.ensures c.in-Nothing.is
+
+pub returns : goal.returns
+returns c = skipped-end c.loop-c.invariant c.loop-c-test.false

@@ -1,0 +1,16 @@
+-- `crontab::table::check` meets its contract: it is what the item that was found says.
+-- Assumes nothing.
+use mathlib.Core.Path.{refl, ◌∙◌}
+use Rattle.crontab.proofs.Walks.{last-variant, not-refused}
+use Rattle.crontab.proofs.Findings.{as_verdict, found-verdict, good-verdict}
+use Rattle.crontab.proofs.table.check.Goals as goal
+
+pub returns-in-Refused : goal.returns-in-Refused
+unfolding as_verdict
+returns-in-Refused c = found-verdict _ _ c.find-found.ensures c.in-Refused.is
+
+pub returns : goal.returns
+returns c =
+    let found = c.find-found.result in
+    let kept = not-refused found.item (λ f is. last-variant (rw is at c.in_default.keys2)) in
+    good-verdict found.item found.line found.count kept ∙ found-verdict _ _ c.find-found.ensures refl

@@ -1,0 +1,71 @@
+use mathlib.Core.Path.{◌≡◌, refl, sym, ap, ◌∙◌}
+use mathlib.Core.Bool.{true}
+use mathlib.Core.List.{List, []}
+use Prim.Native.Nat.{ℕ, ◌-◌}
+use native.Mathlib.Omega.{arith}
+use lib.Seq.{take_all}
+use Rattle.schedule.specs.declared.jump.Mark.{Mark}
+use Rattle.schedule.specs.Jumps.{is_mark}
+use Rattle.fifo.specs.Layout.{queue_of, stored, roomy}
+use Rattle.fifo.specs.Steps.{refilled}
+use Rattle.fifo.proofs.Queues.{queue-known, laid-queue, none-proper, written, written_over}
+use Rattle.fifo.proofs.Stores.{laid_none}
+use Rattle.fifo.proofs.Peek.{refill-next}
+use Rattle.fifo.proofs.refill.Goals as goal
+use Rattle.fifo.proofs.refill.Goals.{After-store, Start}
+
+-- none waits
+module _ (c : After-store) where
+  abbrev a : Start
+  a = (goal.at.After-store c).Start
+
+  emptied : c.store.new.buffer ≡ stored (record { mark = (queue_of a.args.buffer.now).mark; waiting = [] }) a.args.buffer.now
+  emptied =
+      c.store.ensures
+      ∙ laid_none _ _ (laid-queue a.requires.0.0 a.args.buffer.now (λ k. omega (arith, c.slice_known-1.given k)) a.requires.0.1)
+
+  on : is_mark (queue_of a.args.buffer.now).mark ≡ true
+  unfolding queue_of
+  on = (queue-known a.requires.0.0 a.args.buffer.now a.requires.0.1).mark-is
+
+  mark : (queue_of c.store.new.buffer).mark ≡ (queue_of a.args.buffer.now).mark
+  mark = rw (written a.args.n _ a.args.buffer.now (omega arith) a.requires.1 (none-proper a.args.n _ on) emptied)
+
+  over : (l : List ℕ) → stored (record { mark = (queue_of c.store.new.buffer).mark; waiting = l }) c.store.new.buffer ≡ stored (record { mark = (queue_of a.args.buffer.now).mark; waiting = l }) a.args.buffer.now
+  over l =
+      ap (λ (m : Mark). stored (record { mark = m; waiting = l }) c.store.new.buffer) mark
+      ∙ written_over a.args.n _ a.args.buffer.now (omega arith) a.requires.1 (none-proper a.args.n _ on) emptied _ (omega arith)
+
+  still : roomy a.args.n c.store.new.buffer ≡ true
+  unfolding roomy
+  still = rw c.store.auto.buffer a.requires.1
+
+pub store-requires : goal.store-requires
+store-requires c =
+    omega (arith, (queue-known c.requires.0.0 c.args.buffer.now c.requires.0.1).size_is)
+
+pub loop-i-init : goal.loop-i-init
+loop-i-init c =
+    let after_store = (goal.at.loop-i-init c).After-store in
+    (emptied after_store ∙ sym (over after_store []), refl, omega arith)
+
+pub push-requires : goal.push-requires
+push-requires c =
+    let after_store = (goal.at.push-requires c).After-store in
+    let step = refill-next (a after_store).args.n (queue_of c.store.new.buffer).mark (a after_store).args.entries.now c.store.new.buffer c.loop-i.i (omega arith) (rw (mark after_store) (on after_store)) (still after_store) (a after_store).requires.2 (omega arith) in
+    rw c.loop-i.invariant.0 step.0
+
+pub loop-i-preserved : goal.loop-i-preserved
+loop-i-preserved c =
+    let after_store = (goal.at.loop-i-preserved c).After-store in
+    let p = c.push in
+    let step = refill-next (a after_store).args.n (queue_of c.store.new.buffer).mark (a after_store).args.entries.now c.store.new.buffer c.loop-i.i (omega arith) (rw (mark after_store) (on after_store)) (still after_store) (a after_store).requires.2 (omega arith) in
+    (p.ensures ∙ rw c.loop-i.invariant.0 step.1, p.auto.buffer ∙ c.loop-i.invariant.1, omega arith)
+
+pub returns : goal.returns
+unfolding refilled
+returns c =
+    let after_store = (goal.at.returns c).After-store in
+    let l = c.loop-i in
+    let all = take_all l.i (a after_store).args.entries.now (omega arith) in
+    l.invariant.0 ∙ rw all (over after_store (a after_store).args.entries.now)

@@ -1,0 +1,8 @@
+-- `line::offset::is_formed` meets its contract: it tests what the definition does.
+-- Assumes nothing.
+use Rattle.line.specs.Offsets.{is_formed}
+use Rattle.line.proofs.offset.is_formed.Goals as goal
+
+pub returns : goal.returns
+unfolding is_formed
+returns c = cc
