@@ -8,9 +8,9 @@
 # bench      the benchmarks
 # soak       compares random calls with the reference program for HOURS, and resumes where the last run ended.
 #            SEED=.. starts another; with ROUND=.. too, it runs one round again
-# figures    draws docs/crates.svg and prints the size of each crate; with LOG=.. of a gate, also the times
+# figures    draws docs/crates.svg and prints the size of each crate
 # format     formats all code: Rattle, Rust and C
-# clean      removes what was built
+# clean      removes what was built, and what rt keeps
 
 PREFIX ?= /usr/local
 LIBDIR ?= $(PREFIX)/lib
@@ -23,7 +23,7 @@ INSTALL ?= install
 
 LIBRARY := target/staticlib/liberemothyn.a
 TEST_CALLS := target/staticlib/libtest_calls.a
-SOURCES := crates.txt $(shell find crates -name '*.rt' -o -name '*.antt')
+SOURCES := crates.txt $(shell find crates -name out -prune -o \( -name '*.rt' -o -name '*.antt' \) -print)
 COMMAND := target/c/eremothyn
 COMMAND_SOURCES := $(wildcard programs/*.c programs/*/*.c)
 LISTER := target/bin/crontab_firings
@@ -56,12 +56,16 @@ all: $(LIBRARY) $(COMMAND) $(LISTER) target/c/daemon target/c/site_daemon target
 
 target/staticlib/lib%.a: $(SOURCES)
 	@.ci/needs rt
-	rt staticlib $*
+	cd crates/$* && rt lib
+	mkdir -p $(@D)
+	cp crates/$*/out/lib$*.a $@
 
-# A program in Rattle: proved and linked.
+# A program in Rattle: proved and linked, which rt does only to run it. So it is run here, on the crate's own input.
 target/bin/%: $(SOURCES) | $(LIBRARY)
-	rt check $*
-	touch $@
+	@.ci/needs rt
+	cd crates/$* && ../../.ci/run-program
+	mkdir -p $(@D)
+	cp crates/$*/out/$* $@
 
 $(COMMAND): $(COMMAND_SOURCES) $(wildcard programs/*/*.h) $(HEADER) $(LIBRARY)
 	$(COMPILE) -Iprograms $(COMMAND_SOURCES) $(LIBRARY)
@@ -124,12 +128,12 @@ soak: $(LIBRARY)
 
 figures:
 	awk -f docs/picture.awk crates.txt > docs/crates.svg
-	docs/figures.sh $(LOG)
+	docs/figures.sh
 
 format:
-	rt fmt
+	for crate in crates/*/; do (cd "$$crate" && rt fmt) || exit; done
 	cargo fmt --all --manifest-path tests/Cargo.toml
 	find include programs examples tests/c/programs -name '*.[ch]' -exec clang-format -i {} +
 
 clean:
-	rm -rf target tests/target
+	rm -rf target tests/target crates/*/out

@@ -1,5 +1,6 @@
 # awk -f docs/picture.awk crates.txt > docs/crates.svg: which crate depends on which. A line is drawn only to a crate on which no
-# other dependency depends. A crate is one row above its highest dependency. The kit's own crates aren't shown.
+# other dependency depends. A crate is one row above its highest dependency. The kit's own crates aren't shown, nor which crate is a
+# static library.
 
 /^#/ || !NF { next }
 

@@ -18,7 +18,7 @@ fn link(name: &str) {
     println!("cargo::rerun-if-changed={}", archive.display());
     if !archive.is_file() {
         println!(
-            "cargo::error={} isn't there: build it with `rt staticlib {name}`",
+            "cargo::error={} isn't there: build it with `make target/staticlib/lib{name}.a`",
             archive.display()
         );
         return;

@@ -14,7 +14,7 @@ const ROUNDS: usize = 3;
 pub fn run() {
     let program = Path::new(env!("CARGO_MANIFEST_DIR")).join("../target/bin/crontab_firings");
     if !program.is_file() {
-        println!("firings, the program: target/bin/crontab_firings isn't there; `rt check crontab_firings` makes it");
+        println!("firings, the program: target/bin/crontab_firings isn't there; `make target/bin/crontab_firings` makes it");
         return;
     }
     let folder = env::temp_dir().join(format!("eremothyn-bench-{}", std::process::id()));

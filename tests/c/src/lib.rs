@@ -6,6 +6,7 @@ mod subcommand;
 
 pub use subcommand::Subcommand;
 
+use std::env;
 use std::ffi::OsStr;
 use std::fs::{self, File};
 use std::path::{Path, PathBuf};
@@ -21,6 +22,18 @@ pub fn root() -> PathBuf {
 /// A folder for what a test makes, empty at first.
 pub fn scratch(name: &str) -> PathBuf {
     let folder = root().join("target/c-tests").join(name);
+    let _ = fs::remove_dir_all(&folder);
+    fs::create_dir_all(&folder).expect("the folder is made");
+    folder.canonicalize().expect("the folder is there")
+}
+
+/// The same outside the checkout, for a test that makes links: `rt ci` takes no checkout that has one.
+pub fn scratch_outside(name: &str) -> PathBuf {
+    let checkout = root().canonicalize().expect("the root is there");
+    let own = word(&checkout).replace('/', "-");
+    let folder = env::temp_dir()
+        .join(format!("eremothyn-tests{own}"))
+        .join(name);
     let _ = fs::remove_dir_all(&folder);
     fs::create_dir_all(&folder).expect("the folder is made");
     folder.canonicalize().expect("the folder is there")

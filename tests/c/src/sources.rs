@@ -3,10 +3,11 @@
 use std::fs;
 use std::path::{Path, PathBuf};
 
-/// The files of a folder, and of those in it.
+/// The files of a folder, and of those in it, but for what `rt` keeps in a crate's `out`.
 pub fn files(folder: &Path) -> Vec<PathBuf> {
     let entries = fs::read_dir(folder).expect("a folder");
     let paths = entries.map(|entry| entry.expect("an entry").path());
+    let paths = paths.filter(|path| !path.ends_with("out"));
     let within = paths.map(|path| match path.is_dir() {
         true => files(&path),
         false => vec![path],

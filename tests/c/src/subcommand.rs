@@ -1,6 +1,6 @@
 //! A subcommand of `eremothyn`, built for a test, and the folder that it runs in.
 
-use crate::{build_command, scratch, told};
+use crate::{build_command, scratch, scratch_outside, told};
 use std::env;
 use std::ffi::OsStr;
 use std::fs;
@@ -32,6 +32,14 @@ impl Subcommand {
             folder: scratch(folder),
             program: built().to_path_buf(),
             name,
+        }
+    }
+
+    /// The same in a folder outside the checkout, for a test that makes links.
+    pub fn new_outside(name: &'static str, folder: &str) -> Subcommand {
+        Subcommand {
+            folder: scratch_outside(folder),
+            ..Subcommand::new(name, folder)
         }
     }
 

@@ -30,8 +30,12 @@ fn known(folders: &[&str]) -> HashSet<String> {
     known
 }
 
-/// The file of a crate that a text names, as `NAME/specs/FILE`, or `specs/FILE` in a comment of that crate.
-fn file(own: &str, name: &str) -> Option<PathBuf> {
+/// What may be in the folder of a function's proof; a function that needs neither has no folder.
+const OF_A_FUNCTION: [&str; 2] = ["Invariants.antt", "Answers.antt"];
+
+/// The file of a crate that a text names, as `NAME/specs/FILE`, or `specs/FILE` in a comment of that crate; or the files of a
+/// function's proof, where it names that folder. None of them may be there.
+fn named_files(own: &str, name: &str) -> Option<Vec<PathBuf>> {
     let name = name.trim_start_matches("crates/");
     let parts: Vec<&str> = name.split('/').collect();
     let place = match parts[..] {
@@ -44,12 +48,12 @@ fn file(own: &str, name: &str) -> Option<PathBuf> {
         true => "edit",
         false => "antt",
     };
-    // A function's proof is a folder.
-    Some(if path.is_dir() {
-        path.join("Proof.antt")
-    } else {
-        path.with_extension(kind)
-    })
+    let mut paths = match path.is_dir() {
+        true => OF_A_FUNCTION.map(|part| path.join(part)).to_vec(),
+        false => vec![path.with_extension(kind)],
+    };
+    paths.retain(|path| path.is_file());
+    Some(paths)
 }
 
 /// The place that the text after a name gives: `of NAME/proofs/FILE`, or among the guarantees `[NAME]`.
@@ -95,25 +99,37 @@ fn is_name(text: &str) -> bool {
         && text.replace("::", "").chars().all(is_letter)
 }
 
-/// Looks up every name that a text cites, and answers how many there are.
-fn look_up(whose: &str, own: &str, text: &str, known: &HashSet<String>) -> usize {
+/// What is wrong with a name that a text cites: nothing, if it is there.
+fn fault(own: &str, name: &str, place: Option<&str>, known: &HashSet<String>) -> Option<String> {
+    if name.contains('/') {
+        let is_there = named_files(own, name).is_none_or(|paths| !paths.is_empty());
+        return (!is_there).then(|| format!("no file {name}"));
+    }
+    if !name.split("::").all(|name| known.contains(name)) {
+        return Some(format!("no {name}"));
+    }
+    let place = place?;
+    let paths = named_files(own, place)?;
+    if paths.is_empty() {
+        return Some(format!("no file {place} for {name}"));
+    }
+    let is_there = paths.iter().any(|path| words(path).contains(name));
+    (!is_there).then(|| format!("no {name} in {place}"))
+}
+
+/// Looks up every name that a text cites, adds what is wrong, and answers how many there are.
+fn look_up(
+    whose: &str,
+    own: &str,
+    text: &str,
+    known: &HashSet<String>,
+    faults: &mut Vec<String>,
+) -> usize {
     let mut names = cited(text);
     names.retain(|(name, _)| is_name(name));
     for (name, place) in &names {
-        if name.contains('/') {
-            let is_there = file(own, name).is_none_or(|path| path.is_file());
-            assert!(is_there, "{whose}: no file {name}");
-            continue;
-        }
-        let is_known = name.split("::").all(|name| known.contains(name));
-        assert!(is_known, "{whose}: no {name}");
-        if let Some(path) = place.as_ref().and_then(|place| file(own, place)) {
-            assert!(path.is_file(), "{whose}: no file {path:?} for {name}");
-            assert!(
-                words(&path).contains(name),
-                "{whose}: no {name} in {path:?}"
-            );
-        }
+        let fault = fault(own, name, place.as_deref(), known);
+        faults.extend(fault.map(|fault| format!("{whose}: {fault}")));
     }
     names.len()
 }
@@ -122,6 +138,7 @@ fn look_up(whose: &str, own: &str, text: &str, known: &HashSet<String>) -> usize
 fn the_documents_name_what_is_there() {
     let proved = known(&["crates", "tests/differential", "include"]);
     let all = &proved | &known(&["programs", "examples", "packaging", "tests/reference"]);
+    let mut faults = Vec::new();
     for (document, known, least) in [
         ("PROMISES", &proved, 1_000),
         ("GUARANTEES", &proved, 30),
@@ -130,16 +147,18 @@ fn the_documents_name_what_is_there() {
     ] {
         let path = root().join(format!("docs/{document}.md"));
         let text = fs::read_to_string(path).expect("the document");
-        let count = look_up(document, "", &text.replace('\n', " "), known);
+        let text = text.replace('\n', " ");
+        let count = look_up(document, "", &text, known, &mut faults);
         assert!(count >= least, "{document}: only {count} names were found");
     }
+    assert!(faults.is_empty(), "{}", faults.join("\n"));
 }
 
 #[test]
 fn the_comments_name_what_is_there() {
     let crates = root().join("crates");
     let known = known(&["crates", "tests/differential", "include"]);
-    let mut count = 0;
+    let (mut count, mut faults) = (0, Vec::new());
     for path in files(&crates) {
         let own = path.strip_prefix(&crates).expect("a file of a crate");
         let own = own.iter().next().unwrap_or_default().to_string_lossy();
@@ -148,8 +167,9 @@ fn the_comments_name_what_is_there() {
             .is_some_and(|kind| kind == "rt" || kind == "antt")
         {
             let (_, comments) = code_and_comments(&path);
-            count += look_up(word(&path), &own, &comments, &known);
+            count += look_up(word(&path), &own, &comments, &known, &mut faults);
         }
     }
+    assert!(faults.is_empty(), "{}", faults.join("\n"));
     assert!(count > 150, "only {count} names were found");
 }

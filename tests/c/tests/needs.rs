@@ -2,7 +2,7 @@
 
 use c::{all, is, root, scratch, word};
 use std::fs;
-use std::os::unix::fs::{symlink, PermissionsExt};
+use std::os::unix::fs::PermissionsExt;
 use std::path::{Path, PathBuf};
 use std::process::{Command, Output};
 
@@ -42,15 +42,33 @@ fn executable(folder: &Path, name: &str, script: &str) {
     fs::set_permissions(&path, fs::Permissions::from_mode(0o755)).expect("it can be run");
 }
 
+/// Puts a command that is there into a folder, unless the shell alone has it. It is a copy, since `rt ci` takes no checkout that
+/// has a link; and another process makes it, so that no child of this one keeps it from being run.
+fn borrow(folder: &Path, name: &str) {
+    let real = Command::new("sh")
+        .args(["-c", &format!("command -v {name}")])
+        .output();
+    let real = String::from_utf8(real.expect("sh runs").stdout).expect("a path");
+    let real = real.trim_end();
+    if real.starts_with('/') {
+        copy(Path::new(real), &folder.join(name));
+    }
+}
+
+fn copy(from: &Path, to: &Path) {
+    let copied = Command::new("cp")
+        .arg("-R")
+        .arg("-L")
+        .args([from, to])
+        .status();
+    assert!(copied.expect("cp runs").success(), "{from:?}");
+}
+
 /// A PATH that has what a shell script needs, and something by each of these names; nobody is root there.
 fn path_with(folder: &str, names: &[&str]) -> PathBuf {
     let folder = scratch(folder);
     for name in ["sh", "bash", "dirname", "rm"] {
-        let real = Command::new("sh")
-            .args(["-c", &format!("command -v {name}")])
-            .output();
-        let real = String::from_utf8(real.expect("sh runs").stdout).expect("a path");
-        symlink(real.trim_end(), folder.join(name)).expect("a link");
+        borrow(&folder, name);
     }
     executable(&folder, "id", "echo 1000");
     for name in names {
@@ -210,13 +228,7 @@ fn make_without_the_kit_says_so() {
     let folder = scratch("needs-make");
     let path = path_with("needs-make-path", &[]);
     for name in ["make", "find", "sed", "git", "mkdir", "cc", "date", "echo"] {
-        let real = Command::new("sh")
-            .args(["-c", &format!("command -v {name}")])
-            .output();
-        let real = String::from_utf8(real.expect("sh runs").stdout).expect("a path");
-        if real.starts_with('/') {
-            symlink(real.trim_end(), path.join(name)).expect("a link");
-        }
+        borrow(&path, name);
     }
     for name in [
         "Makefile",
@@ -226,7 +238,7 @@ fn make_without_the_kit_says_so() {
         "programs",
         "packaging",
     ] {
-        symlink(root().join(name), folder.join(name)).expect("a link");
+        copy(&root().join(name), &folder.join(name));
     }
     fs::create_dir(folder.join("crates")).expect("a folder");
     let output = Command::new(path.join("make"))

@@ -152,7 +152,7 @@ fn the_owner_is_kept() {
 
 #[test]
 fn a_link_stays_and_its_file_is_rewritten() {
-    let format = format_in("format-link");
+    let format = Subcommand::new_outside("format", "format-link");
     let other = format.folder.join("other");
     fs::create_dir(&other).expect("a folder");
     let file = format.write("other/table", TABLE);
@@ -183,6 +183,7 @@ fn a_link_stays_and_its_file_is_rewritten() {
     symlink("nowhere", format.folder.join("broken")).expect("a link");
     let complaint = "eremothyn format: broken: No such file or directory\n";
     assert_eq!(all(&format.run(&["-w", "broken"])), is("", complaint, 2));
+    let _ = fs::remove_dir_all(&format.folder);
 }
 
 /// Another name of the same file keeps the old text.
