@@ -19,7 +19,7 @@ import shutil
 OLD_CRATE, NEW_CRATE = "bytes", "octets"
 TEXTS = (".antt", ".rt", ".edit")
 # Lemmas that would have the name of a definition, once that is in snake case, in one scope with it.
-LEMMAS = ("is_digit", "after_line", "with_byte", "first_byte", "cut_short", "cut_step", "too_long")
+LEMMAS = ("is_digit", "after_line", "with_byte", "first_byte", "cut_short", "cut_step", "too_long", "due_in")
 LEMMA = re.compile(rf"(?<![.\w'-])(?:{'|'.join(LEMMAS)})(?![.\w'-])")
 WORD = re.compile(r"(?<![\w'\"\\])[A-Za-z_][\w'₀-₉]*(?:-[\w'₀-₉]+)*")
 # A text in quotes is matched whole, so that no word of it is turned.

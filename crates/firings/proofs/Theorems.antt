@@ -169,9 +169,9 @@ module _ (fires : ℕ → ℕ → Bool) (count : ℕ) (few : count ≤ 512) (a b
           rw (← key_of m i (omega arith)) (among-map keys (m * 512 + i) ((up-exact (is_firing fires count) ((a + 1) * 512) (b * 512 + 511) (m * 512 + i)).1 (omega arith, omega arith, t)))
 
 -- due by its number in a good table, and no other is
-due_in : (t : Table) (i m : ℕ) → t.refusal ≡ 0 → m ≤ last_minute → Exactly ((i < t.count) × (fires_in t.entries i m ≡ true)) (due_in t i m ≡ due.Yes)
+due_in_lem : (t : Table) (i m : ℕ) → t.refusal ≡ 0 → m ≤ last_minute → Exactly ((i < t.count) × (fires_in t.entries i m ≡ true)) (due_in t i m ≡ due.Yes)
 unfolding due_in due_answer entry_in fires_in
-due_in t i m good h = rw (eq-eqb t.refusal 0 good) (go (ltb i t.count) refl)
+due_in_lem t i m good h = rw (eq-eqb t.refusal 0 good) (go (ltb i t.count) refl)
   where
     e : Entry
     e = get_or t.entries i blank_entry
@@ -186,8 +186,8 @@ module _ (rules : Rules) (s : List ℕ) (a b : ℕ) where
       → Exactly (Among (record { minute = m; entry = i }) (merged_of (table_of rules s) a b)) ((a < m) × (m ≤ b) × (due_in (table_of rules s) i m ≡ due.Yes))
   unfolding merged_of
   merged-exact good m i h = (
-    (λ x. let (u, v, l, w) = both.0 x in (u, v, (due_in t i m good (omega arith)).0 (l, w))),
-    (λ (u, v, z). let (l, w) = (due_in t i m good (omega arith)).1 z in both.1 (u, v, l, w)),
+    (λ x. let (u, v, l, w) = both.0 x in (u, v, (due_in_lem t i m good (omega arith)).0 (l, w))),
+    (λ (u, v, z). let (l, w) = (due_in_lem t i m good (omega arith)).1 z in both.1 (u, v, l, w)),
   )
     where
       t : Table

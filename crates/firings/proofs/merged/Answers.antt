@@ -28,6 +28,10 @@ fill-requires c =
 pub returns : goal.returns
 returns c =
     let read = c.read-read in
-    let r = rw (← read.ensures, merged-listed read.result _ _ _ _ c.if-refusal-ne0.false c.if-a-gt-LAST_MINUTE.false c.if-b-gt-LAST_MINUTE.false)
-    c.fill.ensures in
-    record { answer = r.0; minutes = r.1; entries = r.2 }
+    let filled = c.fill.ensures in
+    let last = c.if-b-gt-LAST_MINUTE.false in
+    record {
+      answer = rw (← read.ensures, merged-listed read.result _ _ _ _ c.if-refusal-ne0.false c.if-a-gt-LAST_MINUTE.false last) filled.answer;
+      minutes = rw (← read.ensures, merged-listed read.result _ _ _ _ c.if-refusal-ne0.false c.if-a-gt-LAST_MINUTE.false last) filled.minutes;
+      entries = rw (← read.ensures, merged-listed read.result _ _ _ _ c.if-refusal-ne0.false c.if-a-gt-LAST_MINUTE.false last) filled.entries;
+    }

@@ -23,9 +23,7 @@ fill-requires c =
     ((entry-sound _ _ _ (sym c.find_entry.ensures ∙ c.in-Found.is)).zone, c.if-a-gt-LAST_MINUTE.false, c.if-b-gt-LAST_MINUTE.false)
 
 pub returns-else-is_boot : goal.returns-else-is_boot
-returns-else-is_boot c = let r = rw (in-found _ _ _ _ _ (sym c.find_entry.ensures ∙ c.in-Found.is) (by-time _ _ _ _ c.if-a-gt-LAST_MINUTE.false c.if-b-gt-LAST_MINUTE.false (sym c.is_boot.ensures ∙ c.if-is_boot.false)))
-    c.fill.ensures in
-    record { answer = r.0; run = r.1 }
+returns-else-is_boot c = record { answer = rw (in-found _ _ _ _ _ (sym c.find_entry.ensures ∙ c.in-Found.is) (by-time _ _ _ _ c.if-a-gt-LAST_MINUTE.false c.if-b-gt-LAST_MINUTE.false (sym c.is_boot.ensures ∙ c.if-is_boot.false))) c.fill.ensures.answer; run = rw (in-found _ _ _ _ _ (sym c.find_entry.ensures ∙ c.in-Found.is) (by-time _ _ _ _ c.if-a-gt-LAST_MINUTE.false c.if-b-gt-LAST_MINUTE.false (sym c.is_boot.ensures ∙ c.if-is_boot.false))) c.fill.ensures.run }
 
 pub returns-in-Refused : goal.returns-in-Refused
 unfolding refused_entry

@@ -59,7 +59,7 @@ returns-then-n-room c =
     let fires = root-fires _ _ _ _ l.invariant.1 (omega (arith, c.requires.2)) in
     let r = merging-more (merging-ahead l.invariant.0 (up-here _ _ _ (omega arith) fires)) c.if-n-room.true (merged-keys _ _ c.requires.0.few _ _)
     (room-is _ _ _ _ c.lesser.ensures c.lesser-room.ensures) in
-    record { answer = r.0; minutes = r.1; entries = r.2 }
+    record { answer = r.0; minutes = r.1.0; entries = r.1.1 }
 
 pub overflow_cast-minutes : goal.overflow_cast-minutes
 overflow_cast-minutes c = omega (arith, c.requires.2)
@@ -124,4 +124,4 @@ returns c =
     let high : c.args.b < root l.tree / 512 = c.loop-tree-test.false in
     let r = merging-all (merging-ahead l.invariant.0 (up-end _ _ _ (omega arith))) (merged-keys _ _ c.requires.0.few _ _)
     (room-is _ _ _ _ c.lesser.ensures c.lesser-room.ensures) in
-    record { answer = r.0; minutes = r.1; entries = r.2 }
+    record { answer = r.0; minutes = r.1.0; entries = r.1.1 }

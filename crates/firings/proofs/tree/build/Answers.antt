@@ -32,7 +32,7 @@ loop-i-preserved c =
     let here = c.loop-i-test.true in
     let few = c.requires.0.few in
     let wait =
-    waits-after c.args.t1.entries c.args.t1.count l.i c.args.minute ((c.args.minute + 1) * 512) _ here few c.requires.1
+    waits-after c.args.table.entries c.args.table.count l.i c.args.minute ((c.args.minute + 1) * 512) _ here few c.requires.1
     (omega arith) (omega arith)
     (c.key.ensures ∙ ap (λ (n : ℕ). n * 512 + l.i) c.firing_after.ensures)
     in
