@@ -14,8 +14,10 @@ returns-then-text-size c =
 pub returns-else-text-size : goal.returns-else-text-size
 returns-else-text-size c =
     let e = sym c.in-Written.is ∙ c.write.ensures.is in
-    let r = rw (normal-form-is _ _ _) (form-written _ _ _ e c.if-text-size.false c.write-in-Written.ensures) in
-    record { answer = r.0; text = r.1 }
+    record {
+      answer = rw (normal-form-is _ _ _) (form-written _ _ _ e c.if-text-size.false c.write-in-Written.ensures).0;
+      text = rw (normal-form-is _ _ _) (form-written _ _ _ e c.if-text-size.false c.write-in-Written.ensures).1;
+    }
 
 pub returns-in-Refused : goal.returns-in-Refused
 unfolding refused_form

@@ -1,0 +1,19 @@
+-- `runqueue::pop` meets its contract: each return is a law of the calls.
+-- Assumes nothing.
+use Rattle.crontab.specs.Tables.{table_of, verdict_of}
+use Rattle.runqueue.proofs.Exits.{pop-bad, pop-good}
+use Rattle.runqueue.proofs.pop.Goals as goal
+
+pub returns-then-refusal-ne0 : goal.returns-then-refusal-ne0
+unfolding verdict_of
+returns-then-refusal-ne0 c = let e = c.check-verdict.ensures in
+    let r = rw e (pop-bad _ _ (rw e at c.if-refusal-ne0.true)) in
+    record { answer = r.0; room = r.1 }
+
+pub returns : goal.returns
+unfolding verdict_of
+returns c =
+    let e = c.check-verdict.ensures in
+    let a = c.args in
+    let r = rw (pop-good (table_of a.rules a.table.now) a.room.now (rw e at c.if-refusal-ne0.false)) (rw e at c.pop.ensures) in
+    record { answer = r.0; room = r.1 }
