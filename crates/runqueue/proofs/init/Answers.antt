@@ -10,8 +10,7 @@ use Rattle.runqueue.proofs.init.Goals as goal
 pub returns-then-refusal-ne0 : goal.returns-then-refusal-ne0
 unfolding selected_by
 returns-then-refusal-ne0 c = let e = c.read-jobs.ensures in
-    let r = rw e (init-bad _ _ (rw e at c.if-refusal-ne0.taken)) in
-    record { answer = r.0; room = r.1 }
+    record { answer = rw e (init-bad _ _ (rw e at c.if-refusal-ne0.true)).0; room = (init-bad _ _ (rw e at c.if-refusal-ne0.true)).1 }
 
 pub overflow_cast-jobs : goal.overflow_cast-jobs
 unfolding selected_by
@@ -23,5 +22,4 @@ unfolding selected_by
 returns c =
     let a = c.args in
     let e = c.read-jobs.ensures in
-    let r = rw (init-called (table_of a.rules a.table.now) (table-sound a.rules a.table.now).few a.room.now (rw e at c.if-refusal-ne0.left)) (rw e at c.init.ensures) in
-    record { answer = r.0; room = r.1 }
+    record { answer = rw (init-called (table_of a.rules a.table.now) (table-sound a.rules a.table.now).few a.room.now (rw e at c.if-refusal-ne0.false)) (rw e at c.init.ensures.answer); room = rw (init-called (table_of a.rules a.table.now) (table-sound a.rules a.table.now).few a.room.now (rw e at c.if-refusal-ne0.false)) (rw e at c.init.ensures.room) }

@@ -7,13 +7,11 @@ use Rattle.runqueue.proofs.pop.Goals as goal
 pub returns-then-refusal-ne0 : goal.returns-then-refusal-ne0
 unfolding verdict_of
 returns-then-refusal-ne0 c = let e = c.check-verdict.ensures in
-    let r = rw e (pop-bad _ _ (rw e at c.if-refusal-ne0.true)) in
-    record { answer = r.0; room = r.1 }
+    record { answer = rw e (pop-bad _ _ (rw e at c.if-refusal-ne0.true)).0; room = (pop-bad _ _ (rw e at c.if-refusal-ne0.true)).1 }
 
 pub returns : goal.returns
 unfolding verdict_of
 returns c =
     let e = c.check-verdict.ensures in
     let a = c.args in
-    let r = rw (pop-good (table_of a.rules a.table.now) a.room.now (rw e at c.if-refusal-ne0.false)) (rw e at c.pop.ensures) in
-    record { answer = r.0; room = r.1 }
+    record { answer = rw (pop-good (table_of a.rules a.table.now) a.room.now (rw e at c.if-refusal-ne0.false)) (rw e at c.pop.ensures.answer); room = rw (pop-good (table_of a.rules a.table.now) a.room.now (rw e at c.if-refusal-ne0.false)) (rw e at c.pop.ensures.room) }

@@ -10,8 +10,7 @@ use Rattle.runqueue.proofs.tick.Goals as goal
 pub returns-then-refusal-ne0 : goal.returns-then-refusal-ne0
 unfolding selected_by
 returns-then-refusal-ne0 c = let e = c.read-jobs.ensures in
-    let r = rw e (tick-bad _ _ (rw e at c.if-refusal-ne0.true) _) in
-    record { answer = r.0; room = r.1 }
+    record { answer = rw e (tick-bad _ _ (rw e at c.if-refusal-ne0.true) _).0; room = (tick-bad _ _ (rw e at c.if-refusal-ne0.true) _).1 }
 
 pub overflow_cast-jobs : goal.overflow_cast-jobs
 unfolding selected_by
@@ -23,6 +22,4 @@ unfolding selected_by
 returns c =
     let a = c.args in
     let e = rw (c.case_of-case.ensures, c.mark_of.ensures) at c.read-jobs.ensures in
-    let r = rw (tick-called (table_of a.rules a.table.now) (table-sound a.rules a.table.now).few a.room.now (rw e at c.if-refusal-ne0.false) a.minute)
-    (rw e at c.tick.ensures) in
-    record { answer = r.0; room = r.1 }
+    record { answer = rw (tick-called (table_of a.rules a.table.now) (table-sound a.rules a.table.now).few a.room.now (rw e at c.if-refusal-ne0.false) a.minute) (rw e at c.tick.ensures.answer); room = rw (tick-called (table_of a.rules a.table.now) (table-sound a.rules a.table.now).few a.room.now (rw e at c.if-refusal-ne0.false) a.minute) (rw e at c.tick.ensures.room) }
