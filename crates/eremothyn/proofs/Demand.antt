@@ -128,11 +128,13 @@ module _ (table : List ℕ) (kind dialect : ℕ) (good : (table_of (rules_of kin
 
   names-answers : (e : ℕ) (cs : List Call) → Names jobs e cs → Answers table kind dialect e cs
   unfolding pop_number
+  names-answers e [] named = elim named [ ]
   names-answers e (tick minute room ∷ cs) named = names-answers e cs named
   names-answers e (pop room ∷ cs) (inl named) = inl (rw ((table-steps-good rules table good room 0).2, named))
   names-answers e (pop room ∷ cs) (inr named) = inr (names-answers e cs named)
 
   answers-names : (e : ℕ) (cs : List Call) → e < refused_from → Answers table kind dialect e cs → Names jobs e cs
+  answers-names e [] h told = elim told [ ]
   answers-names e (tick minute room ∷ cs) h told = answers-names e cs h told
   answers-names e (pop room ∷ cs) h (inl told) = inl (rw (table-steps-good rules table good room 0).2 at (pop-names _ e h told))
   answers-names e (pop room ∷ cs) h (inr told) = inr (answers-names e cs h told)
