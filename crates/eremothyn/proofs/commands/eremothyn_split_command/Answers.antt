@@ -17,11 +17,6 @@ use Rattle.command.specs.Buffers.{Split, split_step}
 use Rattle.eremothyn.specs.Commands.{split_number, split_in, split_of}
 use borrow.Author.Rules.{rules}
 use Rattle.eremothyn.proofs.commands.eremothyn_split_command.Goals as goal
-use Rattle.eremothyn.proofs.commands.eremothyn_split_command.Goals.{In-Found}
-
--- the entry that was found lies in the table
-sound : (c : In-Found) → Sound (length c.args.table.now) c.in-Found.found
-sound c = entry-sound _ _ _ (sym c.find_entry.ensures ∙ c.in-Found.is)
 
 -- what the split is, by the entry that is found
 split-found : (rules : Rules) (table : List ℕ) (i : ℕ) (e : Entry) (shell input : List ℕ) → entry_in (table_of rules table) i ≡ entry.Found e
@@ -35,13 +30,13 @@ unfolding split_of split_in
 split-refused rules table i n shell input q = rw q
 
 pub slice_bounds-split-count : goal.slice_bounds-split-count
-slice_bounds-split-count c = omega (arith, (sound (goal.at.After-struct_known-in-Found-1 c).In-Found).some)
+slice_bounds-split-count c = omega (arith, (entry-sound _ _ _ (sym c.find_entry.ensures ∙ c.in-Found.is)).some)
 
 pub slice_bounds-split-start : goal.slice_bounds-split-start
-slice_bounds-split-start c = omega (arith, (sound (goal.at.After-struct_known-in-Found-1 c).In-Found).some)
+slice_bounds-split-start c = omega (arith, (entry-sound _ _ _ (sym c.find_entry.ensures ∙ c.in-Found.is)).some)
 
 pub slice_bounds-split-end : goal.slice_bounds-split-end
-slice_bounds-split-end c = omega (arith, (sound (goal.at.After-struct_known-in-Found-1 c).In-Found).within)
+slice_bounds-split-end c = omega (arith, (entry-sound _ _ _ (sym c.find_entry.ensures ∙ c.in-Found.is)).within)
 
 pub returns-in-Found : goal.returns-in-Found
 unfolding between
