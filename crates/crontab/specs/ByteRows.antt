@@ -1,6 +1,6 @@
 -- Every byte where it may end a line: newline alone does. And the numbers of a table's refusals.
 -- Assumes nothing.
-use Rattle.std.specs.Prelude.{ℕ, ◌+◌, ◌-◌, ◌≡◌, refl, List, [], ◌∷◌, ◌++◌}
+use Rattle.std.specs.Prelude.{ℕ, ◌≡◌, refl, List, [], ◌∷◌, ◌++◌}
 use Rattle.octets.specs.Texts.{text}
 use Rattle.octets.specs.AllBytes.{Lead, one, range, trying}
 use Rattle.field.specs.declared.Dialect.TheVariants.{Rising}

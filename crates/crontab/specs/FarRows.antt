@@ -1,7 +1,7 @@
 -- Rows far from a table's begin: line numbers, places and columns past 10, 12 and 15 bits, under both kinds and dialects; and settings of tables that
 -- are refused.
 -- Assumes nothing.
-use Rattle.std.specs.Prelude.{ℕ, ◌+◌, ◌-◌, ◌/◌, ◌≡◌, refl, List, [], ◌∷◌, ◌++◌, replicate, negsuc}
+use Rattle.std.specs.Prelude.{ℕ, ◌≡◌, refl, List, [], ◌∷◌, ◌++◌, replicate, negsuc}
 use Rattle.octets.specs.Texts.{text}
 use Rattle.octets.specs.Rows.{Hold}
 use Rattle.field.specs.declared.Dialect.TheVariants.{Rising, Wrapping}

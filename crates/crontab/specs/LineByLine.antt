@@ -1,7 +1,7 @@
 -- A table line by line, without a walk (T9): what some lines together decide for the line after them. `proofs/LineByLine` says by these
 -- what each line of a table is in it.
 -- Assumes nothing.
-use Rattle.std.specs.Prelude.{◌≡◌, ℕ, ◌+◌, ◌≤◌, Bool, true, false, List, [], ◌∷◌, length, ℤ}
+use Rattle.std.specs.Prelude.{ℕ, ◌+◌, List, [], ◌∷◌, length, ℤ}
 use Rattle.line.specs.declared.Rules.{Rules}
 use Rattle.line.specs.declared.Line.{Line}
 use Rattle.line.specs.declared.Line.TheVariants as line

@@ -7,11 +7,11 @@ ghost use Rattle.crontab.specs.Inner.{behind, Reached, LineAt, StepIs, ItemIs};
 
 use crate::entry::Entry;
 use crate::{CUT_TABLE, MAX_ENTRIES, TOO_MANY_ENTRIES};
-use octets::class::Class;
-use octets::run::skip;
 use line::offset::in_force;
 use line::time::When;
 use line::{Fault, Line, Part, Rules};
+use octets::class::Class;
+use octets::run::skip;
 
 // Where a line starts, its number from 1, how many entries stand before it, and the offset from UTC that is in force.
 #[derive(Clone, Copy)]

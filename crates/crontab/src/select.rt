@@ -8,9 +8,9 @@ ghost use Rattle.crontab.specs.Selections.{is_selected, date_under, refused_sele
 use crate::entry::Entry;
 use crate::item::Item;
 use crate::{MAX_ENTRIES, MAX_TABLE, TABLE_TOO_LONG, firing, item};
-use octets::bitset;
 use calendar::LAST_MINUTE;
 use line::Rules;
+use octets::bitset;
 use schedule::jump::Case;
 use schedule::local::{LocalDate, local_date};
 

@@ -2,7 +2,7 @@
 -- theorems speak, and C's numbers say the same as its answers.
 -- Assumes nothing.
 use mathlib.Core.Path.{◌≡◌, refl, sym, ap, ◌∙◌}
-use mathlib.Core.Logic.{◌⊎◌, inl, inr}
+use mathlib.Core.Logic.{inl, inr}
 use mathlib.Core.Bool.{Bool, true, false, not, cond, ◌&&◌, and-eq-true_iff}
 use mathlib.Core.List.{List, [], ◌∷◌, ◌++◌}
 use Prim.Native.Nat.{ℕ, zero, suc, ◌+◌, ◌-◌, ◌*◌, ◌≤◌, ◌<◌}
@@ -13,7 +13,6 @@ use borrow.Author.Tests.{ltb-true, leb-true, eqb-true, ne_eqb, le-leb, lt-leb}
 use Rattle.octets.specs.Texts.{text}
 use Rattle.calendar.specs.Dates.{last_minute}
 use Rattle.line.specs.declared.Rules.{Rules}
-use Rattle.crontab.specs.declared.table.Table.{Table}
 use Rattle.crontab.specs.Limits.{max_entries}
 use Rattle.crontab.specs.declared.firing.DueAnswer.{DueAnswer}
 use Rattle.crontab.specs.declared.firing.DueAnswer.TheVariants as due
@@ -25,15 +24,15 @@ use Rattle.fifo.specs.declared.CountAnswer.{CountAnswer}
 use Rattle.fifo.specs.declared.CountAnswer.TheVariants as tick
 use Rattle.fifo.specs.declared.FrontAnswer.{FrontAnswer}
 use Rattle.fifo.specs.declared.FrontAnswer.TheVariants as pop
-use Rattle.fifo.specs.Layout.{limit, queue_of, stored, roomy, is_queue}
+use Rattle.fifo.specs.Layout.{queue_of, stored, roomy, is_queue}
 use Rattle.fifo.specs.Refusals.{tick_refusal, pop_refusal}
 use Rattle.fifo.specs.Steps.{Jobs, Step, fresh, init_step, standing, entry_step}
 use Rattle.fifo.specs.Fairness.{Call, tick, pop, room_after, refusal, is_refused, unrefused, ConsecutiveTicks, up_to, Names}
 use Rattle.fifo.specs.FairEvery.{ConsecutiveTicksEvery, steady_every}
 use Rattle.fifo.specs.Waits.{requests, up_to_request}
-use Rattle.fifo.specs.Buffer.{Use, tick_in, lent, call_on, buffer_after, calls_on, buffer_after_all, started}
+use Rattle.fifo.specs.Buffer.{Use, tick_in, call_on, buffer_after, calls_on, buffer_after_all, started}
 use Rattle.fifo.proofs.Theorems.{TickedWithin, PoppedWithin, buffer-follows, found-follows, standing-in, steady-every-consecutive}
-use Rattle.runqueue.specs.Calls.{init_table, tick_table, pop_table, entry_table}
+use Rattle.runqueue.specs.Calls.{tick_table, pop_table, entry_table}
 use Rattle.runqueue.specs.Jobs.{job_at, jobs_of}
 use Rattle.runqueue.specs.Demand.{jobs_in, CanFire, bound_from, OnCalendar, bound_every_from, OnCalendarEvery}
 use Rattle.runqueue.proofs.Theorems as runqueue
@@ -43,7 +42,7 @@ use Rattle.eremothyn.specs.Rules.{rules_of}
 use Rattle.eremothyn.specs.Tables.{check_number}
 use Rattle.eremothyn.specs.Entries.{due_number}
 use Rattle.eremothyn.specs.Queue.{tick_number, pop_number}
-use Rattle.eremothyn.specs.Calls.{check_call, due_call, queue_init_call, queue_pop_call, queue_entry_call}
+use Rattle.eremothyn.specs.Calls.{check_call, due_call, queue_init_call, queue_entry_call}
 use Rattle.eremothyn.specs.Computing.{answering}
 use Rattle.eremothyn.specs.Demand.{answer_to, bytes_after, buffer_made, buffer_left, buffer_left_by, calls_made, answered, Answers, whole}
 use Rattle.eremothyn.specs.Demand.{QueueFair, QueueFairEvery, QueueFairSteady, QueueWaitsExactly, QueueWaitsAtMost, QueueWaitsEvery}

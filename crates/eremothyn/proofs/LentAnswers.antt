@@ -1,7 +1,7 @@
 -- What is told of faults and dates, and what each lent run and buffer holds, for any table, rules, entry, minute, run and buffer: they are those of the crates below, with nothing
 -- in between. EachAnswer has the answers.
 -- Assumes nothing.
-use mathlib.Core.Path.{◌≡◌, refl, ap, ◌∙◌}
+use mathlib.Core.Path.{◌≡◌, refl, ap}
 use mathlib.Core.List.{List}
 use Prim.Native.Nat.{ℕ, ◌≤◌}
 use borrow.Author.Tests.{le-leb}

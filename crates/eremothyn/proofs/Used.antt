@@ -1,8 +1,8 @@
 -- Theorems of C's numbers that nothing else uses, used: the last entry of a system table in the second dialect, the calendar's last minute, a run that is longer
 -- than a date, and the last of the known days. An added hypothesis, or a part less of a conclusion, breaks one of these.
 -- Assumes nothing.
-use mathlib.Core.Path.{◌≡◌, refl}
-use mathlib.Core.List.{List, [], ◌∷◌, ◌++◌}
+use mathlib.Core.Path.{◌≡◌}
+use mathlib.Core.List.{List, [], ◌∷◌}
 use Prim.Native.Nat.{ℕ, ◌+◌, ◌≤◌, ◌<◌}
 use lib.ListN.{length}
 use Rattle.octets.specs.Texts.{text}
@@ -11,7 +11,7 @@ use Rattle.octets.specs.OverFront.{over_front}
 use Rattle.crontab.specs.declared.entry.Entry.{Entry}
 use Rattle.crontab.specs.declared.table.EntryAnswer.TheVariants.{Found}
 use Rattle.crontab.specs.Tables.{table_of, entry_in, command_in}
-use Rattle.command.specs.Parts.{given, shell_line, input_of}
+use Rattle.command.specs.Parts.{given, input_of}
 use Rattle.eremothyn.specs.declared.dates.DatePart.TheVariants.{Year, Month, Day, Hour, Minute, Weekday}
 use Rattle.eremothyn.specs.Rules.{rules_of}
 use Rattle.eremothyn.specs.Dates.{date_part, date_refusal, date_run}

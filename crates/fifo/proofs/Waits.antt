@@ -1,7 +1,7 @@
 -- A queued entry waits for as many requests as there are entries before it: an announcement only appends, and a request removes the front.
 -- Assumes nothing.
 use mathlib.Core.Path.{◌≡◌, refl, sym, ◌∙◌}
-use mathlib.Core.Logic.{◌⊎◌, inl, inr}
+use mathlib.Core.Logic.{inl, inr}
 use mathlib.Core.Bool.{Bool, true, false, ◌||◌, false≢true}
 use mathlib.Core.List.{List, [], ◌∷◌, ◌++◌}
 use Prim.Native.Nat.{ℕ, zero, suc, ◌-◌, ◌*◌, ◌≤◌, ◌<◌}
@@ -11,8 +11,8 @@ use borrow.Author.Tests.{eq-eqb}
 use Rattle.schedule.specs.declared.jump.Mark.{Mark}
 use Rattle.schedule.specs.Jumps.{mark_after}
 use Rattle.fifo.specs.declared.FrontAnswer.TheVariants.{Entry}
-use Rattle.fifo.specs.Queues.{Queue, is_waiting, entries_of, proper}
-use Rattle.fifo.specs.Steps.{Jobs, joiners, ticked, front, behind, popped, pop_step, standing}
+use Rattle.fifo.specs.Queues.{Queue, is_waiting, entries_of}
+use Rattle.fifo.specs.Steps.{Jobs, joiners, ticked, front, behind, popped, standing}
 use Rattle.fifo.specs.Fairness.{Call, tick, pop, unrefused, Names}
 use Rattle.fifo.specs.Waits.{requests, up_to_request, WaitsExactly, WaitsAtMost, CalledWaits, WaitsEvery}
 use Rattle.fifo.proofs.WaitingEntries.{entries-cons, entries-length}

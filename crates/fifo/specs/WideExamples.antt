@@ -1,6 +1,6 @@
 -- Queues of more than 255 entries, and numbers past 16 bits in the words of the claims, computed; and which queues are those of a table.
 -- Assumes nothing.
-use Rattle.std.specs.Prelude.{◌≡◌, refl, Bool, true, false, List, [], ◌∷◌, ◌++◌, ℕ, replicate}
+use Rattle.std.specs.Prelude.{◌≡◌, refl, Bool, true, false, List, [], ◌∷◌, ℕ, replicate}
 use Rattle.octets.specs.Rows.{Hold}
 use Rattle.schedule.specs.declared.jump.Mark.{Mark}
 use Rattle.schedule.specs.declared.jump.Mark.TheVariants.{None, At}

@@ -7,8 +7,8 @@ use mathlib.Core.List.{List, ◌∷◌}
 use Prim.Native.Nat.{ℕ, zero, suc, ◌+◌, ◌-◌, ◌≤◌, min}
 use native.Mathlib.Nat.{min-eq_left}
 use native.Mathlib.Omega.{arith}
-use lib.ListN.{length, get_or}
-use lib.Dec.{eqb, leb, ltb}
+use lib.ListN.{length}
+use lib.Dec.{eqb, leb}
 use borrow.Author.Tests.{leb-true, leb-false, eqb-false}
 use Rattle.octets.specs.Refusals.{IsRefusal}
 use Rattle.calendar.specs.Dates.{last_minute}
@@ -19,13 +19,13 @@ use Rattle.crontab.specs.declared.entry.Entry.{Entry}
 use Rattle.crontab.specs.declared.table.Table.{Table}
 use Rattle.crontab.specs.declared.table.EntryAnswer.{EntryAnswer}
 use Rattle.crontab.specs.declared.table.EntryAnswer.TheVariants as answer
-use Rattle.crontab.specs.Tables.{blank_entry, table_of, entry_in}
+use Rattle.crontab.specs.Tables.{table_of, entry_in}
 use Rattle.crontab.specs.Firings.{by_when, fires_at}
 use Rattle.crontab.proofs.Theorems.{table-sound, EntryBounded, entry-told}
 use Rattle.firings.specs.declared.Filled.TheVariants.{All, More}
 use Rattle.octets.specs.Passing.{passing, passing_up_to}
 use Rattle.firings.specs.Lists.{firings_of, merged_of}
-use Rattle.firings.specs.Calls.{EntryStep, MergedStep, max_places, filled, fitted, minutes_of, entries_of, refused_entry, listed_entry, firings_found, firings_answer, firings_in, room_in, refused_merged, listed_merged, merged_in}
+use Rattle.firings.specs.Calls.{EntryStep, MergedStep, max_places, filled, refused_entry, listed_entry, firings_found, firings_answer, firings_in, room_in, refused_merged, listed_merged, merged_in}
 use Rattle.firings.specs.Rising.{Few, Kept}
 
 pub passing-short : (p : ℕ → Bool) (n a : ℕ) → length (passing p n a) ≤ n

@@ -20,7 +20,7 @@
 use mathlib.Core.Path.{◌≡◌, refl, sym, ap, subst, ◌∙◌}
 use mathlib.Core.Bool.{Bool, true, false, cond, true≢false}
 use mathlib.Core.Logic.{inl, inr}
-use mathlib.Core.List.{List, [], ◌∷◌, ◌++◌, map, append_assoc}
+use mathlib.Core.List.{List, [], ◌∷◌, map}
 use Prim.Native.Nat.{ℕ, zero, suc, ◌+◌, ◌-◌, ◌*◌, ◌/◌, ◌%◌, ◌≤◌, ◌<◌}
 use native.Mathlib.Nat.{lt_of_not-le}
 use native.Mathlib.Decide.{dec_le}
@@ -38,7 +38,7 @@ use Rattle.crontab.specs.Tables.{blank_entry, table_of, entry_in}
 use Rattle.crontab.specs.Firings.{fires_at, due_of, due_answer, due_in}
 use Rattle.crontab.proofs.Theorems.{table-sound}
 use Rattle.octets.specs.Passing.{passing, passing_up_to}
-use Rattle.firings.specs.Lists.{Firing, firings_of, at_minute, entries_from, merged_over, fires_in, merged_up_to, merged_of}
+use Rattle.firings.specs.Lists.{Firing, firings_of, fires_in, merged_up_to, merged_of}
 use Rattle.firings.specs.Keys.{firing_of, is_firing}
 use Rattle.firings.specs.declared.Filled.{Filled}
 use Rattle.firings.specs.declared.Filled.TheVariants.{All}

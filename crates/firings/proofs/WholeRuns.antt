@@ -2,7 +2,7 @@
 -- Assumes nothing.
 use mathlib.Core.Path.{◌≡◌, refl, sym, ap, subst, ◌∙◌}
 use mathlib.Core.Bool.{Bool, true, false, cond}
-use mathlib.Core.List.{List, [], ◌∷◌, ◌++◌}
+use mathlib.Core.List.{List, ◌++◌}
 use Prim.Native.Nat.{ℕ, ◌≤◌, ◌<◌}
 use native.Mathlib.Omega.{arith}
 use lib.ListN.{length, take, drop, length-take}
@@ -19,7 +19,7 @@ use Rattle.crontab.specs.declared.table.EntryAnswer.TheVariants.{Found}
 use Rattle.crontab.specs.Tables.{entry_in}
 use Rattle.crontab.specs.Firings.{by_when}
 use Rattle.firings.specs.declared.Filled.{Filled}
-use Rattle.firings.specs.declared.Filled.TheVariants.{All, More, Refused}
+use Rattle.firings.specs.declared.Filled.TheVariants.{All, More}
 use Rattle.firings.specs.Lists.{Firing, firings_of, merged_of}
 use Rattle.firings.specs.Calls.{EntryStep, MergedStep, filled, fitted, refused_entry, listed_entry, firings_found, firings_answer, firings_in, minutes_of, entries_of, room_in, refused_merged, listed_merged, merged_in}
 use Rattle.firings.specs.Rising.{FilledBy}

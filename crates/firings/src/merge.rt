@@ -8,8 +8,8 @@ ghost use Rattle.firings.specs.Keys.{Good};
 use crate::Filled;
 use crate::after::following;
 use crate::tree::{WIDTH, build, key, put};
-use octets::size::lesser;
 use crontab::table::Table;
+use octets::size::lesser;
 
 // The greatest count of a list.
 const MAX_PLACES: usize = 4_294_967_295;

@@ -12,7 +12,6 @@ use Rattle.line.specs.declared.Part.{Part}
 use Rattle.line.specs.declared.assignment.Text.TheVariants.{Found, Malformed}
 use Rattle.line.specs.declared.user.Column.TheVariants as column
 use Rattle.line.specs.Users.{account_at, account_after, and_then, ended, column_at}
-use Rattle.line.specs.Times.{after}
 
 module _ (s : List ℕ) (at : ℕ) where
   pub account-none : run Account (drop at s) ≡ 0 → account_at s at ≡ Malformed

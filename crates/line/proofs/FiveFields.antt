@@ -21,7 +21,6 @@ use Rattle.line.specs.declared.time.When.TheVariants.{Timed}
 use Rattle.line.specs.declared.time.Time.{Time}
 use Rattle.line.specs.declared.time.Time.TheVariants as time
 use Rattle.line.specs.declared.time.Values.{Values}
-use Rattle.line.specs.declared.Line.TheVariants as line
 use Rattle.line.specs.Times.{answered, field_at, after, schedule_of, fields_at}
 use Rattle.line.specs.Words.{word_of, after_word, word_at}
 use Rattle.line.proofs.Spacing.{field-spaced, word-spaced}

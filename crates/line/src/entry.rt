@@ -6,9 +6,9 @@ ghost use Rattle.line.specs.Entries.{time_at, with_command, with_user, by_kind, 
 use crate::time::{Time, When};
 use crate::user::Column;
 use crate::{BAD_USER, Fault, Kind, Line, NO_COMMAND, Rules, time, user, word};
+use field::Dialect;
 use octets::class::Class;
 use octets::run::{byte_at, skip};
-use field::Dialect;
 
 // The time that starts at a place.
 fn time(s: &[u8], dialect: Dialect, at: usize) -> Time

@@ -15,9 +15,9 @@ ghost use Rattle.octets.specs.Runs.{skipped};
 ghost use Rattle.line.specs.Limits.{max_line};
 ghost use Rattle.line.specs.Lines.{starts_entry, content_of, byte_fault, read_line};
 
+use field::Dialect;
 use octets::class::Class;
 use octets::run::skip;
-use field::Dialect;
 use offset::Zone;
 use time::When;
 

@@ -5,9 +5,9 @@ ghost use Rattle.line.specs.Limits.{max_line};
 ghost use Rattle.line.specs.Times.{field_at, fields_at};
 
 use crate::{Fault, TOO_FEW_FIELDS};
+use field::{Answer, Dialect, Limits, in_dialect};
 use octets::class::Class;
 use octets::run::skip;
-use field::{Answer, Dialect, Limits, in_dialect};
 use schedule::{Schedule, Stars};
 
 // When an entry's command starts: at boot only, or at the minutes of a schedule.

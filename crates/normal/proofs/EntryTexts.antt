@@ -28,7 +28,6 @@ use Rattle.line.specs.declared.time.When.TheVariants.{Reboot, Timed}
 use Rattle.line.specs.declared.time.Field.TheVariants as field
 use Rattle.line.specs.declared.time.Time.TheVariants as time
 use Rattle.line.specs.Times.{answered, field_at, after, fields_at}
-use Rattle.line.specs.Words.{reboot}
 use Rattle.line.specs.Entries.{time_at, with_command, after_time, entry_at}
 use Rattle.line.specs.Lines.{starts_entry}
 use Rattle.crontab.specs.Computing.{reading}

@@ -9,8 +9,7 @@ use native.Mathlib.Omega.{arith}
 use lib.ListN.{length, length-append}
 use lib.Dec.{eqb, leb}
 use borrow.Author.Tests.{le-leb, lt-leb, leb-true, leb-false, eqb-true, ne_eqb}
-use Rattle.octets.specs.OverFront.{over_front}
-use Rattle.octets.specs.Clipped.{clipped, last_place, Wrote}
+use Rattle.octets.specs.Clipped.{last_place, Wrote}
 use Rattle.octets.proofs.Written.{clipped-laid, wrote_none, wrote-next, wrote-onward, wrote-size, wrote-fits, saturated-small, saturated-past}
 use Rattle.field.specs.declared.Dialect.{Dialect}
 use Rattle.crontab.specs.Limits.{max_table}
@@ -20,7 +19,7 @@ use Rattle.normal.specs.declared.NormalAnswer.{NormalAnswer}
 use Rattle.normal.specs.declared.NormalAnswer.TheVariants as answer
 use Rattle.normal.specs.Meanings.{Item, of_user, meaning_of}
 use Rattle.normal.specs.Texts.{normal_text, are_short, fits}
-use Rattle.normal.specs.NormalForms.{NormalForm, refused_form, form_over_front, form_of, normal_form}
+use Rattle.normal.specs.NormalForms.{refused_form, form_over_front, form_of, normal_form}
 use Rattle.normal.specs.Inner.{measured, form_for, Tried, text_refusal}
 
 module _ (refusal : ℕ) (t : List ℕ) where

@@ -9,7 +9,6 @@ use native.Mathlib.Omega.{arith}
 use lib.ListN.{length, length-append}
 use lib.Dec.{leb}
 use borrow.Author.Tests.{lt-ltb, lt-leb, le-leb, leb-true, leb-false}
-use Rattle.octets.specs.Runs.{between}
 use Rattle.field.specs.declared.Dialect.{Dialect}
 use Rattle.line.specs.declared.Rules.{Rules}
 use Rattle.crontab.specs.declared.item.Cursor.{Cursor}
@@ -21,15 +20,14 @@ use Rattle.crontab.specs.Limits.{max_table}
 use Rattle.line.specs.Limits.{max_line}
 use Rattle.crontab.specs.Items.{Items, items_of}
 use Rattle.crontab.specs.Inner.{items_at, Reached, given, counted, ItemIs}
-use Rattle.line.specs.Assignments.{part_bytes}
 use Rattle.crontab.specs.declared.table.Verdict.{Verdict}
 use Rattle.crontab.specs.Tables.{table_of, verdict_of}
 use Rattle.crontab.proofs.Items.{start, items-start, start-reached, items-end}
 use Rattle.crontab.proofs.Sound.{SoundItems, items-sound}
 use Rattle.crontab.proofs.Tables.{verdict_from, table-verdict}
 pub use Rattle.crontab.proofs.Walks.{Kept, last-variant, not-refused}
-use Rattle.normal.specs.Meanings.{Item, setting, entry_item, of_user, meanings, meaning_of}
-use Rattle.normal.specs.Texts.{item_text, normal_text, are_short}
+use Rattle.normal.specs.Meanings.{Item, of_user, meanings, meaning_of}
+use Rattle.normal.specs.Texts.{normal_text, are_short}
 use Rattle.normal.specs.Inner.{Within, line_text}
 
 -- ---- what a line gives

@@ -3,9 +3,8 @@
 use mathlib.Core.Path.{◌≡◌, refl, sym, ◌∙◌}
 use mathlib.Core.Bool.{Bool, true, false, cond}
 use mathlib.Core.List.{List, [], ◌∷◌, ◌++◌, append_assoc}
-use Prim.Native.Nat.{ℕ, ◌+◌, ◌≤◌}
-use native.Mathlib.Omega.{arith}
-use lib.ListN.{length, length-append}
+use Prim.Native.Nat.{ℕ}
+use lib.ListN.{length}
 use Rattle.octets.specs.declared.class.Class.TheVariants.{Not}
 use borrow.Author.Tests.{eq-eqb, ne_eqb}
 use Rattle.octets.specs.Runs.{are_of, skipped, between}
@@ -13,8 +12,6 @@ use Rattle.octets.proofs.Places.{skipped-whole}
 use Rattle.octets.proofs.Written.{wrote-next}
 use Rattle.octets.specs.Texts.{text}
 use Rattle.octets.specs.Clipped.{Wrote}
-use Rattle.field.specs.Limits.{minute_limits, hour_limits, day_limits, month_limits, weekday_limits}
-use Rattle.field.specs.Written.{field_text}
 use Rattle.schedule.specs.declared.Schedule.{Schedule}
 use Rattle.line.specs.declared.Part.{Part}
 use Rattle.crontab.specs.declared.entry.Entry as entry

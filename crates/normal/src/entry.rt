@@ -7,9 +7,9 @@ ghost use Rattle.normal.specs.Meanings.{entry_item};
 ghost use Rattle.normal.specs.Texts.{schedule_text, item_text};
 ghost use Rattle.normal.specs.Inner.{spaced};
 
-use octets::write;
 use field::{Limits, format};
 use line::time::When;
+use octets::write;
 use schedule::Schedule;
 
 const REBOOT: [u8; 8] = *b"@reboot ";

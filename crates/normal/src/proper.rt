@@ -5,11 +5,11 @@ ghost use Rattle.normal.specs.Proper.{is_quotable, is_name, is_value, is_command
 ghost use Rattle.line.specs.Offsets.{is_offset, is_allowed_setting};
 
 use crate::setting::{is_bare_name, is_bare_value};
-use octets::class::{Class, is_in};
-use octets::run::{byte_at, skip};
 use field::format::is_field;
 use line::offset;
 use line::offset::OffsetAnswer;
+use octets::class::{Class, is_in};
+use octets::run::{byte_at, skip};
 use schedule::Schedule;
 
 // Whether all bytes are of a kind.

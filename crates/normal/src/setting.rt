@@ -5,10 +5,10 @@ ghost use Rattle.normal.specs.Meanings.{setting};
 ghost use Rattle.normal.specs.Texts.{starts_other, is_bare_name, is_bare_value, item_text};
 ghost use Rattle.normal.specs.Inner.{quote_for, bare_or_quoted};
 
+use line::starts_entry;
 use octets::class::{Class, is_in, is_quote};
 use octets::run::{byte_at, skip, trimmed_end};
 use octets::write;
-use line::starts_entry;
 
 // Whether a line that starts with this byte is a comment or an entry.
 fn starts_other(b: u8) -> bool

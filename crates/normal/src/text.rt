@@ -5,8 +5,8 @@ ghost use Rattle.octets.specs.Clipped.{Wrote};
 ghost use Rattle.normal.specs.Inner.{PartOf, Within, line_text};
 
 use crate::{entry, setting};
-use octets::write;
 use crontab::item::Item;
+use octets::write;
 
 // Some bytes of a table.
 pub fn part(s: &[u8], start: usize, end: usize) -> &[u8]

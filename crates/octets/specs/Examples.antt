@@ -1,6 +1,6 @@
 -- The bytes of each kind, all 256 tried in order; numbers in bytes; and texts in a buffer.
 -- Assumes nothing.
-use Rattle.std.specs.Prelude.{◌≡◌, refl, Bool, true, false, List, [], ◌∷◌, ◌++◌, map, ℕ, zero, suc, ◌*◌, get_or}
+use Rattle.std.specs.Prelude.{◌≡◌, refl, Bool, List, [], ◌∷◌, ◌++◌, map, ℕ, zero, suc, ◌*◌, get_or}
 use Rattle.std.proofs.Common.{ap, arith}
 use Rattle.octets.specs.AllBytes.{bytes_where, trying}
 use Rattle.octets.specs.Classes.{is_blank, is_quote, is_account, is_control, of_class}

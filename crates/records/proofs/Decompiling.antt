@@ -1,11 +1,11 @@
 -- Laws of the walks over records: what a step writes and what it leaves make up what was left before.
 -- Assumes nothing.
-use mathlib.Core.Path.{◌≡◌, refl, sym, ap, ◌∙◌}
+use mathlib.Core.Path.{◌≡◌, refl, sym, ◌∙◌}
 use mathlib.Core.Bool.{Bool, true, false, cond, ◌&&◌, ◌||◌}
 use mathlib.Core.List.{List, [], ◌∷◌, ◌++◌, append_assoc}
 use Prim.Native.Nat.{ℕ, zero, suc, ◌+◌, ◌≤◌, ◌<◌}
 use native.Mathlib.Omega.{arith}
-use lib.ListN.{length, drop, length-append, length-drop, drop_of_length-le}
+use lib.ListN.{length, drop, length-drop, drop_of_length-le}
 use lib.Dec.{eqb, leb}
 use borrow.Author.Tests.{le-leb, lt-leb, ne_eqb, eqb-false}
 use Rattle.octets.specs.Runs.{between}
@@ -13,8 +13,8 @@ use Rattle.line.specs.declared.time.When.{When}
 use Rattle.line.specs.declared.time.When.TheVariants.{Reboot, Timed}
 use Rattle.crontab.specs.Limits.{max_entries}
 use Rattle.line.specs.Limits.{max_line}
-use Rattle.normal.specs.Meanings.{Item, setting, boot, timed, entry_item, entries_in}
-use Rattle.normal.specs.Texts.{item_text, normal_text, are_short, fits}
+use Rattle.normal.specs.Meanings.{Item, boot, entry_item, entries_in}
+use Rattle.normal.specs.Texts.{normal_text, are_short, fits}
 use Rattle.normal.specs.Proper.{is_item}
 use Rattle.normal.specs.NormalForms.{refused_form, form_over_front, form_of}
 use Rattle.normal.specs.Inner.{form_for}

@@ -5,7 +5,7 @@ use mathlib.Core.Bool.{Bool, true, false, cond}
 use mathlib.Core.List.{List, [], ◌∷◌, ◌++◌, append_assoc}
 use Prim.Native.Nat.{ℕ, zero, suc, ◌+◌, ◌-◌, ◌≤◌}
 use native.Mathlib.Omega.{arith}
-use lib.ListN.{length, take}
+use lib.ListN.{take}
 use lib.Dec.{leb}
 use Rattle.records.specs.Formats.{record_of}
 use Rattle.records.specs.Readings.{Records, Content, skipped, refused, means, content_of, skipped_from, is_skipped, split, Decoded, after_record, decode_from, decode, decoded_fault}

@@ -6,7 +6,7 @@ use mathlib.Core.List.{List, [], ◌∷◌, ◌++◌}
 use Prim.Native.Nat.{ℕ, ◌+◌, ◌-◌, ◌≤◌, ◌<◌}
 use native.Mathlib.Nat.{add-zero}
 use native.Mathlib.Omega.{arith}
-use lib.ListN.{length, take, drop, length-drop, length-append}
+use lib.ListN.{length, take, drop, length-drop}
 use lib.Seq.{take_all, drop-drop}
 use lib.Dec.{eqb, leb, ltb}
 use borrow.Author.Tests.{le-leb, lt-leb, lt-ltb, le-ltb}
@@ -21,7 +21,7 @@ use Rattle.records.specs.declared.body.Content as held
 use Rattle.records.specs.declared.body.Content.TheVariants.{Skipped, Entry, Setting, Refused}
 use Rattle.records.specs.declared.record.Step.{Step}
 use Rattle.records.specs.Formats.{kind_of}
-use Rattle.records.specs.Readings.{number_at, length_at, is_cut, decode_from, after_record, schedule_at, timed_in, setting_in, Content, refused, means, meant, content_of}
+use Rattle.records.specs.Readings.{number_at, length_at, is_cut, decode_from, after_record, schedule_at, timed_in, setting_in, refused, means, meant, content_of}
 use Rattle.records.specs.InnerReaders.{found, Within, places_of, BodyIs, step_at, StepIs, line_found}
 use Rattle.records.proofs.Splits.{split-cut, split-next}
 

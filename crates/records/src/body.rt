@@ -7,10 +7,10 @@ ghost use Rattle.records.specs.Readings.{stars_of, schedule_at, timed_in, settin
 ghost use Rattle.records.specs.InnerReaders.{found, Within, BodyIs};
 
 use crate::{BOOT, MEANINGLESS, SCHEDULE_SIZE, SETTING, TIMED, UNKNOWN_KIND, ZONE, kind};
-use octets::{little_endian, set};
 use line::time::When;
 use normal::proper::{is_command, is_name, is_schedule, is_value, is_zoned};
 use normal::text::part;
+use octets::{little_endian, set};
 use schedule::{Schedule, Stars};
 
 // What is found in a body. Places are the body's.

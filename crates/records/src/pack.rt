@@ -10,10 +10,10 @@ ghost use Rattle.records.specs.Formats.{flags_of, schedule_bytes, setting_kind_o
 ghost use Rattle.records.specs.InnerWriters.{head_of, item_record, record_part};
 
 use crate::{BOOT, SCHEDULE_SIZE, TIMED, kind};
-use octets::{little_endian, write};
 use crontab::item::Item;
 use line::time::When;
 use normal::text::part;
+use octets::{little_endian, write};
 use schedule::{Schedule, Stars};
 
 // What stands before a body of so many bytes: the length counts the kind too.

@@ -3,9 +3,9 @@ ghost use Rattle.octets.specs.Clipped.{Wrote};
 ghost use Rattle.records.specs.InnerReaders.{Within, line_found};
 
 use crate::body::Content;
-use octets::write;
 use normal::text::part;
 use normal::{entry, setting};
+use octets::write;
 
 // Writes it at a place, and answers the place after it.
 pub(crate) fn write(body: &[u8], content: Content, out: &mut [u8], at: usize) -> usize

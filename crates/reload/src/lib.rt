@@ -11,12 +11,12 @@ ghost use Rattle.fifo.specs.Layout.{queue_of, is_queue};
 ghost use Rattle.reload.specs.Targets.{ranked_or_last, target_in, reloaded};
 ghost use Rattle.reload.specs.Calls.{reload_tables};
 
-use octets::bitset;
 use crontab::MAX_ENTRIES;
 use crontab::select::WORDS;
 use crontab::table::{EntryAnswer, check, find_entry};
 use fifo::{CountAnswer, FrontAnswer, NOT_A_QUEUE};
 use line::Rules;
+use octets::bitset;
 
 // Of the numbers below n in a set the one of a rank, or the last one if there are fewer; n if there is none.
 fn ranked_or_last(members: &[u64], n: usize, rank: usize) -> usize

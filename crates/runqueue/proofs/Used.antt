@@ -1,18 +1,17 @@
 -- Theorems by table bytes that nothing else uses, used: a fresh queue of a system table with 512 entries in the second dialect, and the demand's bound that is met
 -- exactly. An added hypothesis, or a part less of a conclusion, breaks one of these.
 -- Assumes nothing.
-use mathlib.Core.Path.{◌≡◌, refl}
+use mathlib.Core.Path.{◌≡◌}
 use mathlib.Core.Logic.{◌↔◌}
-use mathlib.Core.Bool.{true, false}
-use mathlib.Core.List.{List, [], ◌∷◌}
+use mathlib.Core.Bool.{true}
+use mathlib.Core.List.{List}
 use Prim.Native.Nat.{ℕ, ◌+◌, ◌-◌}
 use lib.ListN.{take}
 use Rattle.field.specs.declared.Dialect.TheVariants.{Rising, Wrapping}
 use Rattle.line.specs.declared.Rules.{Rules}
 use Rattle.line.specs.declared.Kind.TheVariants.{User, System}
 use Rattle.crontab.specs.Tables.{table_of}
-use Rattle.schedule.specs.declared.jump.Mark.TheVariants.{None}
-use Rattle.fifo.specs.Layout.{queue_of, roomy, is_queue}
+use Rattle.fifo.specs.Layout.{roomy}
 use Rattle.fifo.specs.Fairness.{up_to, Names}
 use Rattle.fifo.specs.Buffer.{calls_on, buffer_after_all, started}
 use Rattle.fifo.specs.Steady.{steady}

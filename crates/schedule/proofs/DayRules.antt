@@ -5,7 +5,6 @@ use mathlib.Core.Path.{◌≡◌, refl}
 use Rattle.schedule.specs.Local.{max_west}
 use mathlib.Core.Bool.{Bool, true, false, ◌&&◌, ◌||◌}
 use Prim.Native.Nat.{ℕ, ◌+◌, ◌≤◌, ◌<◌}
-use native.Mathlib.Omega.{arith}
 use Rattle.octets.specs.Sets.{has_bit}
 use Rattle.calendar.specs.Dates.{date_at}
 use Rattle.calendar.specs.declared.Date.{Date}

@@ -6,8 +6,8 @@ ghost use Rattle.schedule.specs.Search.{from};
 ghost use Rattle.schedule.specs.Days.{matches_in_month, month_set, MonthAfter};
 
 use crate::Schedule;
-use octets::set::{has, next};
 use calendar::{CALENDAR_DAYS, DAY_MINUTES};
+use octets::set::{has, next};
 
 // Whether day and weekday must both match: either field begins with `*`.
 pub(crate) fn both_must(s: Schedule) -> bool

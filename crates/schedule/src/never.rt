@@ -7,8 +7,8 @@ ghost use Rattle.schedule.specs.Next.{can_fire};
 use crate::Schedule;
 use crate::day::both_must;
 use crate::time::time_from;
-use octets::set::{has, next};
 use calendar::DAY_MINUTES;
+use octets::set::{has, next};
 
 // A leap year, in which each month is as long as it ever is.
 const LEAP_YEAR: u64 = 2000;

@@ -4,8 +4,8 @@ ghost use Rattle.schedule.specs.Match.{matches_at};
 ghost use Rattle.schedule.specs.Search.{from};
 
 use crate::Schedule;
-use octets::set::{has, next};
 use calendar::DAY_MINUTES;
+use octets::set::{has, next};
 
 // The least minute of the day from `t` on whose hour and minute are in their sets, or 1,440.
 pub(crate) fn time_from(s: Schedule, t: u64) -> u64

@@ -24,11 +24,10 @@ pub set_mark-requires : goal.set_mark-requires
 set_mark-requires c = ((c.args.n, c.requires.0), c.requires.2)
 
 pub join-requires : goal.join-requires
-join-requires c =
-    (
-      written_is c.args.n _ c.args.buffer.now (omega arith) (queue-known _ _ c.requires.0).roomy-is (marked (goal.at.join-requires c).After-set_mark) c.set_mark.ensures,
-      rw (read (goal.at.join-requires c).After-set_mark) c.requires.1,
-    )
+join-requires c = (
+  written_is c.args.n _ c.args.buffer.now (omega arith) (queue-known _ _ c.requires.0).roomy-is (marked (goal.at.join-requires c).After-set_mark) c.set_mark.ensures,
+  rw (read (goal.at.join-requires c).After-set_mark) c.requires.1,
+)
 
 pub returns : goal.returns
 unfolding joined

@@ -26,11 +26,10 @@ pub clear-requires : goal.clear-requires
 clear-requires c = omega (arith, roomy-size _ _ (enough (goal.at.clear-requires c).Then-has_room))
 
 pub join-requires : goal.join-requires
-join-requires c =
-    (
-      written_is c.args.n _ c.args.buffer.now (omega arith) (enough (goal.at.join-requires c).Then-has_room) (none-proper c.args.n None refl) c.clear.ensures,
-      rw (emptied (goal.at.join-requires c).After-clear) (gathered_none 1024),
-    )
+join-requires c = (
+  written_is c.args.n _ c.args.buffer.now (omega arith) (enough (goal.at.join-requires c).Then-has_room) (none-proper c.args.n None refl) c.clear.ensures,
+  rw (emptied (goal.at.join-requires c).After-clear) (gathered_none 1024),
+)
 
 pub returns-then-has_room : goal.returns-then-has_room
 unfolding init_called joined

@@ -1,4 +1,3 @@
-use Prim.Native.Nat.{◌-◌}
 use native.Mathlib.Omega.{arith}
 use Rattle.calendar.specs.Gregorian.{year_days}
 use Rattle.calendar.specs.Dates.{year_of}

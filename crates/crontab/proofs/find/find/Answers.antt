@@ -1,11 +1,10 @@
 use mathlib.Core.Path.{◌∙◌}
-use Prim.Native.Nat.{◌-◌}
 use borrow.Author.Tests.{lt-ltb}
 use Rattle.crontab.specs.Limits.{max_table}
 use Rattle.crontab.specs.Items.{items_of}
 use Rattle.crontab.specs.Findings.{found_or, finding_from, finding_of}
 use Rattle.crontab.proofs.Items.{items-start, start-reached, items-end}
-use Rattle.crontab.proofs.Walks.{last-variant, not-refused, step_less, finding-next, finding-refused}
+use Rattle.crontab.proofs.Walks.{not-refused, step_less, finding-next, finding-refused}
 use Rattle.crontab.proofs.find.find.Goals as goal
 
 pub returns-then-s-gt-MAX_TABLE : goal.returns-then-s-gt-MAX_TABLE

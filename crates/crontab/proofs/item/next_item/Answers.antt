@@ -1,6 +1,5 @@
-use Prim.Native.Nat.{◌-◌}
 use native.Mathlib.Omega.{arith}
-use Rattle.crontab.proofs.Items.{skipped-none, skipped-line, skipped-item, skipped-end, first-variant}
+use Rattle.crontab.proofs.Items.{skipped-none, skipped-line, skipped-item, skipped-end}
 use Rattle.crontab.proofs.item.next_item.Goals as goal
 
 pub loop-c-init : goal.loop-c-init

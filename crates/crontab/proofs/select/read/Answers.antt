@@ -1,5 +1,4 @@
 use mathlib.Core.Path.{sym, ap, ◌∙◌}
-use Prim.Native.Nat.{◌-◌}
 use Rattle.crontab.specs.Selections.{date_under}
 use Rattle.crontab.proofs.Walks.{less-entry, less-setting, entry-under}
 use Rattle.crontab.proofs.Selections.{selecting-long, selecting-starts, selecting-ends, selecting-refused, selecting-setting, selecting-entry, date-kept, date-back}

@@ -1,7 +1,7 @@
 -- `crontab::table::check` meets its contract: it is what the item that was found says.
 -- Assumes nothing.
 use mathlib.Core.Path.{refl, ◌∙◌}
-use Rattle.crontab.proofs.Walks.{last-variant, not-refused}
+use Rattle.crontab.proofs.Walks.{not-refused}
 use Rattle.crontab.proofs.Findings.{as_verdict, found-verdict, good-verdict}
 use Rattle.crontab.proofs.table.check.Goals as goal
 

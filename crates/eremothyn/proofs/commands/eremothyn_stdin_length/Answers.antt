@@ -2,9 +2,7 @@
 -- Assumes nothing.
 use mathlib.Core.Path.{sym, ◌∙◌}
 use native.Mathlib.Omega.{arith}
-use lib.ListN.{length}
 use Rattle.octets.specs.Runs.{between}
-use Rattle.crontab.proofs.Sound.{Sound}
 use Rattle.crontab.proofs.Theorems.{entry-sound}
 use Rattle.command.specs.Parts.{lengths_of}
 use Rattle.eremothyn.specs.Commands.{stdin_in, stdin_length}

@@ -1,5 +1,4 @@
 use mathlib.Core.Path.{sym, ◌∙◌}
-use Prim.Native.Nat.{◌-◌}
 use native.Mathlib.Omega.{arith}
 use Rattle.field.proofs.Lists.{reading-starts, reading-other, reading-last, reading-next}
 use Rattle.field.proofs.list.read.Goals as goal
@@ -20,10 +19,9 @@ returns-then-end-s c =
     ∙ c.loop-answer.invariant.0)
 
 pub loop-answer-preserved : goal.loop-answer-preserved
-loop-answer-preserved c =
-    (
-      rw (c.judge-answer.ensures, c.read-element.ensures)
-          (sym (reading-next _ _ _ _ _ _ c.skip-end.ensures.0 (rw c.read-element.ensures at (sym c.is_element.ensures ∙ c.if-is_element.true)) (omega arith))
-          ∙ c.loop-answer.invariant.0),
-      omega arith,
-    )
+loop-answer-preserved c = (
+  rw (c.judge-answer.ensures, c.read-element.ensures)
+      (sym (reading-next _ _ _ _ _ _ c.skip-end.ensures.0 (rw c.read-element.ensures at (sym c.is_element.ensures ∙ c.if-is_element.true)) (omega arith))
+      ∙ c.loop-answer.invariant.0),
+  omega arith,
+)

@@ -1,5 +1,4 @@
 use mathlib.Core.Path.{refl, sym, ◌∙◌}
-use Prim.Native.Nat.{◌-◌}
 use native.Mathlib.Omega.{arith}
 use Rattle.field.proofs.Naming.{alike-other, alike-first, alike-not, alike_end}
 use Rattle.field.proofs.name.is_name.Goals as goal
@@ -13,12 +12,11 @@ returns-then-lower-name c =
     ∙ c.loop-at.invariant.0
 
 pub loop-at-preserved : goal.loop-at-preserved
-loop-at-preserved c =
-    (
-      sym (alike-first _ _ c.if-s-name.true _ c.loop-at-test.true (sym c.lower.ensures ∙ c.if-lower-name.false))
-          ∙ c.loop-at.invariant.0,
-      omega arith,
-    )
+loop-at-preserved c = (
+  sym (alike-first _ _ c.if-s-name.true _ c.loop-at-test.true (sym c.lower.ensures ∙ c.if-lower-name.false))
+      ∙ c.loop-at.invariant.0,
+  omega arith,
+)
 
 pub returns-then-s-name : goal.returns-then-s-name
 returns-then-s-name c =

@@ -1,5 +1,4 @@
 use mathlib.Core.Path.{sym, ◌∙◌}
-use Prim.Native.Nat.{◌-◌}
 use native.Mathlib.Omega.{arith}
 use lib.ListN.{get_or}
 use Rattle.field.proofs.Numbers.{Digit, is_digit_lem, reading-starts, reading-room, reading-digit, reading-other, reading-ends, no-number-empty, no-number-long}

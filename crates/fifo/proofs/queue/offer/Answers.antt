@@ -1,6 +1,5 @@
 -- `fifo::queue::offer` meets its contract: an entry that joins is pushed, any other is passed over.
 -- Assumes nothing.
-use mathlib.Core.Path.{refl}
 use native.Mathlib.Omega.{arith}
 use Rattle.fifo.proofs.queue.offer.Goals as goal
 

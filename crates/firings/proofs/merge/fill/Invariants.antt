@@ -3,7 +3,6 @@
 -- Assumes nothing.
 use mathlib.Core.List.{List}
 use Prim.Native.Nat.{ℕ, ◌+◌, ◌-◌, ◌*◌}
-use Rattle.octets.specs.Search.{from}
 use Rattle.crontab.specs.declared.entry.Entry.{Entry}
 use Rattle.octets.specs.Passing.{passing_up_to}
 use Rattle.firings.specs.Lists.{fires_in}

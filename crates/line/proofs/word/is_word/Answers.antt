@@ -1,5 +1,4 @@
 use mathlib.Core.Path.{refl, sym, ◌∙◌}
-use Prim.Native.Nat.{◌-◌}
 use native.Mathlib.Omega.{arith}
 use Rattle.line.proofs.Words.{same-other, same_first, same_not, same_end}
 use Rattle.line.proofs.word.is_word.Goals as goal

@@ -1,8 +1,7 @@
 use mathlib.Core.Path.{refl}
-use Prim.Native.Nat.{◌-◌}
 use native.Mathlib.Omega.{arith}
 use Rattle.crontab.proofs.Walks.{step_less}
-use Rattle.normal.proofs.Walks.{table-long, last-variant, not-refused, going-starts, going-within, going_next, going-refused, refused-some, going-good}
+use Rattle.normal.proofs.Walks.{table-long, not-refused, going-starts, going-within, going_next, going-refused, refused-some, going-good}
 use Rattle.normal.proofs.Walks.{left-starts, left-ends, text-parts, parts_next, short-next}
 use Rattle.normal.proofs.Forms.{lined-onward, judged-starts, judged-next, judged-ends, refused-tried, text-refused, text-good}
 use Rattle.normal.proofs.table.write.Goals as goal

@@ -1,5 +1,4 @@
 use mathlib.Core.Path.{◌≡◌, refl, sym, ◌∙◌}
-use Prim.Native.Nat.{◌-◌}
 use native.Mathlib.Omega.{arith}
 use Rattle.octets.specs.BitSets.{has_member}
 use Rattle.octets.specs.Passing.{count_below, is_ranked}
@@ -31,15 +30,18 @@ loop-k-preserved c =
     let a = c.args in
     let p = has_member a.words.now in
     let is = c.has.ensures in
-    elim c.if-has.branch [ then-has+else-seen-rank w ↦ (
-      omega (arith, w.seen-is, l.invariant.0, below_next p l.k (sym is ∙ w.if-has.true)),
-      omega arith,
-      from_next (is_ranked p a.rank) a.n l.k (omega arith) (ranked-other p a.rank l.k (λ q. w.if-seen-rank.false (l.invariant.0 ∙ q))) ∙ l.invariant.2,
-    ) | else-has w ↦ (
-      omega (arith, w.seen-is, l.invariant.0, below-pass p l.k (sym is ∙ w.if-has.false)),
-      omega arith,
-      from_next (is_ranked p a.rank) a.n l.k (omega arith) (ranked-out p a.rank l.k (sym is ∙ w.if-has.false)) ∙ l.invariant.2,
-    ) ]
+    elim c.if-has.branch [
+      | then-has+else-seen-rank w ↦ (
+        omega (arith, w.seen-is, l.invariant.0, below_next p l.k (sym is ∙ w.if-has.true)),
+        omega arith,
+        from_next (is_ranked p a.rank) a.n l.k (omega arith) (ranked-other p a.rank l.k (λ q. w.if-seen-rank.false (l.invariant.0 ∙ q))) ∙ l.invariant.2,
+      )
+      | else-has w ↦ (
+        omega (arith, w.seen-is, l.invariant.0, below-pass p l.k (sym is ∙ w.if-has.false)),
+        omega arith,
+        from_next (is_ranked p a.rank) a.n l.k (omega arith) (ranked-out p a.rank l.k (sym is ∙ w.if-has.false)) ∙ l.invariant.2,
+      )
+    ]
 
 pub returns : goal.returns
 returns c =

@@ -1,5 +1,4 @@
 use mathlib.Core.Path.{refl, sym, ◌∙◌}
-use Prim.Native.Nat.{◌-◌}
 use Rattle.octets.proofs.Runs.{skipped-in, skipped-other, skipped-end}
 use native.Mathlib.Omega.{arith}
 use Rattle.octets.proofs.run.skip.Goals as goal

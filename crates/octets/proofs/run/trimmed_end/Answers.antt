@@ -1,5 +1,4 @@
 use mathlib.Core.Path.{sym, ap, ◌∙◌}
-use Prim.Native.Nat.{◌-◌}
 use native.Mathlib.Omega.{arith}
 use Rattle.octets.specs.Runs.{trimmed}
 use Rattle.octets.proofs.Runs.{trimmed-whole, trimmed-none, trimmed-empty, trimmed-blank, trimmed-other}

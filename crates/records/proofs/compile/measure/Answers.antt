@@ -1,9 +1,8 @@
 use mathlib.Core.Path.{refl}
-use Prim.Native.Nat.{◌-◌}
 use native.Mathlib.Omega.{arith}
 use Rattle.octets.proofs.Written.{near_next, near-size}
 use Rattle.crontab.proofs.Walks.{step_less}
-use Rattle.normal.proofs.Walks.{table-long, last-variant, not-refused, going-starts, going-within, going_next, going-refused, refused-some, going-good}
+use Rattle.normal.proofs.Walks.{table-long, not-refused, going-starts, going-within, going_next, going-refused, refused-some, going-good}
 use Rattle.normal.proofs.Walks.{left-starts, left-ends, left-none, text-parts, parts_next, short-next}
 use Rattle.normal.proofs.Forms.{lined-starts, lined-next, lined-ends, lined-onward, judged-starts, judged-next, judged-ends, resized, refused-alike, refused-measured, text-refused, text-good}
 use Rattle.records.specs.Formats.{records_of}

@@ -1,5 +1,4 @@
 use mathlib.Core.Path.{refl}
-use Prim.Native.Nat.{◌-◌}
 use native.Mathlib.Omega.{arith}
 use Rattle.crontab.proofs.Theorems.{table-short}
 use Rattle.crontab.proofs.Walks.{step_less}

@@ -1,8 +1,6 @@
 use borrow.Author.Rules.{rules}
 use mathlib.Core.Path.{refl, ◌∙◌}
-use Prim.Native.Nat.{◌-◌}
 use native.Mathlib.Omega.{arith}
-use Rattle.normal.proofs.Walks.{last-variant}
 use Rattle.records.specs.Readings.{decode, decoded_fault}
 use Rattle.records.specs.Calls.{record_fault}
 use Rattle.records.proofs.Decompiling.{decoded-end, not-refused, fault-next, fault-here}

@@ -1,12 +1,11 @@
 use mathlib.Core.Path.{◌≡◌, refl, sym, ap, ◌∙◌}
 use mathlib.Core.Bool.{Bool}
 use mathlib.Core.List.{List, []}
-use Prim.Native.Nat.{ℕ, ◌+◌, ◌-◌, ◌≤◌}
+use Prim.Native.Nat.{ℕ, ◌+◌, ◌≤◌}
 use native.Mathlib.Omega.{arith}
 use lib.ListN.{length}
 use Rattle.normal.specs.Meanings.{entries_in}
-use Rattle.normal.proofs.Walks.{last-variant}
-use Rattle.normal.proofs.Forms.{lined-onward, Judged, judged-starts, judged-next, judged-ends, refused-tried}
+use Rattle.normal.proofs.Forms.{lined-onward, judged-starts, judged-next, judged-ends, refused-tried}
 use Rattle.records.specs.Readings.{decode, decoded_items, decoded_refusal}
 use Rattle.records.proofs.Decompiling.{decoded_at, decoded-end, decoded-starts, not-refused, text-next, short-next, entries_next, refusal-next, refusal-here, records-refused, records-many, records-few}
 use Rattle.records.proofs.decompile.write.Invariants.{Left}

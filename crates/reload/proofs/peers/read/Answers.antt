@@ -1,5 +1,4 @@
 use mathlib.Core.Path.{◌∙◌}
-use Prim.Native.Nat.{◌-◌}
 use Rattle.crontab.proofs.Walks.{less-entry, less-setting, entry-sound}
 use Rattle.crontab.proofs.Selections.{selecting-long, selecting-starts, selecting-ends, selecting-refused, selecting-setting, selecting-entry}
 use Rattle.reload.specs.EntryMeanings.{means_as}

@@ -20,11 +20,10 @@ use Rattle.schedule.proofs.local.local_minute.Goals.{Else-local}
 -- the local minute is on the calendar
 on : (c : Else-local)
     → let a = c.args in (720 ≤ a.minute + biased_offset a.offset) × (a.minute + biased_offset a.offset ≤ last_minute + 720)
-on c =
-    (
-      ltb-false _ _ (sym (sum-negative c.ranges.offset c.requires.0 c.requires.1) ∙ c.if-local-lt0.false),
-      ltb-false _ _ (sym (sum_past c.ranges.offset c.requires.0 c.requires.1) ∙ c.if-local.false),
-    )
+on c = (
+  ltb-false _ _ (sym (sum-negative c.ranges.offset c.requires.0 c.requires.1) ∙ c.if-local-lt0.false),
+  ltb-false _ _ (sym (sum_past c.ranges.offset c.requires.0 c.requires.1) ∙ c.if-local.false),
+)
 
 pub overflow_cast-local-2 : goal.overflow_cast-local-2
 overflow_cast-local-2 c = widened c.ranges.offset

@@ -1,5 +1,4 @@
 use mathlib.Core.Path.{sym, ◌∙◌}
-use Prim.Native.Nat.{◌-◌}
 use Rattle.schedule.proofs.Search.{from-stop, from_next, from_past}
 use Rattle.schedule.proofs.never.month_with_date.Goals as goal
 
