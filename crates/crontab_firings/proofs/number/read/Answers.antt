@@ -1,5 +1,4 @@
 use mathlib.Core.Path.{sym, ◌∙◌}
-use Prim.Native.Nat.{◌-◌}
 use native.Mathlib.Omega.{arith}
 use Rattle.crontab_firings.proofs.Numbers.{some-digits, no-digits, digits-end, below-digits, above-digits, too-great, next-digit}
 use Rattle.crontab_firings.proofs.number.read.Goals as goal
