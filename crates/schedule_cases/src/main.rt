@@ -71,12 +71,15 @@ fn print(rt: &impl Print, case: &[u8; 32]) -> io::Result<()> {
     println!(rt; "{matches} {number}")
 }
 
-// The next case, none where the input ends before it does.
-fn next_case(input: &mut impl Read) -> io::Result<Option<[u8; 32]>> {
+// Reads one case and prints its answers, and says whether there was one.
+fn one_case(rt: &impl Print, input: &mut impl Read) -> io::Result<bool> {
     let mut case = [0u8; 32];
     match input.read_exact(&mut case) {
-        Ok(()) => Ok(Some(case)),
-        Err(e) if e.kind() == ErrorKind::UnexpectedEof => Ok(None),
+        Ok(()) => {
+            print(rt, &case)?;
+            Ok(true)
+        }
+        Err(e) if e.kind() == ErrorKind::UnexpectedEof => Ok(false),
         Err(e) => Err(e),
     }
 }
@@ -84,10 +87,9 @@ fn next_case(input: &mut impl Read) -> io::Result<Option<[u8; 32]>> {
 fn main(rt: HostRuntime) -> io::Result<()> {
     let mut input = rt.reader();
     for _ in 0..MOST_CASES {
-        let Some(case) = next_case(&mut input)? else {
+        if !one_case(&rt, &mut input)? {
             break;
-        };
-        print(&rt, &case)?;
+        }
     }
     Ok(())
 }
