@@ -1,8 +1,8 @@
 -- What a line and a list of lines are, byte by byte, for any minute and any entry: "a line each: minute, space, entry number".
 -- Assumes nothing.
-use mathlib.Core.Path.{◌≡◌, refl, sym, ap, ◌∙◌}
+use mathlib.Core.Path.{◌≡◌, ap, ◌∙◌}
 use mathlib.Core.List.{List, [], ◌∷◌, ◌++◌}
-use Prim.Native.Nat.{ℕ, zero, suc, ◌+◌, ◌-◌, ◌^◌, ◌≤◌, ◌<◌}
+use Prim.Native.Nat.{ℕ, suc, ◌+◌, ◌-◌, ◌^◌, ◌≤◌, ◌<◌}
 use native.Mathlib.Nat.{zero-lt-suc, pow-le-pow_right, lt_of_not-le}
 use native.Mathlib.Decide.{dec_le}
 use native.Mathlib.Omega.{arith}
@@ -12,7 +12,7 @@ use Rattle.crontab.specs.declared.table.Table.{Table}
 use Rattle.firings.specs.Lists.{merged_over, merged_up_to, merged_of}
 use Rattle.firings.specs.Calls.{minutes_of, entries_of}
 use Rattle.crontab_firings.specs.Lines.{Decimal, Line, Lines}
-use Rattle.crontab_firings.specs.Pieces.{LinesOf, Pieces}
+use Rattle.crontab_firings.specs.Pieces.{Pieces}
 use Rattle.crontab_firings.proofs.Pieces.{pieces_whole}
 
 -- a number has one text

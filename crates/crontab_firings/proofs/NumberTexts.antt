@@ -1,12 +1,10 @@
 -- An argument of any length, digit by digit: zeros in front change nothing, a digit more counts ten times what was before it, and nothing else is a number.
 -- Assumes nothing.
-use mathlib.Core.Path.{◌≡◌, refl, sym, ◌∙◌}
+use mathlib.Core.Path.{◌≡◌, refl, ◌∙◌}
 use mathlib.Core.Bool.{Bool, true, false, cond}
 use mathlib.Core.List.{List, [], ◌∷◌, ◌++◌}
-use Prim.Native.Nat.{ℕ, ◌+◌, ◌-◌, ◌*◌, ◌≤◌, ◌<◌}
+use Prim.Native.Nat.{ℕ, ◌+◌, ◌-◌, ◌*◌}
 use native.Mathlib.Omega.{arith}
-use lib.ListN.{length}
-use Rattle.crontab_firings.specs.declared.number.Number.{Number}
 use Rattle.crontab_firings.specs.declared.number.Number.TheVariants.{Value, Bad}
 use Rattle.crontab_firings.specs.Numbers.{goes_on, value_from, number_of}
 

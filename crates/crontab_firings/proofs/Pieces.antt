@@ -162,13 +162,16 @@ join-lines p q (suc k) u v h l (before, line, m, is, whole) =
     let entry : get_or (entries_of (p ++ q)) (length p + k) 0 ≡ get_or (entries_of q) k 0 = entries-right p q (length p + k) (omega arith) ∙ rw z in
     rw e (u ++ before, line, join-lines p q k u before (omega arith) l m, rw (minute, entry) is, rw whole (sym (append_assoc u before line)))
 
-pub pieces_whole : (t : Table) (a b : ℕ) (written : List ℕ) → Pieces t b a written → LinesOf (merged_of t a b) written
-pieces_whole t a b written (last w l) = l
-pieces_whole t a b written (more {next = next} w {later = later} h i l p) =
+lines-from : (t : Table) (b a : ℕ) (written : List ℕ) → Pieces t b a written → LinesOf (merged_of t a b) written
+lines-from t b a written (last w l) = l
+lines-from t b a written (more {next = next} w {later = later} h i l p) =
     let first = merged_of t a next in
     let second = merged_of t next b in
     rw (merged-split t a next b (omega arith) (omega arith), length-append first second)
-    (join-lines first second (length second) w later (omega arith) l (pieces_whole t next b later p))
+    (join-lines first second (length second) w later (omega arith) l (lines-from t b next later p))
+
+pub pieces_whole : (t : Table) (a b : ℕ) (written : List ℕ) → Pieces t b a written → LinesOf (merged_of t a b) written
+pieces_whole t a b written p = lines-from t b a written p
 
 -- a piece that ends with the list is its last; another goes before the pieces that go on where it ended
 pub piece-on : (t : Table) (a b size next : ℕ) (before now later : List ℕ) → PieceLines t a b before now size next

@@ -1,6 +1,8 @@
 // A file read whole: a read that fails is told from the file's end.
 ghost use Rattle.std.specs.Prelude.{◌≤◌, ◌<◌, length};
-ghost use Rattle.crontab_firings.specs.Files.{TurnIs, WholeIs};
+ghost use Rattle.crontab_firings.specs.Files.{TurnIs, TurnTakes, WholeIs, WholeTakes};
+
+use std::io::Read;
 
 // What one read gives.
 #[derive(Clone, Copy)]
@@ -19,27 +21,25 @@ pub enum Whole {
 }
 
 // One read, after so many bytes.
-fn read_more(fd: i32, text: &mut [u8], at: usize) -> Turn
+fn read_more<R: Read>(file: &mut R, text: &mut [u8], at: usize) -> Turn
     requires { at ≤ length text.old }
-    ensures { TurnIs at text.new result }
+    ensures count { TurnIs at text.new result }
+    ensures bytes { TurnTakes (R.remaining file.old) (R.remaining file.new) at text.old text.new result }
 {
-    let got = libc::read(fd, &mut text[at..]);
-    let n = io::count(got, &text[at..]);
-    if n == 0 {
-        if got < 0 {
-            return Turn::Failed;
-        }
-        return Turn::End;
+    match file.read(&mut text[at..]) {
+        Ok(0) => Turn::End,
+        Ok(n) => Turn::More(at + n),
+        Err(_) => Turn::Failed,
     }
-    Turn::More(at + n)
 }
 
-pub fn read(fd: i32, text: &mut [u8]) -> Whole
-    ensures { WholeIs text.new result }
+pub fn read<R: Read>(file: &mut R, text: &mut [u8]) -> Whole
+    ensures count { WholeIs text.new result }
+    ensures bytes { WholeTakes (R.remaining file.old) (R.remaining file.new) text.new result }
 {
     let mut at = 0;
     while at < text.len() {
-        match read_more(fd, text, at) {
+        match read_more(file, text, at) {
             Turn::More(next) => at = next,
             Turn::End => return Whole::Bytes(at),
             Turn::Failed => return Whole::Failed,

@@ -7,91 +7,94 @@ mod lines;
 mod number;
 mod piece;
 
-ghost use Rattle.std.specs.Prelude.{◌≡◌, ◌⊎◌, ◌<◌};
+ghost use Rattle.std.specs.Prelude.{◌≡◌, ◌⊎◌, ◌<◌, IfOk};
 
 use crontab::MAX_TABLE;
 use file::Whole;
-use libc::STDOUT_FILENO;
 use number::Number;
 use piece::Piece;
+use std::env::FillError;
+use std::io::Read;
+use std::rt::{Env, Files};
+use std::{fs, io, str};
 
 // As long as an argument can be on Linux.
 const MAX_ARGUMENT: usize = 131_072;
 
-fn refuse(number: u8) {
-    io::write_all(STDOUT_FILENO, b"refused ");
-    io::print_decimal(STDOUT_FILENO, number as u64);
-    io::write_all(STDOUT_FILENO, b"\n");
+// As long as the name of a file can be on Linux.
+const MAX_NAME: usize = 4096;
+
+fn refuse(rt: &impl Print, number: u8) -> io::Result<()> {
+    println!(rt; "refused {number}")
 }
 
 // Prints the firings after a minute, or the refusal. Answers the minute after which the list goes on, b where it ends.
-fn print_piece(table: &[u8], a: u64, b: u64) -> u64
-    ensures { (result ≡ b) ⊎ ((a < result) × (result < b)) }
+fn print_piece(rt: &impl Print, table: &[u8], a: u64, b: u64) -> io::Result<u64>
+    ensures { IfOk result (λ next. (next ≡ b) ⊎ ((a < next) × (next < b))) }
 {
     let mut text = [0u8; piece::ROOM];
     match piece::write(table, a, b, &mut text) {
         Piece::Lines { size, next } => {
-            io::write_all(STDOUT_FILENO, &text[..size]);
-            next
+            rt.write_all(&text[..size])?;
+            Ok(next)
         }
         Piece::Refused { number } => {
-            refuse(number);
-            b
+            refuse(rt, number)?;
+            Ok(b)
         }
     }
 }
 
 // Piece by piece, each of which goes on where the one before it ended.
-fn print_all(table: &[u8], a: u64, b: u64) {
-    let mut from = print_piece(table, a, b);
+fn print_all(rt: &impl Print, table: &[u8], a: u64, b: u64) -> io::Result<()> {
+    let mut from = print_piece(rt, table, a, b)?;
     while from < b {
-        from = print_piece(table, from, b);
+        from = print_piece(rt, table, from, b)?;
     }
+    Ok(())
 }
 
 // A number among the arguments.
-fn argument(i: usize) -> Number {
+fn argument(rt: &impl Env, i: usize) -> Number {
     let mut text = [0u8; MAX_ARGUMENT];
-    let n = os::arg(i, &mut text);
-    number::read(&text[..n])
+    match rt.arg(i, &mut text) {
+        Ok(n) => number::read(&text[..n]),
+        Err(_) => Number::Bad,
+    }
 }
 
-// Opens the file that the first argument names.
-fn open_file() -> i32 {
-    let mut path = io::buffer();
-    let n = os::arg(1, &mut path);
-    os::open_read(&path[..n])
+// Whether argument i is given, however long.
+fn has_argument(rt: &impl Env, i: usize) -> bool {
+    let mut text = [0u8; 1];
+    !matches!(rt.arg(i, &mut text), Err(FillError::NotPresent))
+}
+
+// Opens the file that the first argument names, none where it can't be.
+fn open_file<R: Env + Files>(rt: &R) -> Option<R::File> {
+    let mut text = [0u8; MAX_NAME];
+    let n = rt.arg(1, &mut text).ok()?;
+    let name = str::from_utf8(&text[..n]).ok()?;
+    fs::open(rt, name).ok()
 }
 
 // A byte more than a table may have is read, so that too long a file is refused as such.
-fn print_file(fd: i32, a: u64, b: u64) {
+fn print_file(rt: &impl Print, file: &mut impl Read, a: u64, b: u64) -> io::Result<()> {
     let mut table = [0u8; MAX_TABLE + 1];
-    match file::read(fd, &mut table) {
-        Whole::Bytes(n) => print_all(&table[..n], a, b),
-        Whole::Failed => refuse(0),
+    match file::read(file, &mut table) {
+        Whole::Bytes(n) => print_all(rt, &table[..n], a, b),
+        Whole::Failed => refuse(rt, 0),
     }
-    libc::close(fd);
 }
 
-fn main() {
-    let fd = open_file();
-    let a = argument(2);
-    let b = argument(3);
-    if os::arg_count() != 4 {
-        refuse(0);
-        return;
+fn main(rt: HostRuntime) -> io::Result<()> {
+    let file = open_file(&rt);
+    let a = argument(&rt, 2);
+    let b = argument(&rt, 3);
+    if !has_argument(&rt, 3) || has_argument(&rt, 4) {
+        return refuse(&rt, 0);
     }
-    if fd < 0 {
-        refuse(0);
-        return;
-    }
-    let Number::Value(after) = a else {
-        refuse(0);
-        return;
+    let (Some(mut file), Number::Value(after), Number::Value(last)) = (file, a, b) else {
+        return refuse(&rt, 0);
     };
-    let Number::Value(last) = b else {
-        refuse(0);
-        return;
-    };
-    print_file(fd, after, last);
+    print_file(&rt, &mut file, after, last)
 }

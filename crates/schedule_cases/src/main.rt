@@ -5,8 +5,12 @@
 
 ghost use Rattle.std.specs.Prelude.{◌+◌, ◌<◌, ◌^◌};
 
-use libc::{STDIN_FILENO, STDOUT_FILENO};
 use schedule::{Schedule, Stars};
+use std::io;
+use std::io::{ErrorKind, Read};
+
+// The cases are fewer.
+const MOST_CASES: u32 = 1_000_000;
 
 fn wide(byte: u8) -> u64
     ensures { result < 256 }
@@ -59,34 +63,33 @@ fn number_after(s: Schedule, minute: u64) -> u64 {
     4_294_967_296 + refusal as u64
 }
 
-fn print(case: &[u8; 32]) {
+fn print(rt: &impl Print, case: &[u8; 32]) -> io::Result<()> {
     let s = schedule_in(case);
     let minute = quad(case, 24) + 4_294_967_296 * quad(case, 28);
-    io::print_decimal(STDOUT_FILENO, schedule::matches(s, minute) as u64);
-    io::write_all(STDOUT_FILENO, b" ");
-    io::print_decimal(STDOUT_FILENO, number_after(s, minute));
-    io::write_all(STDOUT_FILENO, b"\n");
+    let matches = schedule::matches(s, minute) as u8;
+    let number = number_after(s, minute);
+    println!(rt; "{matches} {number}")
 }
 
 // Reads one case and prints its answers, and says whether there was one.
-fn one_case() -> bool {
+fn one_case(rt: &impl Print, input: &mut impl Read) -> io::Result<bool> {
     let mut case = [0u8; 32];
-    let n = io::read_full(STDIN_FILENO, &mut case);
-    if n < 32 {
-        return false;
+    match input.read_exact(&mut case) {
+        Ok(()) => {
+            print(rt, &case)?;
+            Ok(true)
+        }
+        Err(e) if e.kind() == ErrorKind::UnexpectedEof => Ok(false),
+        Err(e) => Err(e),
     }
-    print(&case);
-    true
 }
 
-// The cases are fewer than the turns, which make the loop end.
-fn main() {
-    let mut turns: u64 = 1_000_000;
-    while 0 < turns {
-        if one_case() {
-            turns -= 1;
-        } else {
-            return;
+fn main(rt: HostRuntime) -> io::Result<()> {
+    let mut input = rt.reader();
+    for _ in 0..MOST_CASES {
+        if !one_case(&rt, &mut input)? {
+            break;
         }
     }
+    Ok(())
 }

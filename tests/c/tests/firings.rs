@@ -6,7 +6,7 @@ use reference::random::Random;
 use reference::schedule::samples::start;
 use reference::table::firings::printed;
 use reference::table::{samples, Kind, ENTRIES, TABLE_BYTES};
-use std::ffi::{OsStr, OsString};
+use std::ffi::OsStr;
 use std::fs;
 use std::os::unix::ffi::OsStrExt;
 use std::path::PathBuf;
@@ -291,16 +291,16 @@ fn files() {
         // Before a minute off the calendar.
         assert_eq!(lister.list(name, u64::MAX.to_string(), "2"), REFUSED_0);
     }
-    let mut names: Vec<OsString> = ["-", "--help", " a b\n", "ä", "0"]
-        .map(OsString::from)
-        .into();
-    names.push(OsStr::from_bytes(b"\xff\x01").to_os_string());
-    for name in names {
-        let path = lister.folder.join(&name);
+    for name in ["-", "--help", " a b\n", "ä", "0"] {
+        let path = lister.folder.join(name);
         fs::write(&path, "* * * * * a\n").expect("the table is written");
-        assert_eq!(lister.list(&name, "0", "2"), "1 0\n2 0\n", "{name:?}");
+        assert_eq!(lister.list(name, "0", "2"), "1 0\n2 0\n", "{name:?}");
         fs::remove_file(path).expect("the table is removed");
     }
+    // A name that is no text names no file that can be read.
+    let name = OsStr::from_bytes(b"\xff\x01");
+    fs::write(lister.folder.join(name), "* * * * * a\n").expect("the table is written");
+    assert_eq!(lister.list_as(None, name, b"0", b"2"), REFUSED_0);
     // As long a name as the system takes, and a longer one.
     for (parts, readable) in [(2_000, true), (2_045, true), (2_046, false), (5_000, false)] {
         let name = "./".repeat(parts) + "table";
