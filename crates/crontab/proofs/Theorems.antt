@@ -21,7 +21,7 @@
 --   items_alike, table-alike: where all lines are read alike, so are the tables; untimed-table: a table of settings and words is the same in both dialects
 -- "Matching, next firing and the line are proved once over both": all the others here hold of any rules, whatever their dialect.
 -- Each rule once more in other words, for any bytes and numbers:
---   LineByLine: what each line of a table is in it, by the lines before it: good-accepted, all-accepted, too-long, fault-of-line, entry-too-many, last-cut,
+--   LineByLine: what each line of a table is in it, by the lines before it: good-accepted, all-accepted, too_long, fault-of-line, entry-too-many, last-cut,
 --     entry-of-line, setting-of-line, no-setting-of-line; LineEnds: line-ends, line-alone, cut-is
 --   EntryTimes: what an entry does goes by its time and its offset alone
 --   EntryAnswers: an equation for each way that an answer about an entry, its owner or a setting can go: entry-none, entry-bad, asked-found, asked-none, owner-found,

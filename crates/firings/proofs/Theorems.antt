@@ -15,7 +15,7 @@
 --   firings-kept, merged-kept: a refused call changes no number of a run
 --   Extremes uses these at their edges: entry-list-ends, entry-list-rises, table-list-ends, table-list-rises, split-ends, runs-all, piece-least
 --   ListAnswers has an equation for each way that an answer can go: list-refused, list-first-off, list-last-off, list-at-boot, list-by-time, table-bad, table-first-off,
---     table-last-off, table-listed, fits-all, fits-some
+--     table-last-off, table-listed, fits_all, fits-some
 -- Assumes nothing.
 use mathlib.Core.Path.{◌≡◌, refl, sym, ap, subst, ◌∙◌}
 use mathlib.Core.Bool.{Bool, true, false, cond, true≢false}

@@ -7,7 +7,7 @@
 --   written-good, written-means: items that pass the test and fit are written to a good table, which means them
 -- The normal form reads the same in either dialect (P10):
 --   normal-in-either: the normal text of a table that is good in a dialect is good in either dialect, and means there what the table means
---   read-back: so in the table's own
+--   read_back: so in the table's own
 --   meaning-offsets, offsets-back: the offsets that a table's entries are under follow from its meaning, so reading back carries them
 --   equal-meanings, equal-forms, equal-texts: equal meanings write equal bytes, whatever the buffer, and other meanings others
 --   normal-again, form-again: a normal text is written as itself

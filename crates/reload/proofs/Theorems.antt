@@ -7,7 +7,7 @@
 --   same-table: reloading the same table changes no byte
 --   reload-leaves, reload-fair: what it leaves is a line of the new table, and demand 3 goes on from there
 --   reload-told, reload-stays: what it can answer, and that a refused call leaves the room as it was
---   Extremes uses these at their edges: same-last, target-511, still-511, leaves-511, fair-511, same-bytes
+--   Extremes uses these at their edges: same-last, target-511, still-511, leaves-511, fair-511, same_bytes
 --   ReloadAnswers has an equation for each way that a reload can go: old-refused, new-refused, no-old-queue, no-new-room, reload-says; target-queued, duty-is; and the
 --     theorems above once more in full
 -- Assumes nothing.

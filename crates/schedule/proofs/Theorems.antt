@@ -24,7 +24,7 @@
 --   mark-stays: a mark of the calendar stays one
 --   unmarked-judged, far-judged, caught-up, held-judged: which minutes call an entry beside a mark, in plain orders; caught-up: a fixed one exactly if any minute since
 --     the mark matches; first-mark, mark-moves, mark-held: what the mark becomes
---   JumpRules also says what a mark may be: mark-none, mark-on, mark-off; Zones which number stands for an offset: ahead-is
+--   JumpRules also says what a mark may be: mark-none, mark_on, mark-off; Zones which number stands for an offset: ahead-is
 -- Assumes nothing.
 use mathlib.Core.Path.{◌≡◌, refl}
 use mathlib.Core.Bool.{Bool, true, false, cond}
