@@ -51,7 +51,7 @@ def snake(word):
     parts = []
     for part in word.split("-"):
         if re.match(r"[a-z]", part) and re.search(r"[A-Z]", part):
-            part = re.sub(r"(?<=[a-z0-9])(?=[A-Z])", "_", part).lower()
+            part = re.sub(r"(?<=[a-z0-9])(?=[A-Z])|(?<=[A-Z])(?=[A-Z][a-z])", "_", part).lower()
         parts.append(part)
     return "-".join(parts)
 

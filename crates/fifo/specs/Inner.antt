@@ -12,7 +12,7 @@ use Rattle.fifo.specs.declared.CountAnswer.{CountAnswer}
 use Rattle.fifo.specs.declared.CountAnswer.TheVariants.{Joined, Refused as NotTicked}
 use Rattle.fifo.specs.Queues.{Queue, is_waiting, pick}
 use Rattle.fifo.specs.Layout.{limit, queue_of, stored, queue_size, roomy, is_queue}
-use Rattle.fifo.specs.Refusals.{not_aqueue}
+use Rattle.fifo.specs.Refusals.{not_a_queue}
 use Rattle.fifo.specs.Steps.{Step}
 
 -- the bytes with the number x at place i
@@ -45,7 +45,7 @@ unfoldable pub init_called : ℕ → List ℕ → List ℕ → Step CountAnswer
 init_called n called room =
     cond (roomy n room)
     (record { answer = Joined (length (callees n called [])); room = stored (record { mark = None; waiting = callees n called [] }) room })
-    (record { answer = NotTicked not_aqueue; room = room })
+    (record { answer = NotTicked not_a_queue; room = room })
 
 unfoldable pub joined : ℕ → List ℕ → Mark → Queue → Queue
 joined n called mark l = record { mark = mark; waiting = l.waiting ++ callees n called l.waiting }
@@ -57,4 +57,4 @@ tick_called n called minute room =
     (cond (leb minute last_minute)
     (record { answer = Joined (length (callees n called l.waiting)); room = stored (joined n called (mark_after l.mark minute) l) room })
     (record { answer = NotTicked not_on_calendar; room = room }))
-    (record { answer = NotTicked not_aqueue; room = room })
+    (record { answer = NotTicked not_a_queue; room = room })

@@ -7,8 +7,8 @@ use Rattle.fifo.specs.declared.CountAnswer.TheVariants.{Joined, Refused as NotTi
 use Rattle.fifo.specs.declared.FrontAnswer.TheVariants.{Entry, Nothing, Refused as NotPopped}
 
 -- R28: not a queue of this table, or too few bytes for all its entries
-abbrev pub not_aqueue : ℕ
-not_aqueue = 28
+abbrev pub not_a_queue : ℕ
+not_a_queue = 28
 
 -- A3, R28: the number of a refusal, 0 if there is none
 unfoldable pub tick_refusal : CountAnswer → ℕ

@@ -4,14 +4,14 @@ use Rattle.std.specs.Prelude.{◌≡◌, ℕ, ◌<◌, cond, List, [], ◌∷◌
 use Rattle.calendar.specs.Dates.{last_minute}
 use Rattle.calendar.specs.Refusals.{not_on_calendar}
 use Rattle.fifo.specs.Layout.{limit, roomy}
-use Rattle.fifo.specs.Refusals.{not_aqueue}
+use Rattle.fifo.specs.Refusals.{not_a_queue}
 use Rattle.fifo.specs.Steps.{Jobs, fresh}
 use Rattle.fifo.specs.Fairness.{Call, tick, pop, refusal, Follows}
 
 -- D6: the refusal by the buffer's length and the minute, 0 for none
 unfoldable pub expected : Jobs → Call → ℕ
-expected jobs (tick minute room) = cond (roomy jobs.count room) (cond (leb minute last_minute) 0 not_on_calendar) not_aqueue
-expected jobs (pop room) = cond (roomy jobs.count room) 0 not_aqueue
+expected jobs (tick minute room) = cond (roomy jobs.count room) (cond (leb minute last_minute) 0 not_on_calendar) not_a_queue
+expected jobs (pop room) = cond (roomy jobs.count room) 0 not_a_queue
 
 -- D6: each call of a list is refused just so
 abbrev pub Expected : Jobs → List Call → Type 0

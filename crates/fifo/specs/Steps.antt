@@ -13,7 +13,7 @@ use Rattle.fifo.specs.declared.CountAnswer.TheVariants.{Joined, Refused as NotTi
 use Rattle.fifo.specs.declared.FrontAnswer.TheVariants.{Entry, Nothing, Refused as NotPopped}
 use Rattle.fifo.specs.Queues.{Queue, is_waiting, pick}
 use Rattle.fifo.specs.Layout.{queue_of, stored, roomy, is_queue}
-use Rattle.fifo.specs.Refusals.{not_aqueue}
+use Rattle.fifo.specs.Refusals.{not_a_queue}
 
 -- Q3, M6: what is known of a table's entries, numbered from 0 in file order
 pub record Jobs : Type 0 where
@@ -42,7 +42,7 @@ unfoldable pub init_step : Jobs → List ℕ → Step CountAnswer
 init_step jobs room =
     cond (roomy jobs.count room)
     (record { answer = Joined (length (fresh jobs).waiting); room = stored (fresh jobs) room })
-    (record { answer = NotTicked not_aqueue; room = room })
+    (record { answer = NotTicked not_a_queue; room = room })
 
 -- ---- an announcement
 
@@ -69,7 +69,7 @@ tick_step jobs minute room =
     (cond (leb minute last_minute)
     (record { answer = Joined (length (joiners jobs minute (queue_of room))); room = stored (ticked jobs minute (queue_of room)) room })
     (record { answer = NotTicked not_on_calendar; room = room }))
-    (record { answer = NotTicked not_aqueue; room = room })
+    (record { answer = NotTicked not_a_queue; room = room })
 
 -- ---- a request
 
@@ -92,7 +92,7 @@ unfoldable pub pop_step : ℕ → List ℕ → Step FrontAnswer
 pop_step n room =
     cond (is_queue n room)
     (record { answer = front (queue_of room).waiting; room = stored (popped (queue_of room)) room })
-    (record { answer = NotPopped not_aqueue; room = room })
+    (record { answer = NotPopped not_a_queue; room = room })
 
 -- ---- a look, which changes nothing
 
@@ -102,7 +102,7 @@ standing place l = front (drop place l)
 
 -- Q10, R28: the answer is the entry at a place
 unfoldable pub entry_step : ℕ → ℕ → List ℕ → FrontAnswer
-entry_step n place room = cond (is_queue n room) (standing place (queue_of room).waiting) (NotPopped not_aqueue)
+entry_step n place room = cond (is_queue n room) (standing place (queue_of room).waiting) (NotPopped not_a_queue)
 
 -- ---- other entries
 

@@ -5,7 +5,7 @@ use Rattle.line.specs.declared.Rules.{Rules}
 use Rattle.crontab.specs.Tables.{table_of}
 use Rattle.fifo.specs.declared.CountAnswer.{CountAnswer}
 use Rattle.fifo.specs.declared.CountAnswer.TheVariants.{Joined, Refused}
-use Rattle.fifo.specs.Refusals.{not_aqueue}
+use Rattle.fifo.specs.Refusals.{not_a_queue}
 use Rattle.fifo.specs.Layout.{queue_of, roomy, is_queue}
 use Rattle.fifo.specs.Steps.{Step, refilled}
 use Rattle.reload.specs.Targets.{reloaded}
@@ -23,7 +23,7 @@ unfoldable pub reload_step : Rules → List ℕ → List ℕ → List ℕ → St
 reload_step rules old new room =
     cond (is_queue (table_of rules old).count room && roomy (table_of rules new).count room)
     (record { answer = Joined (length (queue_in rules old new room)); room = refilled (queue_in rules old new room) room })
-    (refused_reload not_aqueue room)
+    (refused_reload not_a_queue room)
 
 -- L4, L5, L6, R36: any tables and buffer
 unfoldable pub reload_tables : Rules → List ℕ → List ℕ → List ℕ → Step CountAnswer
