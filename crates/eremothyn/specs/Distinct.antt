@@ -53,6 +53,7 @@ use Rattle.eremothyn.specs.Lists.{filled_number}
 
 -- ---- whether an answer is a refusal, and which
 
+-- A5: an answer is granted, or a refusal with its number
 pub data Outcome : Type 0 where
   granted : Outcome
   refused : ℕ → Outcome
@@ -62,31 +63,38 @@ abbrev pub by_refusal : ℕ → Outcome
 by_refusal zero = granted
 by_refusal (suc n) = refused (suc n)
 
+-- A5: the entry is found, or the call is refused
 abbrev pub by_entry : EntryAnswer → Outcome
 by_entry (entry.Found e) = granted
 by_entry (entry.Refused number) = refused number
 
+-- A5: there is a line, or the call is refused
 abbrev pub by_line : LineAnswer → Outcome
 by_line (line.At k) = granted
 by_line (line.Refused number) = refused number
 
+-- A5: due or not, or refused
 abbrev pub by_due : DueAnswer → Outcome
 by_due due.Yes = granted
 by_due due.No = granted
 by_due (due.Refused number) = refused number
 
+-- A5: there is a next firing, or the call is refused
 abbrev pub by_next : NextAnswer → Outcome
 by_next (next.At m) = granted
 by_next (next.Refused number) = refused number
 
+-- A5: the parts are written, or the call is refused
 abbrev pub by_split : SplitAnswer → Outcome
 by_split (split.Written n input) = granted
 by_split (split.Refused number) = refused number
 
+-- A5: the text or the records are written, or the call is refused
 abbrev pub by_form : NormalAnswer → Outcome
 by_form (normal.Written size) = granted
 by_form (normal.Refused number) = refused number
 
+-- A5: so many joined, or the call is refused
 abbrev pub by_tick : CountAnswer → Outcome
 by_tick (tick.Joined n) = granted
 by_tick (tick.Refused number) = refused number
