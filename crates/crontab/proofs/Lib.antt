@@ -4,6 +4,7 @@ pub mod Sound
 pub mod Cuts
 pub mod Tables
 pub mod Walks
+pub mod StepWalks
 pub mod Findings
 pub mod EntryViews
 pub mod Owners

@@ -8,6 +8,7 @@ pub mod Quotes
 pub mod Tables
 pub mod Writing
 pub mod Walks
+pub mod StepWalks
 pub mod Forms
 pub mod Composition
 pub mod LineItems

@@ -33,18 +33,18 @@ use Rattle.normal.specs.Inner.{Within, line_text}
 -- ---- what a line gives
 
 module _ (rules : Rules) (s : List ℕ) (n m k : ℕ) (later : Items) where
-  given-within : (x : line.Item) → SoundItems rules s m k (given n x later) → Within s x
+  pub given-within : (x : line.Item) → SoundItems rules s m k (given n x later) → Within s x
   unfolding given
   given-within Nothing h = tt
   given-within (Setting name value) h = ((h.0.order, h.0.within), (h.1.order, h.1.within))
   given-within (Entry e) h = (omega (arith, h.0.some), h.0.within)
   given-within (Refused f) h = tt
 
-  given-some : (f : Fault) → SoundItems rules s m k (given n (Refused f) later) → f.number ≡ 0 → ⊥
+  pub given-some : (f : Fault) → SoundItems rules s m k (given n (Refused f) later) → f.number ≡ 0 → ⊥
   unfolding given
   given-some f h e = omega (arith, e, h.0.from)
 
-  given-sound : (x : line.Item) → Kept x → SoundItems rules s m k (given n x later) → (j : ℕ) × SoundItems rules s j (counted x k) later
+  pub given-sound : (x : line.Item) → Kept x → SoundItems rules s m k (given n x later) → (j : ℕ) × SoundItems rules s j (counted x k) later
   unfolding given counted
   given-sound Nothing kept h = (m, h)
   given-sound (Setting name value) kept h = (n + 1, h.2)
@@ -59,7 +59,7 @@ line-limit t = go (leb (length t) max_line) refl
     go false e = lt-leb (length (t ++ 10 ∷ [])) (max_line + 1) (omega (arith, length-append t (10 ∷ []), leb-false (length t) max_line e))
 
 module _ (s : List ℕ) (n k : ℕ) (later : Items) where
-  given-verdict : (x : line.Item) → Kept x → verdict_from (counted x k) later ≡ verdict_from k (given n x later)
+  pub given-verdict : (x : line.Item) → Kept x → verdict_from (counted x k) later ≡ verdict_from k (given n x later)
   unfolding given counted verdict_from
   given-verdict Nothing kept = refl
   given-verdict (Setting name value) kept = refl
@@ -67,7 +67,7 @@ module _ (s : List ℕ) (n k : ℕ) (later : Items) where
   given-verdict (Refused f) kept = absurd kept
 
   -- a line with its newline is short, and those after it
-  given-short : (x : line.Item) → Kept x → (leb (length (line_text s x)) (max_line + 1) && are_short (meanings s later)) ≡ are_short (meanings s (given n x later))
+  pub given-short : (x : line.Item) → Kept x → (leb (length (line_text s x)) (max_line + 1) && are_short (meanings s later)) ≡ are_short (meanings s (given n x later))
   unfolding given line_text meanings are_short
   given-short Nothing kept = refl
   given-short (Setting name value) kept = rw line-limit
