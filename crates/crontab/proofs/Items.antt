@@ -1,7 +1,6 @@
 -- Laws of the walk over a table's lines: what a step from a cursor gives, and where the walk starts and ends.
 -- Assumes nothing.
 use mathlib.Core.Path.{◌≡◌, refl, sym, subst, ◌∙◌}
-use mathlib.Core.Logic.{◌⊎◌, inl, inr}
 use mathlib.Core.List.{List}
 use Prim.Native.Nat.{ℕ, ◌+◌, ◌-◌, ◌≤◌, ◌<◌}
 use native.Mathlib.Omega.{arith}
@@ -197,12 +196,6 @@ pub record Skipped (rules : Rules) (s : List ℕ) (from c : Cursor) : Type 0 whe
 
 pub skipped-none : {rules : Rules} {s : List ℕ} {c : Cursor} → Reached s c → Skipped rules s c c
 skipped-none h = record { reached = h; left = refl; count = refl; offset = refl; onward = omega arith }
-
--- the first variant is none of the three after it
-pub first-variant : (◌≡◌ {A = ℕ} 0 1) ⊎ ((◌≡◌ {A = ℕ} 0 2) ⊎ (◌≡◌ {A = ℕ} 0 3)) → ⊥
-first-variant (inl e) = omega (arith, e)
-first-variant (inr (inl e)) = omega (arith, e)
-first-variant (inr (inr e)) = omega (arith, e)
 
 module _ {rules : Rules} {s : List ℕ} {from c : Cursor} (so : Skipped rules s from c) where
   -- one ignored line more

@@ -5,10 +5,6 @@ use lib.ListN.{length}
 use Rattle.command.proofs.Buffers.{neither, line-within, whole-refused, whole-written, cut-refused, cut-written}
 use Rattle.command.proofs.split.Goals as goal
 
--- ---- no unescaped `%`
-
--- ---- an unescaped `%`
-
 pub returns-then-shell-n : goal.returns-then-shell-n
 returns-then-shell-n c =
     let a = c.args in

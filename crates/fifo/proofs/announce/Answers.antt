@@ -33,4 +33,14 @@ pub returns : goal.returns
 unfolding joined
 returns c =
     let w = (queue_of c.args.buffer.now).waiting in
-    let over = written_over c.args.n _ c.args.buffer.now (omega arith) (queue-known _ _ c.requires.0).roomy-is (marked (goal.at.returns c).After-set_mark) c.set_mark.ensures in record { answer = rw (read (goal.at.returns c).After-set_mark) at c.join.ensures.answer; room = (rw (read (goal.at.returns c).After-set_mark) at c.join.ensures.bytes) ∙ over _ (omega (arith, length-append w (callees c.args.n c.args.called.now w))) }
+    let after_set_mark = (goal.at.returns c).After-set_mark in
+    let over =
+    written_over c.args.n _ c.args.buffer.now (omega arith) (queue-known _ _ c.requires.0).roomy-is (marked after_set_mark)
+    c.set_mark.ensures
+    in
+    record {
+      answer = rw (read after_set_mark) at c.join.ensures.answer;
+      room =
+          (rw (read after_set_mark) at c.join.ensures.bytes)
+          ∙ over _ (omega (arith, length-append w (callees c.args.n c.args.called.now w)));
+    }

@@ -35,7 +35,8 @@ pub returns-then-has_room : goal.returns-then-has_room
 unfolding init_called joined
 returns-then-has_room c =
     let over = written_over c.args.n _ c.args.buffer.now (omega arith) (enough (goal.at.returns-then-has_room c).Then-has_room) (none-proper c.args.n None refl) c.clear.ensures in
-    record { answer = rw (enough (goal.at.returns-then-has_room c).Then-has_room) (ap Joined (rw (emptied (goal.at.returns-then-has_room c).After-clear) at c.join.ensures.answer)); room = rw (enough (goal.at.returns-then-has_room c).Then-has_room) ((rw (emptied (goal.at.returns-then-has_room c).After-clear) at c.join.ensures.bytes) ∙ over _ (omega arith)) }
+    let law = enough (goal.at.returns-then-has_room c).Then-has_room in
+    record { answer = rw law (ap Joined (rw (emptied (goal.at.returns-then-has_room c).After-clear) at c.join.ensures.answer)); room = rw law ((rw (emptied (goal.at.returns-then-has_room c).After-clear) at c.join.ensures.bytes) ∙ over _ (omega arith)) }
 
 pub returns : goal.returns
 unfolding init_called

@@ -15,7 +15,7 @@ use Rattle.fifo.proofs.Peek.{standing-at, standing-past}
 use Rattle.fifo.proofs.pop.Goals as goal
 use Rattle.fifo.proofs.pop.Goals.{After-number-count, Then-is_queue}
 
--- the buffer holds c.before.before.before queue
+-- the buffer holds a queue
 is : (c : Then-is_queue) → is_queue c.args.n c.args.buffer.now ≡ true
 is c = sym c.is_queue.ensures ∙ c.if-is_queue.true
 
@@ -33,7 +33,8 @@ unfolding pop_step standing
 returns-then-count-eq0 c =
     let s = c.args.buffer.now in
     let none = sym (counted (goal.at.returns-then-count-eq0 c).After-number-count) ∙ c.if-count-eq0.true in
-    record { answer = rw (is (goal.at.returns-then-count-eq0 c).Then-is_queue) (standing-past (queue_of s).waiting 0 (omega arith)); room = rw (is (goal.at.returns-then-count-eq0 c).Then-is_queue) (laid-drop-none (queue_of s) s (held (goal.at.returns-then-count-eq0 c).Then-is_queue) none) }
+    let law = is (goal.at.returns-then-count-eq0 c).Then-is_queue in
+    record { answer = rw law (standing-past (queue_of s).waiting 0 (omega arith)); room = rw law (laid-drop-none (queue_of s) s (held (goal.at.returns-then-count-eq0 c).Then-is_queue) none) }
 
 pub drop_front-requires : goal.drop_front-requires
 drop_front-requires c =
@@ -44,7 +45,8 @@ unfolding pop_step standing
 returns-then-is_queue c =
     let s = c.args.buffer.now in
     let some : 0 < length (queue_of s).waiting = omega (arith, c.if-count-eq0.false, counted (goal.at.returns-then-is_queue c).After-number-count) in
-    record { answer = rw (is (goal.at.returns-then-is_queue c).Then-is_queue) (ap Entry (c.number-e.ensures ∙ sym (waiting-at s 0 some)) ∙ standing-at (queue_of s).waiting 0 some); room = rw (is (goal.at.returns-then-is_queue c).Then-is_queue) c.drop_front.ensures }
+    let law = is (goal.at.returns-then-is_queue c).Then-is_queue in
+    record { answer = rw law (ap Entry (c.number-e.ensures ∙ sym (waiting-at s 0 some)) ∙ standing-at (queue_of s).waiting 0 some); room = rw law c.drop_front.ensures }
 
 pub returns : goal.returns
 unfolding pop_step

@@ -52,14 +52,22 @@ loop-i-init c =
 pub push-requires : goal.push-requires
 push-requires c =
     let after_store = (goal.at.push-requires c).After-store in
-    let step = refill-next (a after_store).args.n (queue_of c.store.new.buffer).mark (a after_store).args.entries.now c.store.new.buffer c.loop-i.i (omega arith) (rw (mark after_store) (on after_store)) (still after_store) (a after_store).requires.2 (omega arith) in
+    let start = a after_store in
+    let step =
+    refill-next start.args.n (queue_of c.store.new.buffer).mark start.args.entries.now c.store.new.buffer c.loop-i.i (omega arith)
+    (rw (mark after_store) (on after_store)) (still after_store) start.requires.2 (omega arith)
+    in
     rw c.loop-i.invariant.0 step.0
 
 pub loop-i-preserved : goal.loop-i-preserved
 loop-i-preserved c =
     let after_store = (goal.at.loop-i-preserved c).After-store in
     let p = c.push in
-    let step = refill-next (a after_store).args.n (queue_of c.store.new.buffer).mark (a after_store).args.entries.now c.store.new.buffer c.loop-i.i (omega arith) (rw (mark after_store) (on after_store)) (still after_store) (a after_store).requires.2 (omega arith) in
+    let start = a after_store in
+    let step =
+    refill-next start.args.n (queue_of c.store.new.buffer).mark start.args.entries.now c.store.new.buffer c.loop-i.i (omega arith)
+    (rw (mark after_store) (on after_store)) (still after_store) start.requires.2 (omega arith)
+    in
     (p.ensures ∙ rw c.loop-i.invariant.0 step.1, p.auto.buffer ∙ c.loop-i.invariant.1, omega arith)
 
 pub returns : goal.returns

@@ -18,7 +18,9 @@ gather-requires c = (gathered_none 1024, refl)
 
 pub returns-then-minute-gt-LAST_MINUTE : goal.returns-then-minute-gt-LAST_MINUTE
 unfolding tick_called
-returns-then-minute-gt-LAST_MINUTE c = record { answer = rw (sym c.gather.ensures.answer ∙ c.if-gather.true, lt-leb c.args.minute last_minute (omega arith)) refl; room = rw (sym c.gather.ensures.answer ∙ c.if-gather.true, lt-leb c.args.minute last_minute (omega arith)) refl }
+returns-then-minute-gt-LAST_MINUTE c =
+    let law = sym c.gather.ensures.answer ∙ c.if-gather.true in
+    record { answer = rw (law, lt-leb c.args.minute last_minute (omega arith)) refl; room = rw (law, lt-leb c.args.minute last_minute (omega arith)) refl }
 
 pub announce-requires : goal.announce-requires
 announce-requires c =
@@ -33,7 +35,9 @@ unfolding queue_of
 returns-then-gather c =
     let is = sym c.gather.ensures.answer ∙ c.if-gather.true in
     let marked = rw (c.mark_after-mark.ensures, c.mark_of.ensures) at c.announce.ensures.room in
-    record { answer = rw (tick-done _ _ _ _ is c.if-minute-gt-LAST_MINUTE.false) (ap Joined c.announce.ensures.answer); room = rw (tick-done _ _ _ _ is c.if-minute-gt-LAST_MINUTE.false) marked }
+    let a = c.args in
+    let law = tick-done a.n a.called.now a.minute a.buffer.now is c.if-minute-gt-LAST_MINUTE.false in
+    record { answer = rw law (ap Joined c.announce.ensures.answer); room = rw law marked }
 
 pub returns : goal.returns
 unfolding tick_called

@@ -7,19 +7,23 @@ use Rattle.firings.proofs.merged.Goals as goal
 
 pub returns-then-refusal-ne0 : goal.returns-then-refusal-ne0
 unfolding refused_merged
-returns-then-refusal-ne0 c = record { answer = rw (← c.read-read.ensures, merged-bad c.read-read.result _ _ _ _ c.if-refusal-ne0.true) refl; minutes = rw (← c.read-read.ensures, merged-bad c.read-read.result _ _ _ _ c.if-refusal-ne0.true) refl; entries = rw (← c.read-read.ensures, merged-bad c.read-read.result _ _ _ _ c.if-refusal-ne0.true) refl }
+returns-then-refusal-ne0 c =
+    let law = merged-bad c.read-read.result c.args.a c.args.b c.args.minutes.now c.args.entries.now c.if-refusal-ne0.true in
+    record { answer = rw (← c.read-read.ensures, law) refl; minutes = rw (← c.read-read.ensures, law) refl; entries = rw (← c.read-read.ensures, law) refl }
 
 pub returns-then-a-gt-LAST_MINUTE : goal.returns-then-a-gt-LAST_MINUTE
 unfolding refused_merged
 returns-then-a-gt-LAST_MINUTE c =
     let read = c.read-read in
-    record { answer = rw (← read.ensures, merged-first-off read.result _ _ _ _ c.if-refusal-ne0.false c.if-a-gt-LAST_MINUTE.true) refl; minutes = rw (← read.ensures, merged-first-off read.result _ _ _ _ c.if-refusal-ne0.false c.if-a-gt-LAST_MINUTE.true) refl; entries = rw (← read.ensures, merged-first-off read.result _ _ _ _ c.if-refusal-ne0.false c.if-a-gt-LAST_MINUTE.true) refl }
+    let law = merged-first-off read.result c.args.a c.args.b c.args.minutes.now c.args.entries.now c.if-refusal-ne0.false c.if-a-gt-LAST_MINUTE.true in
+    record { answer = rw (← read.ensures, law) refl; minutes = rw (← read.ensures, law) refl; entries = rw (← read.ensures, law) refl }
 
 pub returns-then-b-gt-LAST_MINUTE : goal.returns-then-b-gt-LAST_MINUTE
 unfolding refused_merged
 returns-then-b-gt-LAST_MINUTE c =
     let read = c.read-read in
-    record { answer = rw (← read.ensures, merged-last-off read.result _ _ _ _ c.if-refusal-ne0.false c.if-a-gt-LAST_MINUTE.false c.if-b-gt-LAST_MINUTE.true) refl; minutes = rw (← read.ensures, merged-last-off read.result _ _ _ _ c.if-refusal-ne0.false c.if-a-gt-LAST_MINUTE.false c.if-b-gt-LAST_MINUTE.true) refl; entries = rw (← read.ensures, merged-last-off read.result _ _ _ _ c.if-refusal-ne0.false c.if-a-gt-LAST_MINUTE.false c.if-b-gt-LAST_MINUTE.true) refl }
+    let law = merged-last-off read.result c.args.a c.args.b c.args.minutes.now c.args.entries.now c.if-refusal-ne0.false c.if-a-gt-LAST_MINUTE.false c.if-b-gt-LAST_MINUTE.true in
+    record { answer = rw (← read.ensures, law) refl; minutes = rw (← read.ensures, law) refl; entries = rw (← read.ensures, law) refl }
 
 pub fill-requires : goal.fill-requires
 fill-requires c =
@@ -29,9 +33,9 @@ pub returns : goal.returns
 returns c =
     let read = c.read-read in
     let filled = c.fill.ensures in
-    let last = c.if-b-gt-LAST_MINUTE.false in
+    let law = merged-listed read.result c.args.a c.args.b c.args.minutes.now c.args.entries.now c.if-refusal-ne0.false c.if-a-gt-LAST_MINUTE.false c.if-b-gt-LAST_MINUTE.false in
     record {
-      answer = rw (← read.ensures, merged-listed read.result _ _ _ _ c.if-refusal-ne0.false c.if-a-gt-LAST_MINUTE.false last) filled.answer;
-      minutes = rw (← read.ensures, merged-listed read.result _ _ _ _ c.if-refusal-ne0.false c.if-a-gt-LAST_MINUTE.false last) filled.minutes;
-      entries = rw (← read.ensures, merged-listed read.result _ _ _ _ c.if-refusal-ne0.false c.if-a-gt-LAST_MINUTE.false last) filled.entries;
+      answer = rw (← read.ensures, law) filled.answer;
+      minutes = rw (← read.ensures, law) filled.minutes;
+      entries = rw (← read.ensures, law) filled.entries;
     }

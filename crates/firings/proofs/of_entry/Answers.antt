@@ -1,6 +1,7 @@
 -- `firings::of_entry` meets its contract: each way out is a law of the call.
 -- Assumes nothing.
 use mathlib.Core.Path.{refl, sym, ◌∙◌}
+use Rattle.crontab.specs.Tables.{table_of}
 use Rattle.crontab.proofs.Theorems.{entry-sound}
 use Rattle.firings.specs.Calls.{refused_entry}
 use Rattle.firings.proofs.Exits.{in-found, in-refused, first_off, last_off, at-boot, by-time}
@@ -8,23 +9,38 @@ use Rattle.firings.proofs.of_entry.Goals as goal
 
 pub returns-then-a-gt-LAST_MINUTE : goal.returns-then-a-gt-LAST_MINUTE
 unfolding refused_entry
-returns-then-a-gt-LAST_MINUTE c = record { answer = rw (in-found _ _ _ _ _ (sym c.find_entry.ensures ∙ c.in-Found.is) (first_off _ _ _ _ c.if-a-gt-LAST_MINUTE.true)) refl; run = rw (in-found _ _ _ _ _ (sym c.find_entry.ensures ∙ c.in-Found.is) (first_off _ _ _ _ c.if-a-gt-LAST_MINUTE.true)) refl }
+returns-then-a-gt-LAST_MINUTE c =
+    let a = c.args in
+    let law = in-found (table_of a.rules a.bytes.now) a.number a.a a.b a.run.now (sym c.find_entry.ensures ∙ c.in-Found.is) (first_off _ a.a a.b a.run.now c.if-a-gt-LAST_MINUTE.true) in
+    record { answer = rw law refl; run = rw law refl }
 
 pub returns-then-b-gt-LAST_MINUTE : goal.returns-then-b-gt-LAST_MINUTE
 unfolding refused_entry
-returns-then-b-gt-LAST_MINUTE c = record { answer = rw (in-found _ _ _ _ _ (sym c.find_entry.ensures ∙ c.in-Found.is) (last_off _ _ _ _ c.if-a-gt-LAST_MINUTE.false c.if-b-gt-LAST_MINUTE.true)) refl; run = rw (in-found _ _ _ _ _ (sym c.find_entry.ensures ∙ c.in-Found.is) (last_off _ _ _ _ c.if-a-gt-LAST_MINUTE.false c.if-b-gt-LAST_MINUTE.true)) refl }
+returns-then-b-gt-LAST_MINUTE c =
+    let a = c.args in
+    let law = in-found (table_of a.rules a.bytes.now) a.number a.a a.b a.run.now (sym c.find_entry.ensures ∙ c.in-Found.is) (last_off _ a.a a.b a.run.now c.if-a-gt-LAST_MINUTE.false c.if-b-gt-LAST_MINUTE.true) in
+    record { answer = rw law refl; run = rw law refl }
 
 pub returns-then-is_boot : goal.returns-then-is_boot
 unfolding refused_entry
-returns-then-is_boot c = record { answer = rw (in-found _ _ _ _ _ (sym c.find_entry.ensures ∙ c.in-Found.is) (at-boot _ _ _ _ c.if-a-gt-LAST_MINUTE.false c.if-b-gt-LAST_MINUTE.false (sym c.is_boot.ensures ∙ c.if-is_boot.true))) refl; run = rw (in-found _ _ _ _ _ (sym c.find_entry.ensures ∙ c.in-Found.is) (at-boot _ _ _ _ c.if-a-gt-LAST_MINUTE.false c.if-b-gt-LAST_MINUTE.false (sym c.is_boot.ensures ∙ c.if-is_boot.true))) refl }
+returns-then-is_boot c =
+    let a = c.args in
+    let law = in-found (table_of a.rules a.bytes.now) a.number a.a a.b a.run.now (sym c.find_entry.ensures ∙ c.in-Found.is) (at-boot _ a.a a.b a.run.now c.if-a-gt-LAST_MINUTE.false c.if-b-gt-LAST_MINUTE.false (sym c.is_boot.ensures ∙ c.if-is_boot.true)) in
+    record { answer = rw law refl; run = rw law refl }
 
 pub fill-requires : goal.fill-requires
 fill-requires c =
     ((entry-sound _ _ _ (sym c.find_entry.ensures ∙ c.in-Found.is)).zone, c.if-a-gt-LAST_MINUTE.false, c.if-b-gt-LAST_MINUTE.false)
 
 pub returns-else-is_boot : goal.returns-else-is_boot
-returns-else-is_boot c = record { answer = rw (in-found _ _ _ _ _ (sym c.find_entry.ensures ∙ c.in-Found.is) (by-time _ _ _ _ c.if-a-gt-LAST_MINUTE.false c.if-b-gt-LAST_MINUTE.false (sym c.is_boot.ensures ∙ c.if-is_boot.false))) c.fill.ensures.answer; run = rw (in-found _ _ _ _ _ (sym c.find_entry.ensures ∙ c.in-Found.is) (by-time _ _ _ _ c.if-a-gt-LAST_MINUTE.false c.if-b-gt-LAST_MINUTE.false (sym c.is_boot.ensures ∙ c.if-is_boot.false))) c.fill.ensures.run }
+returns-else-is_boot c =
+    let a = c.args in
+    let law = in-found (table_of a.rules a.bytes.now) a.number a.a a.b a.run.now (sym c.find_entry.ensures ∙ c.in-Found.is) (by-time _ a.a a.b a.run.now c.if-a-gt-LAST_MINUTE.false c.if-b-gt-LAST_MINUTE.false (sym c.is_boot.ensures ∙ c.if-is_boot.false)) in
+    record { answer = rw law c.fill.ensures.answer; run = rw law c.fill.ensures.run }
 
 pub returns-in-Refused : goal.returns-in-Refused
 unfolding refused_entry
-returns-in-Refused c = record { answer = rw (in-refused _ _ _ _ _ (sym c.find_entry.ensures ∙ c.in-Refused.is)) refl; run = rw (in-refused _ _ _ _ _ (sym c.find_entry.ensures ∙ c.in-Refused.is)) refl }
+returns-in-Refused c =
+    let a = c.args in
+    let law = in-refused (table_of a.rules a.bytes.now) a.number a.a a.b a.run.now (sym c.find_entry.ensures ∙ c.in-Refused.is) in
+    record { answer = rw law refl; run = rw law refl }

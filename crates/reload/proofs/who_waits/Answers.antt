@@ -1,6 +1,5 @@
 use mathlib.Core.Path.{◌≡◌, refl, sym, ◌∙◌}
 use mathlib.Core.Bool.{Bool, true, not, ◌&&◌, and-eq-true_iff}
-use mathlib.Core.Logic.{◌⊎◌, inl, inr}
 use Prim.Native.Nat.{ℕ, ◌<◌}
 use native.Mathlib.Omega.{arith}
 use lib.ListN.{length}
@@ -15,11 +14,7 @@ use Rattle.reload.proofs.Reloads.{keeps-none, keeps-fit, keeps-out, keeps-in, ke
 use Rattle.reload.proofs.who_waits.Goals as goal
 use Rattle.reload.proofs.who_waits.Goals.{then-to-n, else-to-n}
 
--- what is at a place is an entry
-other : (◌≡◌ {A = ℕ} 0 1) ⊎ (◌≡◌ {A = ℕ} 0 2) → ⊥
-other (inl e) = omega (arith, e)
-other (inr e) = omega (arith, e)
-
+-- what is at a place is one entry
 named : {a : FrontAnswer} {x y : ℕ} → a ≡ Entry x → a ≡ Entry y → x ≡ y
 named p q = let e = sym p ∙ q in cc
 
@@ -73,7 +68,14 @@ loop-place-preserved c =
     let h : l.place < length w = omega (arith, l.invariant.1) in
     let fit = keeps-fit c.args.rules c.args.old.now c.args.new.now w (is-queue _ c.args.room.now c.requires.0).1 in
     let at = sym (named c.in-Entry.is (c.standing.ensures ∙ sym (standing-at w l.place h))) in (
-      elim c.if-to-n.branch [ then-to-n v ↦ rw (v.entries-is, v.queued-is, v.count-is, v.add.ensures) (keeps-in _ _ _ w l.invariant.0 h _ at c.counterpart-to.ensures c.requires.1 c.has.ensures v.if-to-n.true fit) | else-to-n v ↦ rw (v.entries-is, v.queued-is, v.count-is) (keeps-out _ _ _ w l.invariant.0 h _ at c.counterpart-to.ensures c.requires.1 c.has.ensures v.if-to-n.false) ],
+      elim c.if-to-n.branch [
+        | then-to-n v ↦
+            rw (v.entries-is, v.queued-is, v.count-is, v.add.ensures)
+            (keeps-in _ _ _ w l.invariant.0 h _ at c.counterpart-to.ensures c.requires.1 c.has.ensures v.if-to-n.true fit)
+        | else-to-n v ↦
+            rw (v.entries-is, v.queued-is, v.count-is)
+            (keeps-out _ _ _ w l.invariant.0 h _ at c.counterpart-to.ensures c.requires.1 c.has.ensures v.if-to-n.false)
+      ],
       l.invariant.1,
     )
 

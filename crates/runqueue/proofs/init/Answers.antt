@@ -22,4 +22,5 @@ unfolding selected_by
 returns c =
     let a = c.args in
     let e = c.read-jobs.ensures in
-    record { answer = rw (init-called (table_of a.rules a.table.now) (table-sound a.rules a.table.now).few a.room.now (rw e at c.if-refusal-ne0.false)) (rw e at c.init.ensures.answer); room = rw (init-called (table_of a.rules a.table.now) (table-sound a.rules a.table.now).few a.room.now (rw e at c.if-refusal-ne0.false)) (rw e at c.init.ensures.room) }
+    let law = init-called (table_of a.rules a.table.now) (table-sound a.rules a.table.now).few a.room.now (rw e at c.if-refusal-ne0.false) in
+    record { answer = rw law (rw e at c.init.ensures.answer); room = rw law (rw e at c.init.ensures.room) }

@@ -14,4 +14,5 @@ unfolding verdict_of
 returns c =
     let e = c.check-verdict.ensures in
     let a = c.args in
-    record { answer = rw (pop-good (table_of a.rules a.table.now) a.room.now (rw e at c.if-refusal-ne0.false)) (rw e at c.pop.ensures.answer); room = rw (pop-good (table_of a.rules a.table.now) a.room.now (rw e at c.if-refusal-ne0.false)) (rw e at c.pop.ensures.room) }
+    let law = pop-good (table_of a.rules a.table.now) a.room.now (rw e at c.if-refusal-ne0.false) in
+    record { answer = rw law (rw e at c.pop.ensures.answer); room = rw law (rw e at c.pop.ensures.room) }

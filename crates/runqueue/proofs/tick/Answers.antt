@@ -22,4 +22,5 @@ unfolding selected_by
 returns c =
     let a = c.args in
     let e = rw (c.case_of-case.ensures, c.mark_of.ensures) at c.read-jobs.ensures in
-    record { answer = rw (tick-called (table_of a.rules a.table.now) (table-sound a.rules a.table.now).few a.room.now (rw e at c.if-refusal-ne0.false) a.minute) (rw e at c.tick.ensures.answer); room = rw (tick-called (table_of a.rules a.table.now) (table-sound a.rules a.table.now).few a.room.now (rw e at c.if-refusal-ne0.false) a.minute) (rw e at c.tick.ensures.room) }
+    let law = tick-called (table_of a.rules a.table.now) (table-sound a.rules a.table.now).few a.room.now (rw e at c.if-refusal-ne0.false) a.minute in
+    record { answer = rw law (rw e at c.tick.ensures.answer); room = rw law (rw e at c.tick.ensures.room) }

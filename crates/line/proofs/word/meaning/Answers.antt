@@ -8,4 +8,11 @@ use Rattle.line.proofs.word.meaning.Goals as goal
 pub returns : goal.returns
 unfolding word_of meanings word_for
 returns c = let (yearly, monthly, weekly, daily, hourly) = word-meanings in
-    row_next _ _ _ refl c.known_or.ensures (row_next _ _ _ yearly c.known_or-w-7.ensures (row_next _ _ _ yearly c.known_or-w-6.ensures (row_next _ _ _ monthly c.known_or-w-5.ensures (row_next _ _ _ weekly c.known_or-w-4.ensures (row_next _ _ _ daily c.known_or-w-3.ensures (row_next _ _ _ daily c.known_or-w-2.ensures (row_next _ _ _ hourly c.known_or-w.ensures (row-none _))))))))
+    row_next _ _ _ refl c.known_or.ensures
+    (row_next _ _ _ yearly c.known_or-w-7.ensures
+    (row_next _ _ _ yearly c.known_or-w-6.ensures
+    (row_next _ _ _ monthly c.known_or-w-5.ensures
+    (row_next _ _ _ weekly c.known_or-w-4.ensures
+    (row_next _ _ _ daily c.known_or-w-3.ensures
+    (row_next _ _ _ daily c.known_or-w-2.ensures
+    (row_next _ _ _ hourly c.known_or-w.ensures (row-none _))))))))

@@ -12,7 +12,8 @@ pub returns-then-records-size : goal.returns-then-records-size
 unfolding refused_form
 returns-then-records-size c =
     let e = sym c.in-Written.is ∙ c.measure.ensures in
-    record { answer = rw (compiled-is _ _ _, ← (form-short _ _ _ e c.if-records-size.true)) refl; records = rw (compiled-is _ _ _, ← (form-short _ _ _ e c.if-records-size.true)) refl }
+    let law = form-short _ _ _ e c.if-records-size.true in
+    record { answer = rw (compiled-is _ _ _, ← law) refl; records = rw (compiled-is _ _ _, ← law) refl }
 
 pub write-requires : goal.write-requires
 write-requires c =
@@ -23,7 +24,8 @@ pub returns-else-records-size : goal.returns-else-records-size
 returns-else-records-size c =
     let e = sym c.in-Written.is ∙ c.measure.ensures in
     let now = c.write.ensures in
-    record { answer = rw (compiled-is _ _ _) (form-written _ _ _ e c.if-records-size.false (record { is = e; size = ap length now ∙ clipped-length _ _ _; text = λ z. now })).0; records = rw (compiled-is _ _ _) (form-written _ _ _ e c.if-records-size.false (record { is = e; size = ap length now ∙ clipped-length _ _ _; text = λ z. now })).1 }
+    let w = form-written _ _ _ e c.if-records-size.false (record { is = e; size = ap length now ∙ clipped-length _ _ _; text = λ z. now }) in
+    record { answer = rw (compiled-is _ _ _) w.0; records = rw (compiled-is _ _ _) w.1 }
 
 pub returns-in-Refused : goal.returns-in-Refused
 unfolding refused_form

@@ -10,7 +10,8 @@ pub returns-then-text-size : goal.returns-then-text-size
 unfolding refused_form
 returns-then-text-size c =
     let e = sym c.in-Written.is ∙ c.write.ensures.is in
-    record { answer = rw (decompiled-is _ _, ← (form-short _ _ _ e c.if-text-size.true)) refl; text = rw (decompiled-is _ _, ← (form-short _ _ _ e c.if-text-size.true)) refl }
+    let law = form-short _ _ _ e c.if-text-size.true in
+    record { answer = rw (decompiled-is _ _, ← law) refl; text = rw (decompiled-is _ _, ← law) refl }
 
 pub returns-else-text-size : goal.returns-else-text-size
 returns-else-text-size c =

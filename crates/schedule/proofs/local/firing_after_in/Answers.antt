@@ -22,8 +22,7 @@ told : (c : After-local_minute)
 told c =
     c.local_minute.ensures ∙ passed (λ (z : ℤ). local_of (biased_offset z) (c.args.minute + 1)) c.ranges.offset
 
--- ---- below zero
-
+-- below zero locally
 below : (c : In-Before) → let a = c.args in a.minute + 1 + biased_offset a.offset < 720
 below c = is-before _ _ (sym c.in-Before.is ∙ told c.before)
 
@@ -32,10 +31,6 @@ start_is : (c : In-Before)
     to_z w32 (of_z w32 (pos 0 -ℤ to_z w32 (of_z w32 z))) ≡ pos (720 - biased_offset z)
 start_is c =
     negative-read c.ranges.offset c.requires.0 (omega (arith, below c))
-
--- ---- on the calendar
-
--- ---- past it
 
 pub returns-then-minute-ge-LAST_MINUTE : goal.returns-then-minute-ge-LAST_MINUTE
 unfolding firing_after_in
