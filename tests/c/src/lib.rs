@@ -27,7 +27,7 @@ pub fn scratch(name: &str) -> PathBuf {
     folder.canonicalize().expect("the folder is there")
 }
 
-/// The same outside the checkout, for a test that makes links: `rt ci` takes no checkout that has one.
+/// The same outside the checkout, for a test that makes links or a second `crates.txt`: `rt ci` takes no checkout that has one.
 pub fn scratch_outside(name: &str) -> PathBuf {
     let checkout = root().canonicalize().expect("the root is there");
     let own = word(&checkout).replace('/', "-");

@@ -1,6 +1,6 @@
 //! What the commands of the README need: what is missing is named at once, with its package, before anything else is done.
 
-use c::{all, is, root, scratch, word};
+use c::{all, is, root, scratch, scratch_outside, word};
 use std::fs;
 use std::os::unix::fs::PermissionsExt;
 use std::path::{Path, PathBuf};
@@ -225,7 +225,7 @@ fn nothing_is_installed_without_the_kit() {
 /// `make all` in a tree that was never built.
 #[test]
 fn make_without_the_kit_says_so() {
-    let folder = scratch("needs-make");
+    let folder = scratch_outside("needs-make");
     let path = path_with("needs-make-path", &[]);
     for name in ["make", "find", "sed", "git", "mkdir", "cc", "date", "echo"] {
         borrow(&path, name);
