@@ -6,28 +6,27 @@ use mathlib.Core.Bool.{true}
 use mathlib.Core.List.{[], ◌∷◌}
 use Prim.Native.Nat.{ℕ, ◌+◌, ◌%◌, ◌≤◌, ◌<◌}
 use native.Mathlib.Omega.{arith}
+use Rattle.std.specs.Prelude.{Ok, IsOk}
 use Rattle.calendar.specs.Dates.{date_at, exists, minute_of}
 use Rattle.calendar.specs.Order.{parts, Earlier}
 use Rattle.calendar.proofs.Theorems.{minute-date-minute, date-minute-date, has-minute, accepted, later-dates, weekday-next, weekday-week, parts_within, cycle, direct_at, direct-is-walk}
 
 -- from the first and the last minute to their dates and back
 pub back-ends :
-    (let d = date_at 0 in minute_of d.year d.month d.day d.hour d.minute ≡ record { refusal = 0; minute = 0 })
-    × (let d = date_at 4223371679 in minute_of d.year d.month d.day d.hour d.minute ≡ record { refusal = 0; minute = 4223371679 })
+    (let d = date_at 0 in minute_of d.year d.month d.day d.hour d.minute ≡ Ok 0)
+    × (let d = date_at 4223371679 in minute_of d.year d.month d.day d.hour d.minute ≡ Ok 4223371679)
 back-ends = (minute-date-minute 0 (omega arith), minute-date-minute 4223371679 (omega arith))
 
 -- from any date of the first and the last year to its minute and back
-pub dates-of-ends : (month day hour minute : ℕ)
-    → (let a = minute_of 1970 month day hour minute in
-    a.refusal ≡ 0 → (a.minute ≤ 4223371679) × (parts (date_at a.minute) ≡ 1970 ∷ month ∷ day ∷ hour ∷ minute ∷ []))
-    × (let a = minute_of 9999 month day hour minute in
-    a.refusal ≡ 0 → (a.minute ≤ 4223371679) × (parts (date_at a.minute) ≡ 9999 ∷ month ∷ day ∷ hour ∷ minute ∷ []))
-dates-of-ends month day hour minute = (date-minute-date 1970 month day hour minute, date-minute-date 9999 month day hour minute)
+pub dates-of-ends : (month day hour minute m : ℕ)
+    → (minute_of 1970 month day hour minute ≡ Ok m → (m ≤ 4223371679) × (parts (date_at m) ≡ 1970 ∷ month ∷ day ∷ hour ∷ minute ∷ []))
+    × (minute_of 9999 month day hour minute ≡ Ok m → (m ≤ 4223371679) × (parts (date_at m) ≡ 9999 ∷ month ∷ day ∷ hour ∷ minute ∷ []))
+dates-of-ends month day hour minute m = (date-minute-date 1970 month day hour minute m, date-minute-date 9999 month day hour minute m)
 
 -- which dates of any year have a minute and are accepted, both ways
 pub year-ends : (year month day hour minute : ℕ)
-    → (exists 9999 month day hour minute ≡ true → (minute_of 9999 month day hour minute).refusal ≡ 0)
-    × ((minute_of year month day hour minute).refusal ≡ 0 → (exists year month day hour minute ≡ true) × (1970 ≤ year) × (year ≤ 9999))
+    → (exists 9999 month day hour minute ≡ true → IsOk (minute_of 9999 month day hour minute))
+    × (IsOk (minute_of year month day hour minute) → (exists year month day hour minute ≡ true) × (1970 ≤ year) × (year ≤ 9999))
     × (exists 1970 month day hour minute ≡ true → (m : ℕ) × (m ≤ 4223371679) × (parts (date_at m) ≡ 1970 ∷ month ∷ day ∷ hour ∷ minute ∷ []))
     × (parts (date_at 4223371679) ≡ year ∷ month ∷ day ∷ hour ∷ minute ∷ [] → (exists year month day hour minute ≡ true) × (1970 ≤ year) × (year ≤ 9999))
 year-ends year month day hour minute = (

@@ -7,10 +7,11 @@ use Prim.Native.Nat.{ℕ, ◌+◌, ◌-◌, ◌*◌, ◌/◌, ◌%◌, ◌≤◌
 use native.Mathlib.Omega.{arith}
 use lib.ListN.{get_or}
 use borrow.Author.Tests.{le-leb, lt-leb}
+use Rattle.std.specs.Prelude.{Ok, Err}
 use Rattle.calendar.specs.Gregorian.{year_days, month_days}
 use Rattle.calendar.specs.Refusals.{not_on_calendar}
 use Rattle.calendar.specs.Dates.{calendar_days, last_minute, weekday_of, year_of, month_of}
-use Rattle.calendar.specs.Dates.{date_at, no_date, date_of, days_before, minute_at}
+use Rattle.calendar.specs.Dates.{date_at, date_of, days_before, minute_at}
 use Rattle.calendar.specs.Order.{parts, Earlier}
 use Rattle.calendar.proofs.Spans.{Falls, falls-walk, falls-order}
 use Rattle.calendar.proofs.Dates.{OnCalendar, year-falls, month-falls, date-in-month, date-in-year, days_before-small}
@@ -52,12 +53,12 @@ unfolding minute_at date_at
 minute_at-date_at m h = omega (arith, days_before-date_at m h, time-of-day m)
 
 -- the date of a minute of the calendar is no refusal
-pub date_of-on : (m : ℕ) → m ≤ last_minute → date_of m ≡ record { refusal = 0; date = date_at m }
+pub date_of-on : (m : ℕ) → m ≤ last_minute → date_of m ≡ Ok (date_at m)
 unfolding date_of
 date_of-on m h = rw (le-leb m last_minute h)
 
 -- and past the calendar there is no date
-pub date_of-off : (m : ℕ) → last_minute < m → record { refusal = not_on_calendar; date = no_date } ≡ date_of m
+pub date_of-off : (m : ℕ) → last_minute < m → Err not_on_calendar ≡ date_of m
 unfolding date_of
 date_of-off m h = rw (lt-leb m last_minute h)
 

@@ -11,7 +11,7 @@
 --   LeapRule: which years are leap, in plain numbers: leap-exact, leap-days, plain-days
 -- Assumes nothing.
 use mathlib.Core.Path.{◌≡◌, refl, subst}
-use mathlib.Core.Bool.{Bool, true, false, cond, ◌&&◌}
+use mathlib.Core.Bool.{Bool, true, false, cond, ◌&&◌, false≢true}
 use mathlib.Core.Logic.{◌↔◌, inl, inr}
 use mathlib.Core.List.{List, [], ◌∷◌}
 use Prim.Native.Nat.{ℕ, ◌+◌, ◌*◌, ◌/◌, ◌%◌, ◌≤◌, ◌<◌}
@@ -21,7 +21,8 @@ use native.Mathlib.Omega.{arith}
 use lib.Dec.{T, leb, leb→le}
 use lib.ListN.{get_or}
 use borrow.Author.Tests.{le-leb}
-use Rattle.calendar.specs.declared.MinuteAnswer.{MinuteAnswer}
+use Rattle.std.specs.Prelude.{Result, Ok, Err, IsOk}
+use Rattle.refusal.specs.declared.Refusal.{Refusal}
 use Rattle.calendar.specs.Refusals.{not_on_calendar}
 use Rattle.calendar.specs.Gregorian.{leap, month_table, month_length, month_days}
 use Rattle.calendar.specs.Dates.{first_year, last_year, last_minute, cycle_minutes, weekday_of, year_of, month_of, date_at, exists, minute_at, minute_of}
@@ -42,24 +43,26 @@ pub use Rattle.calendar.proofs.DirectDates.{direct-is-walk}
 
 -- minute to date to minute
 pub minute-date-minute : (m : ℕ) → m ≤ last_minute
-    → let d = date_at m in minute_of d.year d.month d.day d.hour d.minute ≡ record { refusal = 0; minute = m }
+    → let d = date_at m in minute_of d.year d.month d.day d.hour d.minute ≡ Ok m
 unfolding minute_of
 minute-date-minute m h = rw (calendar-on (date_at-on m h), minute_at-date_at m h)
 
 -- ---- from a date to its minute and back
 
 -- date to minute to date: an accepted date has a minute of the calendar, whose date it is
-pub date-minute-date : (year month day hour minute : ℕ)
-    → let a = minute_of year month day hour minute in
-    a.refusal ≡ 0 → (a.minute ≤ last_minute) × (parts (date_at a.minute) ≡ year ∷ month ∷ day ∷ hour ∷ minute ∷ [])
+pub date-minute-date : (year month day hour minute m : ℕ) → minute_of year month day hour minute ≡ Ok m
+    → (m ≤ last_minute) × (parts (date_at m) ≡ year ∷ month ∷ day ∷ hour ∷ minute ∷ [])
 unfolding minute_of
-date-minute-date year month day hour minute = go (exists year month day hour minute && leb 1970 year && leb year 9999) refl
+date-minute-date year month day hour minute m = go (exists year month day hour minute && leb 1970 year && leb year 9999) refl
   where
     go : (b : Bool) → (exists year month day hour minute && leb 1970 year && leb year 9999) ≡ b
-        → let a : MinuteAnswer = cond b (record { refusal = 0; minute = minute_at year month day hour minute }) (record { refusal = not_on_calendar; minute = 0 }) in
-        a.refusal ≡ 0 → (a.minute ≤ last_minute) × (parts (date_at a.minute) ≡ year ∷ month ∷ day ∷ hour ∷ minute ∷ [])
-    go true e z = (minute_at-on (on-calendar e), parts-minute_at (on-calendar e))
-    go false e z = absurd (omega arith)
+        → cond b (Ok (minute_at year month day hour minute)) (Err not_on_calendar) ≡ Ok m
+        → (m ≤ last_minute) × (parts (date_at m) ≡ year ∷ month ∷ day ∷ hour ∷ minute ∷ [])
+    go true e z =
+        let o = on-calendar {year = year} {month = month} {day = day} {hour = hour} {minute = minute} e in
+        let same : m ≡ minute_at year month day hour minute = cc in
+        rw same (minute_at-on o, parts-minute_at o)
+    go false e z = absurd (let q : ◌≡◌ {A = ℕ} 0 1 = cc in omega arith)
 
 -- A date has a minute exactly where it exists and its year is 1970 to 9999: some minute of the calendar has that date.
 pub has-minute : (year month day hour minute : ℕ)
@@ -84,17 +87,18 @@ has-minute year month day hour minute = (only, all)
 
 -- a date is accepted exactly where it exists and its year is 1970 to 9999
 pub accepted : (year month day hour minute : ℕ)
-    → ((minute_of year month day hour minute).refusal ≡ 0)
+    → IsOk (minute_of year month day hour minute)
     ↔ ((exists year month day hour minute ≡ true) × (first_year ≤ year) × (year ≤ last_year))
 unfolding minute_of
-accepted year month day hour minute = (only, all)
+accepted year month day hour minute = (only (minute_of year month day hour minute) refl, all)
   where
-    only : (minute_of year month day hour minute).refusal ≡ 0 → (exists year month day hour minute ≡ true) × (first_year ≤ year) × (year ≤ last_year)
-    only z =
-        let p = date-minute-date year month day hour minute z in
-        (has-minute year month day hour minute).0 ((minute_of year month day hour minute).minute, p.0, p.1)
+    only : (a : Result ℕ Refusal) → minute_of year month day hour minute ≡ a → IsOk a → (exists year month day hour minute ≡ true) × (first_year ≤ year) × (year ≤ last_year)
+    only (Ok m) e z =
+        let p = date-minute-date year month day hour minute m e in
+        (has-minute year month day hour minute).0 (m, p.0, p.1)
+    only (Err refusal) e z = absurd (false≢true z)
 
-    all : (exists year month day hour minute ≡ true) × (first_year ≤ year) × (year ≤ last_year) → (minute_of year month day hour minute).refusal ≡ 0
+    all : (exists year month day hour minute ≡ true) × (first_year ≤ year) × (year ≤ last_year) → IsOk (minute_of year month day hour minute)
     all (e, a, b) = rw (e, le-leb _ _ a, le-leb _ _ b)
 
 -- ---- order

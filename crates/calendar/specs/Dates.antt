@@ -1,10 +1,9 @@
 -- The date of a minute (G6), and the minute of a date (G8). The calendar goes from 1970-01-01 00:00, minute 0, to 9999-12-31 23:59 (G5).
 -- Assumes nothing.
-use Rattle.std.specs.Prelude.{ℕ, ◌+◌, ◌-◌, ◌*◌, ◌/◌, ◌%◌, Bool, cond, ◌&&◌, leb, ltb}
+use Rattle.std.specs.Prelude.{ℕ, ◌+◌, ◌-◌, ◌*◌, ◌/◌, ◌%◌, Bool, cond, ◌&&◌, leb, ltb, Result, Ok, Err}
+use Rattle.refusal.specs.declared.Refusal.{Refusal}
 use Rattle.calendar.specs.declared.walk.Place.{Place}
 use Rattle.calendar.specs.declared.Date.{Date}
-use Rattle.calendar.specs.declared.DateAnswer.{DateAnswer}
-use Rattle.calendar.specs.declared.MinuteAnswer.{MinuteAnswer}
 use Rattle.calendar.specs.Refusals.{not_on_calendar}
 use Rattle.calendar.specs.Gregorian.{year_days, month_days}
 use Rattle.calendar.specs.Walk.{span, walk}
@@ -50,13 +49,9 @@ date_at m =
     let d = month_of y.at y.rest in
     record { year = y.at; month = d.at; day = d.rest + 1; hour = m % 1440 / 60; minute = m % 60; weekday = weekday_of (m / 1440) }
 
--- R40: a refused date
-unfoldable pub no_date : Date
-no_date = record { year = 0; month = 0; day = 0; hour = 0; minute = 0; weekday = 0 }
-
 -- G5, R14: the date of any number as a minute
-unfoldable pub date_of : ℕ → DateAnswer
-date_of m = cond (leb m last_minute) (record { refusal = 0; date = date_at m }) (record { refusal = not_on_calendar; date = no_date })
+unfoldable pub date_of : ℕ → Result Date Refusal
+date_of m = cond (leb m last_minute) (Ok (date_at m)) (Err not_on_calendar)
 
 -- ---- from a date to its minute
 
@@ -78,8 +73,8 @@ unfoldable pub minute_at : ℕ → ℕ → ℕ → ℕ → ℕ → ℕ
 minute_at year month day hour minute = days_before year month day * 1440 + hour * 60 + minute
 
 -- G8, R14: the minute of any numbers as a date
-unfoldable pub minute_of : ℕ → ℕ → ℕ → ℕ → ℕ → MinuteAnswer
+unfoldable pub minute_of : ℕ → ℕ → ℕ → ℕ → ℕ → Result ℕ Refusal
 minute_of year month day hour minute =
     cond (exists year month day hour minute && leb first_year year && leb year last_year)
-    (record { refusal = 0; minute = minute_at year month day hour minute })
-    (record { refusal = not_on_calendar; minute = 0 })
+    (Ok (minute_at year month day hour minute))
+    (Err not_on_calendar)

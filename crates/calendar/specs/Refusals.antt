@@ -1,7 +1,8 @@
--- The number with which a minute or a date is refused (R14).
+-- The refusal of a minute or a date (R14).
 -- Assumes nothing.
-use Rattle.std.specs.Prelude.{ℕ}
+use Rattle.refusal.specs.declared.Refusal.{Refusal}
+use Rattle.refusal.specs.declared.Refusal.TheVariants.{NotOnCalendar}
 
 -- R14: not on the calendar
-abbrev pub not_on_calendar : ℕ
-not_on_calendar = 14
+abbrev pub not_on_calendar : Refusal
+not_on_calendar = NotOnCalendar

@@ -25,10 +25,10 @@ const MONTH_PARTS: u64 = 16384;
 
 const MARCH_PARTS: u64 = 49_484;
 
-// The date of a minute, as Neri and Schneider work it out. Century c begins at day c * 146097 / 4, rounded down: each has
+// The date of a minute of the calendar, as Neri and Schneider work it out. Century c begins at day c * 146097 / 4, rounded down: each has
 // 36524 days, and every fourth a day more. So day n is in century (4 * n + 3) / 146097, and a fourth of the remainder is
 // its day there. The years of a century go by the same rule, with 1461.
-pub(crate) fn date_at(minute: u64) -> Date
+pub fn date_at(minute: u64) -> Date
     requires { minute ≤ last_minute }
     ensures { result ≡ date_at minute }
 {

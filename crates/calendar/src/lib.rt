@@ -1,5 +1,6 @@
 // The calendar (G1 to G10): minute 0 is 1970-01-01 00:00, a Thursday, and the last minute is 9999-12-31 23:59; proleptic
-// Gregorian. `date_of` gives the date of a minute and `minute_of` the minute of a date, for any numbers whatever.
+// Gregorian. `date_of` gives the date of a minute and `minute_of` the minute of a date, for any numbers whatever; `date_at` the date of a minute
+// that is known to be on the calendar.
 #![tactic(auto)]
 
 mod direct;
@@ -9,11 +10,12 @@ pub mod walk;
 ghost use Rattle.std.specs.Prelude.{◌≡◌, true, ◌&&◌, ◌-◌, leb};
 ghost use Rattle.calendar.specs.Gregorian.{year_days};
 ghost use Rattle.calendar.specs.Walk.{span};
-ghost use Rattle.calendar.specs.Refusals.{not_on_calendar};
-ghost use Rattle.calendar.specs.Dates.{first_year, last_year, no_date, date_of, exists, month_start, minute_of};
+ghost use Rattle.calendar.specs.Dates.{first_year, last_year, date_of, exists, month_start, minute_at, minute_of};
 
-use direct::{date_at, days_before_month, days_before_year};
+pub use direct::date_at;
+use direct::{days_before_month, days_before_year};
 use gregorian::month_days;
+use refusal::Refusal;
 
 const FIRST_YEAR: u64 = 1970;
 
@@ -30,11 +32,8 @@ pub const CYCLE_MINUTES: u64 = 210_379_680;
 
 pub const DAY_MINUTES: u64 = 1440;
 
-// The refusal of a minute or a date that isn't on the calendar.
-pub const NOT_ON_CALENDAR: u8 = 14;
-
 // A date with its weekday, Sunday 0 to Saturday 6.
-#[derive(Clone, Copy)]
+#[derive(Clone, Copy, PartialEq, Eq)]
 pub struct Date {
     pub year: u64,
     pub month: u64,
@@ -44,47 +43,14 @@ pub struct Date {
     pub weekday: u64,
 }
 
-// The date of a minute: refusal 0, or 14 and a date that is 0 in every part.
-#[derive(Clone, Copy)]
-pub struct DateAnswer {
-    pub refusal: u8,
-    pub date: Date,
-}
-
-// The minute of a date: refusal 0, or 14 and minute 0.
-#[derive(Clone, Copy)]
-pub struct MinuteAnswer {
-    pub refusal: u8,
-    pub minute: u64,
-}
-
 // The date of a minute.
-pub fn date_of(minute: u64) -> DateAnswer
+pub fn date_of(minute: u64) -> Result<Date, Refusal>
     ensures { result ≡ date_of minute }
 {
     if LAST_MINUTE < minute {
-        return no_date();
+        return Err(Refusal::NotOnCalendar);
     }
-    let date = date_at(minute);
-    DateAnswer { refusal: 0, date }
-}
-
-// The answer for a minute that isn't on the calendar.
-pub(crate) fn no_date() -> DateAnswer
-    ensures { result ≡ record { refusal = not_on_calendar; date = no_date } }
-{
-    let date = Date {
-        year: 0,
-        month: 0,
-        day: 0,
-        hour: 0,
-        minute: 0,
-        weekday: 0,
-    };
-    DateAnswer {
-        refusal: NOT_ON_CALENDAR,
-        date,
-    }
+    Ok(date_at(minute))
 }
 
 // Whether there is such a date, in any year.
@@ -102,37 +68,24 @@ pub(crate) fn on_calendar(year: u64, month: u64, day: u64, hour: u64, minute: u6
 }
 
 // The minute of a date.
-pub fn minute_of(year: u64, month: u64, day: u64, hour: u64, minute: u64) -> MinuteAnswer
+pub fn minute_of(year: u64, month: u64, day: u64, hour: u64, minute: u64) -> Result<u64, Refusal>
     ensures { result ≡ minute_of year month day hour minute }
 {
     if on_calendar(year, month, day, hour, minute) {
         let start = days_before_year(year);
-        return minute_in(start, year, month, day, hour, minute);
+        return Ok(minute_in(start, year, month, day, hour, minute));
     }
-    MinuteAnswer {
-        refusal: NOT_ON_CALENDAR,
-        minute: 0,
-    }
+    Err(Refusal::NotOnCalendar)
 }
 
 // The minute of a date of the calendar, from the days before its year, however they were counted.
-pub(crate) fn minute_in(
-    start: u64,
-    year: u64,
-    month: u64,
-    day: u64,
-    hour: u64,
-    minute: u64,
-) -> MinuteAnswer
+pub(crate) fn minute_in(start: u64, year: u64, month: u64, day: u64, hour: u64, minute: u64) -> u64
     requires start_value { start ≡ span year_days 1970 (year - 1970) }
     requires last_year_value { (exists year month day hour minute && leb first_year year && leb year last_year) ≡ true }
-    ensures { result ≡ minute_of year month day hour minute }
+    ensures { result ≡ minute_at year month day hour minute }
 {
     let days = start + days_before_month(year, month) + (day - 1);
-    MinuteAnswer {
-        refusal: 0,
-        minute: days * DAY_MINUTES + hour * 60 + minute,
-    }
+    days * DAY_MINUTES + hour * 60 + minute
 }
 
 // The first day of a month, counted from 1970-01-01; months are counted through the years, 12 for each. One that isn't on the calendar

@@ -6,10 +6,8 @@ ghost use Rattle.calendar.specs.Walk.{span};
 ghost use Rattle.calendar.specs.Dates.{calendar_days, year_of, month_of, date_of, minute_of};
 
 use crate::gregorian::{CYCLE_DAYS, CYCLE_YEARS, month_days, year_days};
-use crate::{
-    DAY_MINUTES, Date, DateAnswer, FIRST_YEAR, LAST_MINUTE, MinuteAnswer, NOT_ON_CALENDAR,
-    minute_in, no_date, on_calendar,
-};
+use crate::{DAY_MINUTES, Date, FIRST_YEAR, LAST_MINUTE, minute_in, on_calendar};
+use refusal::Refusal;
 
 // Where a day falls: the year, or the month, and the days of it that are over.
 #[derive(Clone, Copy)]
@@ -19,38 +17,40 @@ pub(crate) struct Place {
 }
 
 // The date of a minute, by the walk.
-pub fn date_by_walk(minute: u64) -> DateAnswer
+pub fn date_by_walk(minute: u64) -> Result<Date, Refusal>
     ensures { result ≡ date_of minute }
 {
     if LAST_MINUTE < minute {
-        return no_date();
+        return Err(Refusal::NotOnCalendar);
     }
     let day = minute / DAY_MINUTES;
     let year = year_of(day);
     let month = month_of(year.at, year.rest);
-    let date = Date {
+    Ok(Date {
         year: year.at,
         month: month.at,
         day: month.rest + 1,
         hour: minute % DAY_MINUTES / 60,
         minute: minute % 60,
         weekday: (day + 4) % 7,
-    };
-    DateAnswer { refusal: 0, date }
+    })
 }
 
-// The minute of a date, by the walk.
-pub fn minute_by_walk(year: u64, month: u64, day: u64, hour: u64, minute: u64) -> MinuteAnswer
+// The minute of a date, by the walk. It is `minute_of` but for the days before the year; to pass those as a closure would be no shorter.
+pub fn minute_by_walk(
+    year: u64,
+    month: u64,
+    day: u64,
+    hour: u64,
+    minute: u64,
+) -> Result<u64, Refusal>
     ensures { result ≡ minute_of year month day hour minute }
 {
     if on_calendar(year, month, day, hour, minute) {
         let start = days_before_year(year);
-        return minute_in(start, year, month, day, hour, minute);
+        return Ok(minute_in(start, year, month, day, hour, minute));
     }
-    MinuteAnswer {
-        refusal: NOT_ON_CALENDAR,
-        minute: 0,
-    }
+    Err(Refusal::NotOnCalendar)
 }
 
 // Whole cycles of 400 years at once, then year by year to the year of a day.
@@ -60,6 +60,7 @@ pub(crate) fn year_of(day: u64) -> Place
 {
     let mut at = FIRST_YEAR + day / CYCLE_DAYS * CYCLE_YEARS;
     let mut rest = day % CYCLE_DAYS;
+    // No range over years: the last one is known when the days run out.
     loop {
         let days = year_days(at);
         if rest < days {
@@ -77,6 +78,7 @@ pub(crate) fn month_of(year: u64, day: u64) -> Place
 {
     let mut at = 1;
     let mut rest = day;
+    // Nor over months.
     loop {
         let days = month_days(year, at);
         if rest < days {
@@ -93,11 +95,10 @@ pub(crate) fn days_before_year(year: u64) -> u64
     ensures { result ≡ span year_days 1970 (year - 1970) }
 {
     let cycles = (year - FIRST_YEAR) / CYCLE_YEARS;
-    let mut at = FIRST_YEAR + cycles * CYCLE_YEARS;
+    let first = FIRST_YEAR + cycles * CYCLE_YEARS;
     let mut days = cycles * CYCLE_DAYS;
-    while at < year {
+    for at in first..year {
         days += year_days(at);
-        at += 1;
     }
     days
 }

@@ -2,6 +2,7 @@
 -- The equations of `shell-..` and `input-..` are one for each way a command or a standard input can go on, of any length, so they leave
 -- shell line and input no choice.
 -- Assumes nothing.
+use Rattle.std.specs.Prelude.{Some, None, Ok, Err}
 use mathlib.Core.Path.{◌≡◌, refl, ap, ◌∙◌}
 use mathlib.Core.Bool.{Bool, true, false, not, cond, ◌&&◌, ◌||◌, and-eq-true_iff, false≢true}
 use mathlib.Mathlib.Data.Bool.Basic.{or-eq-false-eq-eq-false-and-eq-false}
@@ -10,18 +11,17 @@ use Prim.Native.Nat.{ℕ, ◌≤◌, ◌<◌}
 use lib.Dec.{eqb, leb}
 use lib.ListN.{length, drop}
 use borrow.Author.Tests.{ne_eqb, eqb-false, not-true, le-leb, lt-leb}
+use Rattle.refusal.specs.declared.Refusal.TheVariants.{TooShort}
 use Rattle.octets.specs.OverFront.{over_front}
 use Rattle.command.specs.declared.Piece.{Piece}
 use Rattle.command.specs.declared.Piece.TheVariants.{Byte, Percent}
 use Rattle.command.specs.Pieces.{percent, backslash, alone, paired, pieces, byte_of, bytes_of}
-use Rattle.command.specs.declared.Input.TheVariants.{None, Length}
-use Rattle.command.specs.declared.SplitAnswer.TheVariants.{Written, Refused}
-use Rattle.command.specs.Parts.{absent, given, up_to_percent, rest_of, shell_line, input_of, text_of, input_length, lengths_of}
+use Rattle.command.specs.Parts.{up_to_percent, rest_of, shell_line, input_of, text_of, input_length, lengths_of}
 use Rattle.command.specs.Buffers.{have_room, Split, split_step}
 
 -- ---- the shell line, and whether there is input
 
-pub shell-none : (shell_line [] ≡ []) × (input_of [] ≡ absent)
+pub shell-none : (shell_line [] ≡ []) × (input_of [] ≡ None)
 unfolding shell_line input_of pieces up_to_percent rest_of
 shell-none = (refl, refl)
 
@@ -38,12 +38,12 @@ unfolding shell_line input_of pieces alone paired up_to_percent rest_of
 shell-kept b s n = rw (ne_eqb b percent n) (refl, refl)
 
 -- a backslash at the very end stays
-pub shell-backslash : (shell_line (backslash ∷ []) ≡ backslash ∷ []) × (input_of (backslash ∷ []) ≡ absent)
+pub shell-backslash : (shell_line (backslash ∷ []) ≡ backslash ∷ []) × (input_of (backslash ∷ []) ≡ None)
 unfolding shell_line input_of pieces alone paired up_to_percent rest_of
 shell-backslash = (refl, refl)
 
 -- the first other `%` ends the shell line, and there is input
-pub shell-ends : (s : List ℕ) → (shell_line (percent ∷ s) ≡ []) × (input_of (percent ∷ s) ≡ given (text_of (input_of (percent ∷ s))))
+pub shell-ends : (s : List ℕ) → (shell_line (percent ∷ s) ≡ []) × (input_of (percent ∷ s) ≡ Some (text_of (input_of (percent ∷ s))))
 unfolding shell_line input_of pieces alone up_to_percent rest_of text_of
 shell-ends s = (refl, refl)
 
@@ -154,7 +154,7 @@ shell-joined a b e = joins false a b e
 
 -- a command with a `%`: what is before it is the shell line, and what is after it the input
 pub shell-cut : (a b : List ℕ) → in_shell false a ≡ true
-    → (shell_line (a ++ percent ∷ b) ≡ shell_line a) × (input_of (a ++ percent ∷ b) ≡ given (input_text b))
+    → (shell_line (a ++ percent ∷ b) ≡ shell_line a) × (input_of (a ++ percent ∷ b) ≡ Some (input_text b))
 shell-cut a b e =
     let j = shell-joined a (percent ∷ b) e in
     (j.0 ∙ rw (shell-ends b).0 (append-nil (shell_line a)), j.1 ∙ (shell-ends b).1)
@@ -166,7 +166,7 @@ is_plain [] = true
 is_plain (b ∷ s) = let later = is_plain s in not (eqb b percent || eqb b backslash) && later
 
 -- a command without `%` and backslash is its shell line and has no input; as input it is itself
-pub plain-command : (s : List ℕ) → is_plain s ≡ true → (shell_line s ≡ s) × (input_of s ≡ absent) × (input_text s ≡ s)
+pub plain-command : (s : List ℕ) → is_plain s ≡ true → (shell_line s ≡ s) × (input_of s ≡ None) × (input_text s ≡ s)
 plain-command [] e = (shell-none.0, shell-none.1, input_none)
 plain-command (b ∷ s) e =
     let t = (and-eq-true_iff (not (eqb b percent || eqb b backslash)) (is_plain s)).0 e in
@@ -188,23 +188,23 @@ module _ (c shell input : List ℕ) where
 
   pub split-writes : length line ≤ length shell → length fed ≤ length input
       → split_step c shell input
-      ≡ record { answer = Written (length line) (input_length (input_of c)); shell = line ++ drop (length line) shell; input = fed ++ drop (length fed) input }
-  unfolding split_step have_room over_front
+      ≡ record { answer = Ok (record { shell = length line; input = input_length (input_of c) }); shell = line ++ drop (length line) shell; input = fed ++ drop (length fed) input }
+  unfolding split_step have_room over_front lengths_of
   split-writes h k = rw (le-leb (length line) (length shell) h, le-leb (length fed) (length input) k) refl
 
-  pub split-no-shell : length shell < length line → split_step c shell input ≡ record { answer = Refused 18; shell = shell; input = input }
+  pub split-no-shell : length shell < length line → split_step c shell input ≡ record { answer = Err TooShort; shell = shell; input = input }
   unfolding split_step have_room
   split-no-shell h = rw (lt-leb (length line) (length shell) h) refl
 
-  pub split-no-input : length input < length fed → split_step c shell input ≡ record { answer = Refused 18; shell = shell; input = input }
-  unfolding split_step have_room
+  pub split-no-input : length input < length fed → split_step c shell input ≡ record { answer = Err TooShort; shell = shell; input = input }
+  unfolding split_step have_room lengths_of
   split-no-input h = rw (lt-leb (length fed) (length input) h) (go (leb (length line) (length shell)))
     where
       refused : Split
-      refused = record { answer = Refused 18; shell = shell; input = input }
+      refused = record { answer = Err TooShort; shell = shell; input = input }
 
       wrote : Split
-      wrote = record { answer = Written (length line) (input_length (input_of c)); shell = over_front line shell; input = over_front fed input }
+      wrote = record { answer = Ok (record { shell = length line; input = input_length (input_of c) }); shell = over_front line shell; input = over_front fed input }
 
       go : (t : Bool) → cond (t && false) wrote refused ≡ refused
       go true = refl
@@ -215,6 +215,6 @@ pub lengths-are : (c : List ℕ) → ((lengths_of c).shell ≡ length (shell_lin
 unfolding lengths_of
 lengths-are c = (refl, refl)
 
-pub input-length : (input_length absent ≡ None) × ((t : List ℕ) → input_length (given t) ≡ Length (length t))
+pub input-length : (input_length None ≡ None) × ((t : List ℕ) → input_length (Some t) ≡ Some (length t))
 unfolding input_length
 input-length = (refl, λ t. refl)

@@ -1,5 +1,6 @@
 -- The theorems of commands, each used where it says most; and what doesn't meet the words of the functions' promises.
 -- Assumes nothing.
+use Rattle.std.specs.Prelude.{Option, Some, None}
 use mathlib.Core.Path.{◌≡◌, refl, ap, ◌∙◌}
 use mathlib.Core.Bool.{Bool, true, false, true≢false, false≢true}
 use mathlib.Core.List.{List, [], ◌∷◌, ◌++◌}
@@ -9,10 +10,11 @@ use lib.ListN.{length, replicate}
 use borrow.Author.Tests.{le-leb}
 use Rattle.octets.specs.Texts.{text}
 use Rattle.command.specs.declared.Piece.{Piece}
+use Rattle.command.specs.declared.Pieces.{Pieces}
 use Rattle.command.specs.declared.Piece.TheVariants.{Byte, Percent}
 use Rattle.command.specs.declared.Shell.TheVariants.{Whole, Cut}
 use Rattle.command.specs.Pieces.{pieces}
-use Rattle.command.specs.Parts.{Stdin, absent, given, shell_line, input_of, text_of}
+use Rattle.command.specs.Parts.{shell_line, input_of, text_of}
 use Rattle.command.specs.Buffers.{have_room}
 use Rattle.command.specs.Inner.{ahead, StepIs, ShellIs}
 use Rattle.command.specs.Computing.{splitting}
@@ -83,7 +85,7 @@ pub escapes-used : (n : ℕ) (s : List ℕ)
     → (shell_line (escapes n ++ s) ≡ replicate n 37 ++ shell_line s)
     × (input_of (escapes n ++ s) ≡ input_of s)
     × (shell_line (escapes n ++ 37 ∷ s) ≡ replicate n 37)
-    × (input_of (escapes n ++ 37 ∷ s) ≡ given (input_text s))
+    × (input_of (escapes n ++ 37 ∷ s) ≡ Some (input_text s))
     × (input_text (escapes n ++ s) ≡ replicate n 37 ++ input_text s)
 escapes-used n s =
     let w = escapes-whole n in
@@ -99,15 +101,15 @@ escapes-used n s =
 
 -- ---- what doesn't meet them
 
-abbrev is_absent : Stdin → Bool
-is_absent absent = true
-is_absent (given t) = false
+abbrev is_absent : Option (List ℕ) → Bool
+is_absent None = true
+is_absent (Some t) = false
 
 -- another length; an input that is absent where there is one, and one where there is none
-not-shell :
-    (ShellIs (text "ab") (Whole 1) → ⊥) × (ShellIs (text "a%") (Whole 1) → ⊥) × (ShellIs (text "ab") (Cut 2 2) → ⊥) × (ShellIs (text "a%b") (Cut 2 2) → ⊥)
+not-shell : (p : Pieces)
+    → (ShellIs (text "ab") (Whole 1) → ⊥) × (ShellIs (text "a%") (Whole 1) → ⊥) × (ShellIs (text "ab") (Cut 2 p) → ⊥) × (ShellIs (text "a%b") (Cut 2 p) → ⊥)
 unfolding splitting
-not-shell = (
+not-shell p = (
   (λ h. omega (arith, h.0)),
   (λ h. false≢true (ap is_absent h.1)),
   (λ h. true≢false (ap is_absent h.1)),

@@ -1,7 +1,8 @@
--- The number with which a split is refused (R18).
+-- The refusal of a split (R18).
 -- Assumes nothing.
-use Rattle.std.specs.Prelude.{ℕ}
+use Rattle.refusal.specs.declared.Refusal.{Refusal}
+use Rattle.refusal.specs.declared.Refusal.TheVariants.{TooShort}
 
 -- R18: a buffer is too short
-abbrev pub too_short : ℕ
-too_short = 18
+abbrev pub too_short : Refusal
+too_short = TooShort

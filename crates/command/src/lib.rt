@@ -7,10 +7,10 @@ ghost use Rattle.command.specs.Pieces.{percent, pieces, byte_of, bytes_of};
 ghost use Rattle.command.specs.Parts.{lengths_of};
 ghost use Rattle.octets.specs.OverFront.{over_front};
 ghost use Rattle.command.specs.Buffers.{split_step};
-ghost use Rattle.command.specs.Inner.{text_step, StepIs, ShellIs};
+ghost use Rattle.std.specs.Iterator.{YieldsFirst, item_count};
+ghost use Rattle.command.specs.Inner.{left, text_step, StepIs, ShellIs};
 
-// The refusal of a lent buffer that is too short for its text.
-pub const TOO_SHORT: u8 = 18;
+use refusal::Refusal;
 
 // What a command is made of.
 #[derive(Clone, Copy)]
@@ -31,46 +31,25 @@ struct Step {
 
 // Where a shell line ends.
 #[derive(Clone, Copy)]
-enum Shell {
+enum Shell<'a> {
     // At the command's end, after so many bytes.
     Whole(usize),
-    // At an unescaped `%`, after so many bytes; the input is what the command has from a place on.
-    Cut { length: usize, rest: usize },
+    // At an unescaped `%`, after so many bytes; the pieces behind it are the input.
+    Cut { length: usize, input: Pieces<'a> },
 }
 
-// Standard input.
-#[derive(Clone, Copy)]
-pub enum Input {
-    // The command has no unescaped `%`.
-    None,
-    // So many bytes, 0 for empty input.
-    Length(usize),
-}
-
-// The length of the shell line, and the input's.
-#[derive(Clone, Copy)]
+// The length of the shell line, and of standard input: none where the command has no unescaped `%`, 0 where it is empty.
+#[derive(Clone, Copy, Debug, PartialEq, Eq)]
 pub struct Lengths {
     pub shell: usize,
-    pub input: Input,
-}
-
-// What a split comes back with.
-#[derive(Clone, Copy)]
-pub enum SplitAnswer {
-    // Both texts are written: the length of the shell line, and the input's.
-    Written(usize, Input),
-    // Refused, by its number, and nothing written.
-    Refused(u8),
+    pub input: Option<usize>,
 }
 
 // Whether a `%` stands at place i.
 fn is_percent(c: &[u8], i: usize) -> bool
     ensures { result ≡ eqb (get_or c.now i 0) percent }
 {
-    if i < c.len() {
-        return c[i] == b'%';
-    }
-    false
+    c.get(i) == Some(&b'%')
 }
 
 // A step over a byte of text.
@@ -122,57 +101,77 @@ fn byte_of(piece: Piece) -> u8
     }
 }
 
+// The pieces that lie ahead of a place in a command. Where the byte there is the second of a pair, it is text whatever it is.
+#[derive(Clone, Copy)]
+struct Pieces<'a> {
+    command: &'a [u8],
+    at: usize,
+    second: bool,
+}
+
+impl<'a> Iterator for Pieces<'a> {
+    type Item = Piece;
+
+    ghost next_gives = { YieldsFirst left };
+
+    ghost remaining = { item_count left };
+
+    fn next(&mut self) -> Option<Piece> {
+        if self.command.len() <= self.at {
+            return None;
+        }
+        let step = read(self.command, self.at, self.second);
+        self.at = step.next;
+        self.second = step.second;
+        Some(step.piece)
+    }
+}
+
+// All pieces of a command.
+#[tactic(auto, unfolding(crate::specs::Inner::ahead))]
+fn pieces_of(c: &[u8]) -> Pieces<'_>
+    ensures { left result ≡ pieces false c.now }
+{
+    Pieces {
+        command: c,
+        at: 0,
+        second: false,
+    }
+}
+
 // Where the shell line ends.
-fn shell_end(c: &[u8]) -> Shell
+fn shell_end(c: &[u8]) -> Shell<'_>
     ensures { ShellIs c.now result }
 {
-    let mut i = 0;
-    let mut second = false;
-    let mut n = 0;
-    while i < c.len() {
-        let step = read(c, i, second);
-        i = step.next;
-        second = step.second;
-        let piece = step.piece;
+    let mut pieces = pieces_of(c);
+    let mut length = 0;
+    while let Some(piece) = pieces.next() {
         if let Piece::Percent = piece {
-            return Shell::Cut { length: n, rest: i };
+            return Shell::Cut {
+                length,
+                input: pieces,
+            };
         }
-        n += 1;
+        length += 1;
     }
-    Shell::Whole(n)
+    Shell::Whole(length)
 }
 
-// How many bytes the text from a place on has.
-fn count(c: &[u8], from: usize) -> usize
-    ensures { result ≡ length (pieces false (drop from c.now)) }
+fn count(pieces: Pieces<'_>) -> usize
+    ensures { result ≡ length (left pieces.entry) }
 {
-    let mut i = from;
-    let mut second = false;
-    let mut n = 0;
-    while i < c.len() {
-        let step = read(c, i, second);
-        i = step.next;
-        second = step.second;
-        n += 1;
-    }
-    n
+    pieces.count()
 }
 
-// Writes the first n bytes of the text from a place on to the front of a buffer.
-fn fill(c: &[u8], from: usize, n: usize, out: &mut [u8])
-    requires { (n ≤ length (pieces false (drop from c.now))) × (n ≤ length out.old) }
-    ensures { out.new ≡ over_front (take n (bytes_of (pieces false (drop from c.now)))) out.old }
+// Writes the bytes of the first n pieces to the front of a buffer.
+fn fill(pieces: Pieces<'_>, n: usize, out: &mut [u8])
+    requires { (n ≤ length (left pieces)) × (n ≤ length out.old) }
+    ensures { out.new ≡ over_front (take n (bytes_of (left pieces.entry))) out.old }
 {
-    let mut i = from;
-    let mut second = false;
-    let mut k = 0;
-    while k < n {
-        let step = read(c, i, second);
-        i = step.next;
-        second = step.second;
-        let piece = step.piece;
+    let mut pieces = pieces;
+    for k in 0..n {
+        let piece = pieces.next().unwrap();
         out[k] = byte_of(piece);
-        k += 1;
     }
 }
 
@@ -183,20 +182,17 @@ pub fn measure(c: &[u8]) -> Lengths
     match shell_end(c) {
         Shell::Whole(n) => Lengths {
             shell: n,
-            input: Input::None,
+            input: None,
         },
-        Shell::Cut { length, rest } => {
-            let m = count(c, rest);
-            Lengths {
-                shell: length,
-                input: Input::Length(m),
-            }
-        }
+        Shell::Cut { length, input } => Lengths {
+            shell: length,
+            input: Some(count(input)),
+        },
     }
 }
 
 // Writes a command's shell line and standard input to the fronts of two buffers; where either is too short, writes nothing.
-pub fn split(c: &[u8], shell: &mut [u8], input: &mut [u8]) -> SplitAnswer
+pub fn split(c: &[u8], shell: &mut [u8], input: &mut [u8]) -> Result<Lengths, Refusal>
     ensures answer { result ≡ (split_step c.now shell.old input.old).answer }
     ensures shell { shell.new ≡ (split_step c.now shell.old input.old).shell }
     ensures input { input.new ≡ (split_step c.now shell.old input.old).input }
@@ -204,19 +200,29 @@ pub fn split(c: &[u8], shell: &mut [u8], input: &mut [u8]) -> SplitAnswer
     match shell_end(c) {
         Shell::Whole(n) => {
             if shell.len() < n {
-                return SplitAnswer::Refused(TOO_SHORT);
+                return Err(Refusal::TooShort);
             }
-            fill(c, 0, n, shell);
-            SplitAnswer::Written(n, Input::None)
+            fill(pieces_of(c), n, shell);
+            Ok(Lengths {
+                shell: n,
+                input: None,
+            })
         }
-        Shell::Cut { length, rest } => {
-            let m = count(c, rest);
+        Shell::Cut {
+            length,
+            input: rest,
+        } => {
+            let m = count(rest);
+            let lengths = Lengths {
+                shell: length,
+                input: Some(m),
+            };
             if (shell.len() < length) | (input.len() < m) {
-                return SplitAnswer::Refused(TOO_SHORT);
+                return Err(Refusal::TooShort);
             }
-            fill(c, 0, length, shell);
-            fill(c, rest, m, input);
-            SplitAnswer::Written(length, Input::Length(m))
+            fill(pieces_of(c), length, shell);
+            fill(rest, m, input);
+            Ok(lengths)
         }
     }
 }

@@ -1,5 +1,6 @@
 -- Rules act on each line of a table apart from the others, and on nothing else.
 -- Assumes nothing.
+use Rattle.std.specs.Prelude.{Ok, Err, Result}
 use mathlib.Core.Path.{◌≡◌, refl}
 use mathlib.Core.Bool.{Bool, true, false}
 use mathlib.Core.List.{List, [], ◌∷◌}
@@ -10,7 +11,7 @@ use Rattle.field.specs.declared.Dialect.{Dialect}
 use Rattle.line.specs.declared.Rules.{Rules}
 use Rattle.line.specs.declared.Kind.{Kind}
 use Rattle.line.specs.declared.Line.{Line}
-use Rattle.line.specs.declared.Line.TheVariants.{Ignored, Setting, Entry, Refused}
+use Rattle.line.specs.declared.Line.TheVariants.{Ignored, Setting, Entry}
 use Rattle.line.specs.Entries.{at_sign}
 use Rattle.line.specs.Offsets.{utc, in_force}
 use Rattle.crontab.specs.Lines.{lines_of, is_cut}
@@ -18,18 +19,19 @@ use Rattle.line.specs.Lines.{starts_entry, read_line}
 use Rattle.crontab.specs.Items.{Items, after_line, items_from, items_of}
 use Rattle.crontab.specs.Tables.{table_of}
 use Rattle.line.proofs.Theorems.{rules_of, first_byte, word_line, other-line}
+use Rattle.field.specs.declared.Fault.{Fault}
 
 abbrev pub ReadAlike : Rules → Rules → List (List ℕ) → Type 0
 ReadAlike rules others [] = Unit {0}
 ReadAlike rules others (l ∷ ls) = (read_line rules l ≡ read_line others l) × ReadAlike rules others ls
 
-pub after_same : (at n size k : ℕ) (o : ℤ) (x : Line) (f g : ℕ → ℤ → Items) → ((j : ℕ) (p : ℤ) → f j p ≡ g j p)
+pub after_same : (at n size k : ℕ) (o : ℤ) (x : Result Line Fault) (f g : ℕ → ℤ → Items) → ((j : ℕ) (p : ℤ) → f j p ≡ g j p)
     → after_line at n size k o x f ≡ after_line at n size k o x g
 unfolding after_line
-after_same at n size k o Ignored f g h = h k o
-after_same at n size k o (Setting name value zone) f g h = rw (h k (in_force zone o))
-after_same at n size k o (Entry when start) f g h = rw (h (k + 1) o)
-after_same at n size k o (Refused x) f g h = refl
+after_same at n size k o (Ok Ignored) f g h = h k o
+after_same at n size k o (Ok (Setting name value zone)) f g h = rw (h k (in_force zone o))
+after_same at n size k o (Ok (Entry when start)) f g h = rw (h (k + 1) o)
+after_same at n size k o (Err x) f g h = refl
 
 from-same : (rules others : Rules) (cut : Bool) (at n k : ℕ) (o : ℤ) (ls : List (List ℕ)) → ReadAlike rules others ls
     → items_from rules cut at n k o ls ≡ items_from others cut at n k o ls

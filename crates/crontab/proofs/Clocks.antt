@@ -3,6 +3,9 @@
 use mathlib.Core.Path.{◌≡◌, refl}
 use mathlib.Core.List.{List}
 use Prim.Native.Nat.{ℕ}
+use Rattle.std.specs.Prelude.{Err, Result, Ok}
+use Rattle.refusal.specs.declared.Refusal.{Refusal}
+use Rattle.refusal.specs.declared.Refusal.TheVariants.{AtBootOnly}
 use Rattle.schedule.specs.Local.{biased_offset, next_after_in}
 use Rattle.schedule.specs.Clocks.{clock_after_in}
 use Rattle.schedule.proofs.Theorems.{slow-agrees}
@@ -12,11 +15,8 @@ use Rattle.line.specs.declared.Kind.TheVariants.{System}
 use Rattle.line.specs.declared.time.When.{When}
 use Rattle.line.specs.declared.time.When.TheVariants.{Reboot, Timed}
 use Rattle.crontab.specs.declared.entry.Entry.{Entry}
-use Rattle.crontab.specs.declared.table.EntryAnswer.{EntryAnswer}
-use Rattle.crontab.specs.declared.table.EntryAnswer.TheVariants as answer
-use Rattle.crontab.specs.declared.firing.NextAnswer.TheVariants.{Refused}
 use Rattle.crontab.specs.Tables.{table_of, entry_in}
-use Rattle.crontab.specs.Firings.{by_when, told, next_of, next_answer, next_in}
+use Rattle.crontab.specs.Firings.{by_when, next_of, next_answer, next_in}
 use Rattle.crontab.specs.Clocks.{clock_of, clock_answer, clock_in}
 
 entry-by-clock : (e : Entry) (m : ℕ) → next_of e m ≡ clock_of e m
@@ -26,7 +26,7 @@ entry-by-clock e m = rw (go e.when)
     o : ℕ
     o = biased_offset e.offset
 
-    go : (w : When) → by_when w (Refused 15) (λ s. told (next_after_in s o m)) ≡ by_when w (Refused 15) (λ s. told (clock_after_in s o m))
+    go : (w : When) → by_when w (Err AtBootOnly) (λ s. next_after_in s o m) ≡ by_when w (Err AtBootOnly) (λ s. clock_after_in s o m)
     go Reboot = refl
     go (Timed s) = rw (slow-agrees s o m)
 
@@ -34,9 +34,9 @@ pub next-by-clock : (rules : Rules) (table : List ℕ) (e m : ℕ) → next_in (
 unfolding next_in next_answer clock_in clock_answer
 next-by-clock rules table e m = go (entry_in (table_of rules table) e)
   where
-    go : (a : EntryAnswer) → next_answer a m ≡ clock_answer a m
-    go (answer.Found e) = entry-by-clock e m
-    go (answer.Refused number) = refl
+    go : (a : Result Entry Refusal) → next_answer a m ≡ clock_answer a m
+    go (Ok e) = entry-by-clock e m
+    go (Err refusal) = refl
 
 -- used for entry 511 of a system table in the second dialect, from the calendar's first minute
 pub clock-used : (table : List ℕ)

@@ -1,10 +1,12 @@
 -- What an entry does goes by its time and its offset alone: where it is in its table doesn't matter, nor how long its command is.
 -- Assumes nothing.
 use mathlib.Core.Path.{◌≡◌, refl}
-use mathlib.Core.Bool.{true, false, cond, or-true}
+use mathlib.Core.Bool.{true, false, or-true}
 use Prim.Native.Nat.{ℕ, ◌≤◌, ◌<◌}
 use lib.IntN.{ℤ}
 use borrow.Author.Tests.{le-leb, lt-leb}
+use Rattle.std.specs.Prelude.{Err, Ok}
+use Rattle.refusal.specs.declared.Refusal.TheVariants.{NotOnCalendar, AtBootOnly}
 use Rattle.calendar.specs.Dates.{last_minute}
 use Rattle.schedule.specs.declared.Schedule.{Schedule}
 use Rattle.schedule.specs.Local.{biased_offset, matches_in, next_after_in}
@@ -13,10 +15,8 @@ use Rattle.schedule.specs.declared.jump.Case.{Case}
 use Rattle.line.specs.declared.time.When.{When}
 use Rattle.line.specs.declared.time.When.TheVariants.{Reboot, Timed}
 use Rattle.crontab.specs.declared.entry.Entry.{Entry}
-use Rattle.crontab.specs.declared.firing.DueAnswer.TheVariants as due
-use Rattle.crontab.specs.declared.firing.NextAnswer.TheVariants.{Refused}
 use Rattle.crontab.specs.declared.select.Selector.TheVariants.{AtBoot, At}
-use Rattle.crontab.specs.Firings.{is_boot, is_fixed, fires_at, due_of, told, next_of}
+use Rattle.crontab.specs.Firings.{is_boot, is_fixed, fires_at, due_of, next_of}
 use Rattle.crontab.specs.Selections.{is_selected}
 
 abbrev pub entry_of : When → ℕ → ℕ → ℕ → ℕ → ℤ → Entry
@@ -35,7 +35,7 @@ module _ (line at start end : ℕ) (offset : ℤ) where
   unfolding fires_at
   boot-fires m = refl
 
-  pub boot-due : (m : ℕ) → m ≤ last_minute → (due_of boot m ≡ due.No) × (next_of boot m ≡ Refused 15)
+  pub boot-due : (m : ℕ) → m ≤ last_minute → (due_of boot m ≡ Ok false) × (next_of boot m ≡ Err AtBootOnly)
   unfolding due_of next_of fires_at
   boot-due m h = rw (le-leb m last_minute h) (refl, refl)
 
@@ -58,16 +58,16 @@ module _ (line at start end : ℕ) (offset : ℤ) where
     unfolding fires_at
     timed-fires m = refl
 
-    pub timed-due : (m : ℕ) → m ≤ last_minute → due_of timed m ≡ cond (matches_in s (biased_offset offset) m) due.Yes due.No
+    pub timed-due : (m : ℕ) → m ≤ last_minute → due_of timed m ≡ Ok (matches_in s (biased_offset offset) m)
     unfolding due_of fires_at
     timed-due m h = rw (le-leb m last_minute h)
 
-    pub timed-next : (m : ℕ) → m ≤ last_minute → next_of timed m ≡ told (next_after_in s (biased_offset offset) m)
+    pub timed-next : (m : ℕ) → m ≤ last_minute → next_of timed m ≡ next_after_in s (biased_offset offset) m
     unfolding next_of
     timed-next m h = rw (le-leb m last_minute h)
 
 -- a minute off the calendar is 14, before 15
-pub off-calendar : (e : Entry) (m : ℕ) → last_minute < m → (due_of e m ≡ due.Refused 14) × (next_of e m ≡ Refused 14)
+pub off-calendar : (e : Entry) (m : ℕ) → last_minute < m → (due_of e m ≡ Err NotOnCalendar) × (next_of e m ≡ Err NotOnCalendar)
 unfolding due_of next_of
 off-calendar e m h = rw (lt-leb m last_minute h) (refl, refl)
 

@@ -1,5 +1,7 @@
 -- Laws of the walk over a table's lines: what a step from a cursor gives, and where the walk starts and ends.
 -- Assumes nothing.
+use Rattle.std.specs.Prelude.{Option, Ok, Err}
+use Rattle.refusal.specs.declared.Refusal.TheVariants.{TooManyEntries}
 use mathlib.Core.Path.{◌≡◌, refl, sym, subst, ◌∙◌}
 use mathlib.Core.List.{List}
 use Prim.Native.Nat.{ℕ, ◌+◌, ◌-◌, ◌≤◌, ◌<◌}
@@ -14,21 +16,20 @@ use Rattle.octets.proofs.Runs.{skipped-from, skipped-within}
 use Rattle.line.specs.declared.Rules.{Rules}
 use Rattle.line.specs.declared.Part.{Part}
 use Rattle.line.specs.declared.time.When.{When}
-use Rattle.line.specs.declared.Fault.{Fault}
+use Rattle.field.specs.declared.Fault.{Fault}
 use Rattle.line.specs.declared.Line.TheVariants as line
 use Rattle.crontab.specs.declared.item.Cursor.{Cursor}
 use Rattle.crontab.specs.declared.item.Item.{Item}
 use Rattle.crontab.specs.declared.item.Step.{Step}
 use Rattle.crontab.specs.declared.item.Item.TheVariants as item
 use Rattle.schedule.specs.Local.{OffsetInRange}
-use Rattle.line.specs.declared.offset.Zone.{Zone}
 use Rattle.line.specs.Offsets.{utc, in_force}
 use Rattle.crontab.specs.Limits.{max_table, max_entries}
 use Rattle.line.specs.Limits.{max_line}
 use Rattle.crontab.specs.Lines.{lines_of}
 use Rattle.line.specs.Lines.{read_line}
 use Rattle.crontab.specs.Items.{done, moved, placed, after_line, last_fault, items_from, items_of}
-use Rattle.crontab.specs.Inner.{items_at, behind, Reached, LineAt, given, counted, Sound, Under, Stays, Leads, ended_step, step_at, StepIs, ItemIs}
+use Rattle.crontab.specs.Inner.{items_at, behind, Reached, LineAt, given, counted, Sound, Under, Stays, Leads, ended_step, step_at, StepIs, StepFault, ItemIs, ItemFault}
 use Rattle.crontab.proofs.Lines.{line_end, end-found, stop-found, lines-first, next_start, last_line, ended-line}
 use Rattle.line.proofs.Theorems.{force-in, setting-proper, entry-proper}
 
@@ -82,7 +83,7 @@ module _ (rules : Rules) (s : List ℕ) (c : Cursor) (stop end : ℕ) (there : L
   pub line-stops : stop - c.at ≡ skipped InLine bytes 0
   line-stops = stop-found s c.at stop end there.stops found
 
-  step_is : (i : Item) (k : ℕ) (o : ℤ) → record { item = i; next = next k o } ≡ step_at rules s c → items_at rules s c ≡ given c.line i (items_at rules s (next k o)) → k ≡ counted i c.count → k ≤ max_entries
+  step_is : (i : Item) (k : ℕ) (o : ℤ) → Ok (record { item = i; next = next k o }) ≡ step_at rules s c → items_at rules s c ≡ given c.line i (items_at rules s (next k o)) → k ≡ counted i c.count → k ≤ max_entries
       → OffsetInRange o → Under (length s) c.offset i → Stays c.line c.offset o i → StepIs rules s c (record { item = i; next = next k o })
   step_is i k o same g e few zone under stays =
       record {
@@ -102,7 +103,7 @@ module _ (rules : Rules) (s : List ℕ) (c : Cursor) (stop end : ℕ) (there : L
         stays = stays;
       }
 
-  module _ {when : When} {first : ℕ} (is : read_line rules bytes ≡ line.Entry when first) where
+  module _ {when : When} {first : ℕ} (is : read_line rules bytes ≡ Ok (line.Entry when first)) where
     -- its places have 16 bits
     pub entry-placed : (c.at ≤ max_table) × (c.line ≤ max_table) × (first ≤ max_line) × (end - c.at ≤ max_line)
     entry-placed =
@@ -123,14 +124,13 @@ module _ (rules : Rules) (s : List ℕ) (c : Cursor) (stop end : ℕ) (there : L
         }
 
   -- the table ends there: its own fault, or 26
-  pub step-last : length s ≤ end → {o : ℤ} → o ≡ c.offset
-      → StepIs rules s c (record { item = item.Refused (last_fault (end - c.at) c.count (read_line rules bytes)); next = next c.count o })
-  unfolding items_at items_from given counted step_at between
-  step-last h {o} same =
-      step_is (item.Refused (last_fault (end - c.at) c.count (read_line rules bytes))) c.count o
-      (rw (same, ← found, le-ltb end (length s) h))
-      (rw (lines-first s c.at end inside found, last_line s c.at end inside found h, size)) refl reached.few
-      (subst OffsetInRange (sym same) reached.zone) tt tt
+  pub step-last : length s ≤ end → StepFault rules s c (last_fault (end - c.at) c.count (read_line rules bytes))
+  unfolding items_at items_from step_at between
+  step-last h =
+      record {
+        is = rw (← found, le-ltb end (length s) h);
+        gives = rw (lines-first s c.at end inside found, last_line s c.at end inside found h, size);
+      }
 
   -- a newline ends it
   module _ (ended : end < length s) where
@@ -149,20 +149,25 @@ module _ (rules : Rules) (s : List ℕ) (c : Cursor) (stop end : ℕ) (there : L
     unfolding step_at between
     step-ended = rw (← found, lt-ltb end (length s) ended)
 
+    pub step-refused : {f : Fault} → read_line rules bytes ≡ Err f → StepFault rules s c f
+    unfolding after_line ended_step
+    step-refused is = record { is = rw (step-ended, is); gives = here ∙ rw is }
+
+    pub step-full : {when : When} {first : ℕ} → read_line rules bytes ≡ Ok (line.Entry when first) → max_entries ≤ c.count
+        → StepFault rules s c (record { refusal = TooManyEntries; column = 1 })
+    unfolding after_line ended_step
+    step-full is h = record { is = rw (step-ended, is, le-ltb c.count max_entries h); gives = here ∙ rw (is, le-ltb c.count max_entries h) }
+
     -- the offset that is read back from a cursor
     module _ {o : ℤ} (same : o ≡ c.offset) where
       in-zones : OffsetInRange o
       in-zones = subst OffsetInRange (sym same) reached.zone
 
-      pub step-nothing : read_line rules bytes ≡ line.Ignored → StepIs rules s c (record { item = item.Nothing; next = next c.count o })
+      pub step-nothing : read_line rules bytes ≡ Ok line.Ignored → StepIs rules s c (record { item = item.Nothing; next = next c.count o })
       unfolding after_line given counted ended_step
       step-nothing is = step_is item.Nothing c.count o (rw (step-ended, is, same)) (here ∙ rw (is, same)) refl reached.few in-zones tt same
 
-      pub step-refused : {f : Fault} → read_line rules bytes ≡ line.Refused f → StepIs rules s c (record { item = item.Refused f; next = next c.count o })
-      unfolding after_line given counted ended_step
-      step-refused {f} is = step_is (item.Refused f) c.count o (rw (step-ended, is, same)) (here ∙ rw is) refl reached.few in-zones tt tt
-
-      pub step-entry : {when : When} {first : ℕ} → read_line rules bytes ≡ line.Entry when first → c.count < max_entries
+      pub step-entry : {when : When} {first : ℕ} → read_line rules bytes ≡ Ok (line.Entry when first) → c.count < max_entries
           → StepIs rules s c (record { item = item.Entry (placed c.at c.line (end - c.at) c.offset when first); next = next (c.count + 1) o })
       unfolding after_line given counted ended_step
       step-entry {when} {first} is h =
@@ -170,14 +175,7 @@ module _ (rules : Rules) (s : List ℕ) (c : Cursor) (stop end : ℕ) (there : L
           (rw (step-ended, is, lt-ltb c.count max_entries h, same))
           (here ∙ rw (is, lt-ltb c.count max_entries h, same)) refl (omega arith) in-zones (refl, entry_here is) refl
 
-      pub step-full : {when : When} {first : ℕ} → read_line rules bytes ≡ line.Entry when first → max_entries ≤ c.count
-          → StepIs rules s c (record { item = item.Refused (record { number = 12; column = 1 }); next = next c.count o })
-      unfolding after_line given counted ended_step
-      step-full is h =
-          step_is (item.Refused (record { number = 12; column = 1 })) c.count o (rw (step-ended, is, le-ltb c.count max_entries h, same)) (here ∙ rw (is, le-ltb c.count max_entries h)) refl
-          reached.few in-zones tt tt
-
-    pub step-setting : {name value : Part} {zone : Zone} {o : ℤ} → read_line rules bytes ≡ line.Setting name value zone → o ≡ in_force zone c.offset
+    pub step-setting : {name value : Part} {zone : Option ℤ} {o : ℤ} → read_line rules bytes ≡ Ok (line.Setting name value zone) → o ≡ in_force zone c.offset
         → StepIs rules s c (record { item = item.Setting (moved c.at name) (moved c.at value); next = next c.count o })
     unfolding after_line given counted ended_step
     step-setting {name} {value} {zone} {o} is same =
@@ -226,7 +224,10 @@ module _ {rules : Rules} {s : List ℕ} {from c : Cursor} (so : Skipped rules s 
       past item.Nothing h = absurd (h refl)
       past (item.Setting name value) h = omega (arith, so.onward, step.onward)
       past (item.Entry e) h = omega (arith, so.onward, step.onward)
-      past (item.Refused f) h = omega (arith, so.onward, step.onward)
+
+  -- a fault does
+  pub skipped-fault : {f : Fault} → StepFault rules s c f → ItemFault rules s from (record { refusal = f.refusal; line = c.line; column = f.column })
+  skipped-fault bad = record { gives = so.left ∙ bad.gives }
 
   -- the table's end does
   pub skipped-end : length s ≤ c.at → ItemIs rules s from (record { item = item.Nothing; line = c.line; next = c })

@@ -1,6 +1,7 @@
 -- A table line by line, for tables of any length: what each line of it is in it, by the lines before it. Entry and setting are where their line is, an entry
 -- is under the last offset before it, a fault refuses the table with its line's number, and a table that has none is good.
 -- Assumes nothing.
+use Rattle.std.specs.Prelude.{Option, Ok, Err, Result}
 use mathlib.Core.Path.{◌≡◌, refl, sym, ap, ◌∙◌}
 use mathlib.Core.Bool.{Bool, true, false, cond, ◌&&◌, and-false, true≢false}
 use mathlib.Core.List.{List, [], ◌∷◌, ◌++◌}
@@ -10,40 +11,41 @@ use lib.ListN.{length}
 use lib.IntN.{ℤ}
 use lib.Dec.{ltb}
 use borrow.Author.Tests.{lt-ltb, le-ltb, ltb-true, ne_eqb, eq-eqb}
+use Rattle.std.specs.Prelude.{Result, Ok, Err}
+use Rattle.refusal.specs.declared.Refusal.{Refusal}
+use Rattle.refusal.specs.declared.Refusal.TheVariants.{TableTooLong, TooManyEntries, NoSuchEntry, CutTable}
 use Rattle.line.specs.declared.Rules.{Rules}
 use Rattle.line.specs.declared.Part.{Part}
 use Rattle.crontab.specs.declared.entry.Entry.{Entry}
 use Rattle.line.specs.declared.time.When.{When}
-use Rattle.line.specs.declared.Fault.{Fault}
+use Rattle.field.specs.declared.Fault.{Fault}
 use Rattle.line.specs.declared.Line.{Line}
 use Rattle.line.specs.declared.Line.TheVariants as line
 use Rattle.crontab.specs.declared.item.Cursor.{Cursor}
-use Rattle.line.specs.declared.offset.Zone.{Zone}
-use Rattle.crontab.specs.declared.table.EntryAnswer.{EntryAnswer}
-use Rattle.crontab.specs.declared.table.EntryAnswer.TheVariants.{Found, Refused}
-use Rattle.crontab.specs.declared.table.Verdict.{Verdict}
-use Rattle.crontab.specs.declared.setting.SettingAnswer.{SettingAnswer}
 use Rattle.crontab.specs.Limits.{max_table, max_entries}
 use Rattle.line.specs.Offsets.{utc, in_force}
+use Rattle.crontab.specs.Refusals.{no_setting}
 use Rattle.crontab.specs.Lines.{lines_of, is_cut, is_last}
 use Rattle.line.specs.Lines.{read_line}
 use Rattle.crontab.specs.Items.{Items, done, fault, setting, entry, moved, placed, after_line, last_fault, fault_of, items_from, items_of}
-use Rattle.crontab.specs.Tables.{table_of, verdict_of, entry_in}
-use Rattle.crontab.specs.Settings.{refused_setting, shown, setting_from, setting_in}
-use Rattle.line.proofs.LineViews.{LineView, line_view}
+use Rattle.crontab.specs.Tables.{table_of, verdict_of, entry_in, refusal_in}
+use Rattle.crontab.specs.Settings.{shown, setting_from, setting_in}
+use Rattle.refusal.proofs.Numbers.{number-small}
 use Rattle.crontab.proofs.Theorems.{table-short}
-use Rattle.crontab.proofs.Tables.{entry_from, verdict_from, table-verdict, table-entry}
+use Rattle.crontab.proofs.Tables.{entry_from, verdict_from, table-verdict, verdict-refusal, table-entry}
 use Rattle.crontab.specs.LineByLine.{Accepted, NoSetting, entries_in, offset_after, AllAccepted, bytes_of, entries_among, offset_after_all}
+use Rattle.crontab.specs.declared.setting.Setting.{Setting}
+use Rattle.crontab.specs.declared.table.TableFault.{TableFault}
 
 -- ---- the cursor after some lines
 
-abbrev counted : Line → ℕ → ℕ
-counted line.Ignored k = k
-counted (line.Setting name value zone) k = k
-counted (line.Entry when start) k = k + 1
-counted (line.Refused f) k = k
+abbrev counted : Result Line Fault → ℕ → ℕ
+counted (Ok line.Ignored) k = k
+counted (Ok (line.Setting name value _)) k = k
+counted (Ok (line.Entry when start)) k = k + 1
+counted (Err f) k = k
 
-abbrev onward : Cursor → List ℕ → Line → Cursor
+abbrev onward : Cursor → List ℕ → Result Line Fault → Cursor
 onward c l x = record { at = c.at + length l + 1; line = c.line + 1; count = counted x c.count; offset = offset_after x c.offset }
 
 unfoldable after : Rules → Cursor → List (List ℕ) → Cursor
@@ -72,8 +74,8 @@ module _ (rules : Rules) (cut : Bool) (c : Cursor) (l : List ℕ) (ls : List (Li
 
 -- what a walk makes of the items from a cursor on is the same from the cursor after some lines, where each of them changes nothing
 module _ {A : Type 0} (rules : Rules) (cut : Bool) (w : Cursor → Items → A) (P : Cursor → Type 0)
-    (back : (c : Cursor) (l : List ℕ) (x : Line) → P (onward c l x) → P c)
-    (each : (c : Cursor) (l : List ℕ) (ls : List (List ℕ)) (x : Line) → Accepted x → P (onward c l x)
+    (back : (c : Cursor) (l : List ℕ) (x : Result Line Fault) → P (onward c l x) → P c)
+    (each : (c : Cursor) (l : List ℕ) (ls : List (List ℕ)) (x : Result Line Fault) → Accepted x → P (onward c l x)
     → w c (after_line c.at c.line (length l) c.count c.offset x (later rules cut c l ls)) ≡ w (onward c l x) (from rules cut (onward c l x) ls)) where
   back-all : (before : List (List ℕ)) (c : Cursor) → P (after rules c before) → P c
   unfolding after
@@ -91,25 +93,25 @@ module _ {A : Type 0} (rules : Rules) (cut : Bool) (w : Cursor → Items → A) 
 
 -- ---- three walks: the verdict, an entry of a number, the setting on a line
 
-counted_back : (x : Line) (k b : ℕ) → counted x k ≤ b → k ≤ b
-counted_back line.Ignored k b h = h
-counted_back (line.Setting name value zone) k b h = h
-counted_back (line.Entry when start) k b h = omega arith
-counted_back (line.Refused f) k b h = h
+counted_back : (x : Result Line Fault) (k b : ℕ) → counted x k ≤ b → k ≤ b
+counted_back (Ok line.Ignored) k b h = h
+counted_back (Ok (line.Setting name value _)) k b h = h
+counted_back (Ok (line.Entry when start)) k b h = omega arith
+counted_back (Err f) k b h = h
 
-other-entry : (f : EntryAnswer) (k i : ℕ) (e : Entry) (later : Items) → (k ≡ i → ⊥) → entry_from f k i (entry e later) ≡ entry_from f (k + 1) i later
+other-entry : (f : Result Entry Refusal) (k i : ℕ) (e : Entry) (later : Items) → (k ≡ i → ⊥) → entry_from f k i (entry e later) ≡ entry_from f (k + 1) i later
 unfolding entry_from
 other-entry f k i e later d = rw (ne_eqb k i d)
 
-here-entry : (f : EntryAnswer) (k : ℕ) (e : Entry) (later : Items) → entry_from f k k (entry e later) ≡ entry_from (Found e) (k + 1) k later
+here-entry : (f : Result Entry Refusal) (k : ℕ) (e : Entry) (later : Items) → entry_from f k k (entry e later) ≡ entry_from (Ok e) (k + 1) k later
 unfolding entry_from
 here-entry f k e later = rw (eq-eqb k k refl)
 
-here-setting : (f : SettingAnswer) (n j : ℕ) (name value : Part) (later : Items) → n ≡ j → setting_from f j (setting n name value later) ≡ setting_from (shown name value) j later
+here-setting : (f : Result Setting Refusal) (n j : ℕ) (name value : Part) (later : Items) → n ≡ j → setting_from f j (setting n name value later) ≡ setting_from (shown name value) j later
 unfolding setting_from
 here-setting f n j name value later e = rw (eq-eqb n j e)
 
-other-setting : (f : SettingAnswer) (n j : ℕ) (name value : Part) (later : Items) → (n ≡ j → ⊥) → setting_from f j (setting n name value later) ≡ setting_from f j later
+other-setting : (f : Result Setting Refusal) (n j : ℕ) (name value : Part) (later : Items) → (n ≡ j → ⊥) → setting_from f j (setting n name value later) ≡ setting_from f j later
 unfolding setting_from
 other-setting f n j name value later d = rw (ne_eqb n j d)
 
@@ -123,42 +125,42 @@ module _ (rules : Rules) (cut : Bool) (before : List (List ℕ)) (l : List ℕ) 
   verdict-after few =
       walked rules cut (λ c items. verdict_from c.count items) (λ c. c.count ≤ max_entries) (λ c l x p. counted_back x c.count max_entries p) each before l ls c a few
     where
-      each : (c : Cursor) (l : List ℕ) (ls : List (List ℕ)) (x : Line) → Accepted x → (onward c l x).count ≤ max_entries
+      each : (c : Cursor) (l : List ℕ) (ls : List (List ℕ)) (x : Result Line Fault) → Accepted x → (onward c l x).count ≤ max_entries
           → verdict_from c.count (after_line c.at c.line (length l) c.count c.offset x (later rules cut c l ls))
           ≡ verdict_from (onward c l x).count (from rules cut (onward c l x) ls)
-      each c l ls line.Ignored a p = refl
-      each c l ls (line.Setting name value zone) a p = refl
-      each c l ls (line.Entry when start) a p = rw (lt-ltb c.count max_entries (omega arith))
-      each c l ls (line.Refused f) a p = absurd a
+      each c l ls (Ok line.Ignored) a p = refl
+      each c l ls (Ok (line.Setting name value _)) a p = refl
+      each c l ls (Ok (line.Entry when start)) a p = rw (lt-ltb c.count max_entries (omega arith))
+      each c l ls (Err f) a p = absurd a
 
-  entry-after : (f : EntryAnswer) (i : ℕ) → i < max_entries → there.count ≤ i
+  entry-after : (f : Result Entry Refusal) (i : ℕ) → i < max_entries → there.count ≤ i
       → entry_from f c.count i (from rules cut c (before ++ l ∷ ls)) ≡ entry_from f there.count i (from rules cut there (l ∷ ls))
   unfolding after_line entry_from
   entry-after f i few up =
       walked rules cut (λ c items. entry_from f c.count i items) (λ c. c.count ≤ i) (λ c l x p. counted_back x c.count i p) each before l ls c a up
     where
-      each : (c : Cursor) (l : List ℕ) (ls : List (List ℕ)) (x : Line) → Accepted x → (onward c l x).count ≤ i
+      each : (c : Cursor) (l : List ℕ) (ls : List (List ℕ)) (x : Result Line Fault) → Accepted x → (onward c l x).count ≤ i
           → entry_from f c.count i (after_line c.at c.line (length l) c.count c.offset x (later rules cut c l ls))
           ≡ entry_from f (onward c l x).count i (from rules cut (onward c l x) ls)
-      each c l ls line.Ignored a p = refl
-      each c l ls (line.Setting name value zone) a p = refl
-      each c l ls (line.Entry when start) a p = rw (lt-ltb c.count max_entries (omega arith)) (other-entry f c.count i (placed c.at c.line (length l) c.offset when start) (later rules cut c l ls (c.count + 1) c.offset) (λ e. omega (arith, e)))
-      each c l ls (line.Refused f) a p = absurd a
+      each c l ls (Ok line.Ignored) a p = refl
+      each c l ls (Ok (line.Setting name value _)) a p = refl
+      each c l ls (Ok (line.Entry when start)) a p = rw (lt-ltb c.count max_entries (omega arith)) (other-entry f c.count i (placed c.at c.line (length l) c.offset when start) (later rules cut c l ls (c.count + 1) c.offset) (λ e. omega (arith, e)))
+      each c l ls (Err f) a p = absurd a
 
-  setting-after : (f : SettingAnswer) (j : ℕ) → there.count ≤ max_entries → there.line ≤ j
+  setting-after : (f : Result Setting Refusal) (j : ℕ) → there.count ≤ max_entries → there.line ≤ j
       → setting_from f j (from rules cut c (before ++ l ∷ ls)) ≡ setting_from f j (from rules cut there (l ∷ ls))
   unfolding after_line setting_from
   setting-after f j few up =
       walked rules cut (λ c items. setting_from f j items) (λ c. (c.count ≤ max_entries) × (c.line ≤ j))
       (λ c l x p. (counted_back x c.count max_entries p.0, omega (arith, p.1))) each before l ls c a (few, up)
     where
-      each : (c : Cursor) (l : List ℕ) (ls : List (List ℕ)) (x : Line) → Accepted x → ((onward c l x).count ≤ max_entries) × (c.line + 1 ≤ j)
+      each : (c : Cursor) (l : List ℕ) (ls : List (List ℕ)) (x : Result Line Fault) → Accepted x → ((onward c l x).count ≤ max_entries) × (c.line + 1 ≤ j)
           → setting_from f j (after_line c.at c.line (length l) c.count c.offset x (later rules cut c l ls))
           ≡ setting_from f j (from rules cut (onward c l x) ls)
-      each c l ls line.Ignored a p = refl
-      each c l ls (line.Setting name value zone) a p = other-setting f c.line j (moved c.at name) (moved c.at value) (later rules cut c l ls c.count (in_force zone c.offset)) (λ e. omega (arith, e, p.1))
-      each c l ls (line.Entry when start) a p = rw (lt-ltb c.count max_entries (omega (arith, p.0)))
-      each c l ls (line.Refused f) a p = absurd a
+      each c l ls (Ok line.Ignored) a p = refl
+      each c l ls (Ok (line.Setting name value zone)) a p = other-setting f c.line j (moved c.at name) (moved c.at value) (later rules cut c l ls c.count (in_force zone c.offset)) (λ e. omega (arith, e, p.1))
+      each c l ls (Ok (line.Entry when start)) a p = rw (lt-ltb c.count max_entries (omega (arith, p.0)))
+      each c l ls (Err f) a p = absurd a
 
 -- ---- the cursor by plain sums
 
@@ -173,11 +175,11 @@ module _ (rules : Rules) where
   after_line_lem [] c = omega arith
   after_line_lem (l ∷ ls) c = after_line_lem ls (onward c l (read_line rules l)) ∙ omega arith
 
-  counted_is : (x : Line) (k : ℕ) → counted x k ≡ k + entries_in x
-  counted_is line.Ignored k = omega arith
-  counted_is (line.Setting name value zone) k = omega arith
-  counted_is (line.Entry when start) k = refl
-  counted_is (line.Refused f) k = omega arith
+  counted_is : (x : Result Line Fault) (k : ℕ) → counted x k ≡ k + entries_in x
+  counted_is (Ok line.Ignored) k = omega arith
+  counted_is (Ok (line.Setting name value _)) k = omega arith
+  counted_is (Ok (line.Entry when start)) k = refl
+  counted_is (Err f) k = omega arith
 
   after-count : (ls : List (List ℕ)) (c : Cursor) → (after rules c ls).count ≡ c.count + entries_among rules ls
   unfolding after entries_among
@@ -195,15 +197,15 @@ module _ (rules : Rules) where
 -- whether items end without one
 abbrev Clean : Items → Type 0
 Clean done = Unit {0}
-Clean (fault number line column) = ⊥
+Clean (fault refusal line column) = ⊥
 Clean (setting line name value later) = Clean later
 Clean (entry e later) = Clean later
 
 -- what was found stays found
-found-stays : (f : EntryAnswer) (k i : ℕ) (items : Items) → Clean items → i < k → entry_from f k i items ≡ f
+found-stays : (f : Result Entry Refusal) (k i : ℕ) (items : Items) → Clean items → i < k → entry_from f k i items ≡ f
 unfolding entry_from
 found-stays f k i done p h = refl
-found-stays f k i (fault number line column) p h = absurd p
+found-stays f k i (fault refusal line column) p h = absurd p
 found-stays f k i (setting line name value later) p h = found-stays f k i later p h
 found-stays f k i (entry e later) p h = other-entry f k i e later (λ z. omega (arith, z)) ∙ found-stays f (k + 1) i later p (omega arith)
 
@@ -217,34 +219,22 @@ module _ (rules : Rules) where
       few-after : (ls : List (List ℕ)) (c : Cursor) → (after rules c ls).count ≤ max_entries → c.count ≤ max_entries
       few-after ls c h = omega (arith, after-count rules ls c)
 
-      go : (x : Line) → Accepted x → (onward c l x).count ≤ max_entries → Clean (from rules false (onward c l x) ls)
+      go : (x : Result Line Fault) → Accepted x → (onward c l x).count ≤ max_entries → Clean (from rules false (onward c l x) ls)
           → Clean (after_line c.at c.line (length l) c.count c.offset x (later rules false c l ls))
-      go line.Ignored a h p = p
-      go (line.Setting name value zone) a h p = p
-      go (line.Entry when start) a h p = rw (lt-ltb c.count max_entries (omega arith)) p
-      go (line.Refused f) a h p = absurd a
-
-  -- a fault has a number
-  last_some : (l : List ℕ) (k : ℕ) (x : Line) → LineView rules l x → 1 ≤ (last_fault (length l) k x).number
-  unfolding last_fault
-  last_some l k line.Ignored v = omega arith
-  last_some l k (line.Setting name value zone) v = omega arith
-  last_some l k (line.Refused f) v = v.from
-  last_some l k (line.Entry when start) v = go (ltb k max_entries)
-    where
-      go : (t : Bool) → 1 ≤ (cond {A = Fault} t (record { number = 26; column = length l + 1 }) (record { number = 12; column = 1 })).number
-      go true = omega arith
-      go false = omega arith
+      go (Ok line.Ignored) a h p = p
+      go (Ok (line.Setting name value _)) a h p = p
+      go (Ok (line.Entry when start)) a h p = rw (lt-ltb c.count max_entries (omega arith)) p
+      go (Err f) a h p = absurd a
 
   -- and so the lines of a table that isn't refused are accepted, it isn't cut, and its entries aren't too many
-  good-lines : (cut : Bool) (ls : List (List ℕ)) (c : Cursor) → c.count ≤ max_entries → (verdict_from c.count (from rules cut c ls)).refusal ≡ 0
+  good-lines : (cut : Bool) (ls : List (List ℕ)) (c : Cursor) → c.count ≤ max_entries → refusal_in (verdict_from c.count (from rules cut c ls)) ≡ 0
       → AllAccepted rules ls × ((after rules c ls).count ≤ max_entries) × (is_last ls ≡ false → cut ≡ false)
   unfolding items_from after after_line verdict_from is_last
   good-lines cut [] c few good = (tt, few, λ z. absurd (true≢false z))
-  good-lines cut (l ∷ ls) c few good = last (cut && is_last ls) refl (read_line rules l) (line_view rules l) good (λ x h e. good-lines cut ls (onward c l x) h e)
+  good-lines cut (l ∷ ls) c few good = last (cut && is_last ls) refl (read_line rules l) good (λ x h e. good-lines cut ls (onward c l x) h e)
     where
-      Result : Line → Type 0
-      Result x = (Accepted x × AllAccepted rules ls) × ((after rules (onward c l x) ls).count ≤ max_entries) × (false ≡ false → cut ≡ false)
+      Outcome : Result Line Fault → Type 0
+      Outcome x = (Accepted x × AllAccepted rules ls) × ((after rules (onward c l x) ls).count ≤ max_entries) × (false ≡ false → cut ≡ false)
 
       whole : (ls : List (List ℕ)) → (cut && is_last ls) ≡ false → (is_last ls ≡ false → cut ≡ false) → cut ≡ false
       whole [] e more = uncut cut e
@@ -254,42 +244,42 @@ module _ (rules : Rules) where
           uncut false z = refl
       whole (x ∷ ls) e more = more refl
 
-      last : (t : Bool) → (cut && is_last ls) ≡ t → (x : Line) → LineView rules l x
-          → (verdict_from c.count (cond t (fault_of c.line (last_fault (length l) c.count x)) (after_line c.at c.line (length l) c.count c.offset x (later rules cut c l ls)))).refusal ≡ 0
-          → ((x : Line) → (onward c l x).count ≤ max_entries → (verdict_from (onward c l x).count (from rules cut (onward c l x) ls)).refusal ≡ 0
+      last : (t : Bool) → (cut && is_last ls) ≡ t → (x : Result Line Fault)
+          → refusal_in (verdict_from c.count (cond t (fault_of c.line (last_fault (length l) c.count x)) (after_line c.at c.line (length l) c.count c.offset x (later rules cut c l ls)))) ≡ 0
+          → ((x : Result Line Fault) → (onward c l x).count ≤ max_entries → refusal_in (verdict_from (onward c l x).count (from rules cut (onward c l x) ls)) ≡ 0
           → AllAccepted rules ls × ((after rules (onward c l x) ls).count ≤ max_entries) × (is_last ls ≡ false → cut ≡ false))
-          → Result x
-      last true e x v good more = absurd (omega (arith, good, last_some l c.count x v))
-      last false e line.Ignored v good more = let (a, b, d) = more line.Ignored few good in ((tt, a), b, λ z. whole ls e d)
-      last false e (line.Setting name value zone) v good more = let (a, b, d) = more (line.Setting name value zone) few good in ((tt, a), b, λ z. whole ls e d)
-      last false e (line.Refused f) v good more = absurd (omega (arith, good, v.from))
-      last false e (line.Entry when start) v good more = full (ltb c.count max_entries) refl good
+          → Outcome x
+      last true e x good more = absurd (omega (arith, good, number-small (last_fault (length l) c.count x).refusal))
+      last false e (Ok line.Ignored) good more = let (a, b, d) = more (Ok line.Ignored) few good in ((tt, a), b, λ z. whole ls e d)
+      last false e (Ok (line.Setting name value zone)) good more = let (a, b, d) = more (Ok (line.Setting name value zone)) few good in ((tt, a), b, λ z. whole ls e d)
+      last false e (Err f) good more = absurd (omega (arith, good, number-small f.refusal))
+      last false e (Ok (line.Entry when start)) good more = full (ltb c.count max_entries) refl good
         where
           full : (t : Bool) → ltb c.count max_entries ≡ t
-              → (verdict_from c.count (cond t (entry (placed c.at c.line (length l) c.offset when start) (later rules cut c l ls (c.count + 1) c.offset)) (fault 12 c.line 1))).refusal ≡ 0
-              → Result (line.Entry when start)
-          full true q good = let (a, b, d) = more (line.Entry when start) (omega (arith, ltb-true c.count max_entries q)) good in ((tt, a), b, λ z. whole ls e d)
-          full false q good = absurd (omega (arith, good))
+              → refusal_in (verdict_from c.count (cond t (entry (placed c.at c.line (length l) c.offset when start) (later rules cut c l ls (c.count + 1) c.offset)) (fault TooManyEntries c.line 1))) ≡ 0
+              → Outcome (Ok (line.Entry when start))
+          full true q good = let (a, b, d) = more (Ok (line.Entry when start)) (omega (arith, ltb-true c.count max_entries q)) good in ((tt, a), b, λ z. whole ls e d)
+          full false q good = absurd (omega (arith, good, number-small TooManyEntries))
 
   -- accepted lines, no more entries than there may be, and a newline at the end: a good table
   accepted-verdict : (ls : List (List ℕ)) (c : Cursor) → AllAccepted rules ls → (after rules c ls).count ≤ max_entries
-      → verdict_from c.count (from rules false c ls) ≡ record { refusal = 0; line = 0; column = 0; count = (after rules c ls).count }
+      → verdict_from c.count (from rules false c ls) ≡ Ok ((after rules c ls).count)
   unfolding items_from after after_line verdict_from
   accepted-verdict [] c a few = refl
   accepted-verdict (l ∷ ls) c a few =
       go (read_line rules l) a.0 (omega (arith, after-count rules ls (onward c l (read_line rules l)), few)) (accepted-verdict ls (onward c l (read_line rules l)) a.1 few)
     where
-      go : (x : Line) → Accepted x → (onward c l x).count ≤ max_entries
-          → verdict_from (onward c l x).count (from rules false (onward c l x) ls) ≡ record { refusal = 0; line = 0; column = 0; count = (after rules (onward c l x) ls).count }
+      go : (x : Result Line Fault) → Accepted x → (onward c l x).count ≤ max_entries
+          → verdict_from (onward c l x).count (from rules false (onward c l x) ls) ≡ Ok ((after rules (onward c l x) ls).count)
           → verdict_from c.count (after_line c.at c.line (length l) c.count c.offset x (later rules false c l ls))
-          ≡ record { refusal = 0; line = 0; column = 0; count = (after rules (onward c l x) ls).count }
-      go line.Ignored a h p = p
-      go (line.Setting name value zone) a h p = p
-      go (line.Entry when start) a h p = rw (lt-ltb c.count max_entries (omega arith)) p
-      go (line.Refused f) a h p = absurd a
+          ≡ Ok ((after rules (onward c l x) ls).count)
+      go (Ok line.Ignored) a h p = p
+      go (Ok (line.Setting name value _)) a h p = p
+      go (Ok (line.Entry when start)) a h p = rw (lt-ltb c.count max_entries (omega arith)) p
+      go (Err f) a h p = absurd a
 
   -- no line before the one they begin with has a setting of theirs
-  settings-past : (ls : List (List ℕ)) (c : Cursor) (f : SettingAnswer) (j : ℕ) → AllAccepted rules ls → (after rules c ls).count ≤ max_entries → j < c.line
+  settings-past : (ls : List (List ℕ)) (c : Cursor) (f : Result Setting Refusal) (j : ℕ) → AllAccepted rules ls → (after rules c ls).count ≤ max_entries → j < c.line
       → setting_from f j (from rules false c ls) ≡ f
   unfolding items_from after after_line setting_from
   settings-past [] c f j a few h = refl
@@ -297,13 +287,13 @@ module _ (rules : Rules) where
       go (read_line rules l) a.0 (omega (arith, after-count rules ls (onward c l (read_line rules l)), few))
       (settings-past ls (onward c l (read_line rules l)) f j a.1 few (omega arith))
     where
-      go : (x : Line) → Accepted x → (onward c l x).count ≤ max_entries → setting_from f j (from rules false (onward c l x) ls) ≡ f
+      go : (x : Result Line Fault) → Accepted x → (onward c l x).count ≤ max_entries → setting_from f j (from rules false (onward c l x) ls) ≡ f
           → setting_from f j (after_line c.at c.line (length l) c.count c.offset x (later rules false c l ls)) ≡ f
-      go line.Ignored a k p = p
-      go (line.Setting name value zone) a k p =
+      go (Ok line.Ignored) a k p = p
+      go (Ok (line.Setting name value zone)) a k p =
           other-setting f c.line j (moved c.at name) (moved c.at value) (later rules false c l ls c.count (in_force zone c.offset)) (λ e. omega (arith, e)) ∙ p
-      go (line.Entry when start) a k p = rw (lt-ltb c.count max_entries (omega arith)) p
-      go (line.Refused f) a k p = absurd a
+      go (Ok (line.Entry when start)) a k p = rw (lt-ltb c.count max_entries (omega arith)) p
+      go (Err f) a k p = absurd a
 
 accepted-parts : (rules : Rules) (before : List (List ℕ)) (l : List ℕ) (ls : List (List ℕ)) → AllAccepted rules (before ++ l ∷ ls)
     → AllAccepted rules before × Accepted (read_line rules l) × AllAccepted rules ls
@@ -320,11 +310,11 @@ after-append rules (b ∷ before) ls c = after-append rules before ls (onward c 
 abbrev begin : Cursor
 begin = record { at = 0; line = 1; count = 0; offset = utc }
 
-abbrev pub refused_at : ℕ → ℕ → ℕ → Verdict
-refused_at number line column = record { refusal = number; line = line; column = column; count = 0 }
+abbrev pub refused_at : Refusal → ℕ → ℕ → Result ℕ TableFault
+refused_at refusal line column = Err (record { refusal = refusal; line = line; column = column })
 
 -- 1 comes first
-pub too_long_lem : (rules : Rules) (s : List ℕ) → max_table < length s → verdict_of (table_of rules s) ≡ refused_at 1 0 0
+pub too_long_lem : (rules : Rules) (s : List ℕ) → max_table < length s → verdict_of (table_of rules s) ≡ refused_at TableTooLong 0 0
 unfolding items_of verdict_from
 too_long_lem rules s h = sym (table-verdict rules s) ∙ rw (lt-ltb max_table (length s) h)
 
@@ -338,7 +328,7 @@ module _ (rules : Rules) (s : List ℕ) (short : length s ≤ max_table) where
 
   -- a good table
   pub all-accepted : is_cut s ≡ false → AllAccepted rules (lines_of s) → entries_among rules (lines_of s) ≤ max_entries
-      → verdict_of (table_of rules s) ≡ record { refusal = 0; line = 0; column = 0; count = entries_among rules (lines_of s) }
+      → verdict_of (table_of rules s) ≡ Ok (entries_among rules (lines_of s))
   all-accepted e a few =
       let n : (after rules begin (lines_of s)).count ≡ entries_among rules (lines_of s) = after-count rules (lines_of s) begin ∙ omega arith in
       verdict-is false e ∙ accepted-verdict rules (lines_of s) begin a (omega (arith, n, few)) ∙ rw n
@@ -358,28 +348,28 @@ module _ (rules : Rules) (s : List ℕ) (short : length s ≤ max_table) where
     verdict-here : (cut : Bool) → is_cut s ≡ cut → verdict_of (table_of rules s) ≡ verdict_from here.count (from rules cut here (l ∷ ls))
     verdict-here cut e = verdict-is cut e ∙ rw lines (verdict-after rules cut before l ls begin a (omega (arith, few, count-here)))
 
-    pub fault-of-line : {f : Fault} → read_line rules l ≡ line.Refused f → verdict_of (table_of rules s) ≡ refused_at f.number (length before + 1) f.column
+    pub fault-of-line : {f : Fault} → read_line rules l ≡ Err f → verdict_of (table_of rules s) ≡ refused_at f.refusal (length before + 1) f.column
     unfolding items_from after_line verdict_from last_fault
     fault-of-line {f} is = verdict-here (is_cut s) refl ∙ rw (is, line-here) (go (is_cut s && is_last ls))
       where
-        go : (t : Bool) → verdict_from here.count (cond t (fault f.number (length before + 1) f.column) (fault f.number (length before + 1) f.column))
-            ≡ refused_at f.number (length before + 1) f.column
+        go : (t : Bool) → verdict_from here.count (cond t (fault f.refusal (length before + 1) f.column) (fault f.refusal (length before + 1) f.column))
+            ≡ refused_at f.refusal (length before + 1) f.column
         go true = refl
         go false = refl
 
-    pub entry-too-many : {when : When} {start : ℕ} → read_line rules l ≡ line.Entry when start → entries_among rules before ≡ max_entries
-        → verdict_of (table_of rules s) ≡ refused_at 12 (length before + 1) 1
+    pub entry-too-many : {when : When} {start : ℕ} → read_line rules l ≡ Ok (line.Entry when start) → entries_among rules before ≡ max_entries
+        → verdict_of (table_of rules s) ≡ refused_at TooManyEntries (length before + 1) 1
     unfolding items_from after_line verdict_from last_fault
     entry-too-many is full = verdict-here (is_cut s) refl ∙ rw (is, line-here, le-ltb here.count max_entries (omega (arith, full, count-here))) (go (is_cut s && is_last ls))
       where
-        go : (t : Bool) → verdict_from here.count (cond t (fault 12 (length before + 1) 1) (fault 12 (length before + 1) 1)) ≡ refused_at 12 (length before + 1) 1
+        go : (t : Bool) → verdict_from here.count (cond t (fault TooManyEntries (length before + 1) 1) (fault TooManyEntries (length before + 1) 1)) ≡ refused_at TooManyEntries (length before + 1) 1
         go true = refl
         go false = refl
 
 -- a last line without a newline is 26, where no line has another fault
 pub last-cut : (rules : Rules) (s : List ℕ) → length s ≤ max_table → is_cut s ≡ true → (before : List (List ℕ)) (l : List ℕ) → lines_of s ≡ before ++ l ∷ []
     → AllAccepted rules before → Accepted (read_line rules l) → entries_among rules before + entries_in (read_line rules l) ≤ max_entries
-    → verdict_of (table_of rules s) ≡ refused_at 26 (length before + 1) (length l + 1)
+    → verdict_of (table_of rules s) ≡ refused_at CutTable (length before + 1) (length l + 1)
 unfolding items_from verdict_from last_fault is_last
 last-cut rules s short cut before l lines a this few =
     verdict-here rules s short before l [] lines a (omega arith) true cut
@@ -388,23 +378,22 @@ last-cut rules s short cut before l lines a this few =
     k : ℕ
     k = (after rules begin before).count
 
-    go : (x : Line) → Accepted x → k + entries_in x ≤ max_entries
-        → verdict_from k (fault_of (length before + 1) (last_fault (length l) k x)) ≡ refused_at 26 (length before + 1) (length l + 1)
-    go line.Ignored a h = refl
-    go (line.Setting name value zone) a h = refl
-    go (line.Entry when start) a h = rw (lt-ltb k max_entries (omega arith))
-    go (line.Refused f) a h = absurd a
+    go : (x : Result Line Fault) → Accepted x → k + entries_in x ≤ max_entries
+        → verdict_from k (fault_of (length before + 1) (last_fault (length l) k x)) ≡ refused_at CutTable (length before + 1) (length l + 1)
+    go (Ok line.Ignored) a h = refl
+    go (Ok (line.Setting name value _)) a h = refl
+    go (Ok (line.Entry when start)) a h = rw (lt-ltb k max_entries (omega arith))
+    go (Err f) a h = absurd a
 
 -- ---- the lines of a good table
 
-module _ (rules : Rules) (s : List ℕ) (good : (table_of rules s).refusal ≡ 0) where
+module _ (rules : Rules) (s : List ℕ) (good : refusal_in (table_of rules s) ≡ 0) where
   short : length s ≤ max_table
   short = table-short rules s good
 
   lines-good : (cut : Bool) → is_cut s ≡ cut
       → AllAccepted rules (lines_of s) × ((after rules begin (lines_of s)).count ≤ max_entries) × (is_last (lines_of s) ≡ false → cut ≡ false)
-  unfolding verdict_of
-  lines-good cut e = good-lines rules cut (lines_of s) begin (omega arith) (ap (λ (v : Verdict). v.refusal) (sym (verdict-is rules s short cut e)) ∙ good)
+  lines-good cut e = good-lines rules cut (lines_of s) begin (omega arith) (ap (λ (v : Result ℕ TableFault). refusal_in v) (sym (verdict-is rules s short cut e)) ∙ verdict-refusal (table_of rules s) ∙ good)
 
   -- all of them are accepted
   pub good-accepted : AllAccepted rules (lines_of s) × (entries_among rules (lines_of s) ≤ max_entries)
@@ -432,30 +421,30 @@ module _ (rules : Rules) (s : List ℕ) (good : (table_of rules s).refusal ≡ 0
           items = items-are rules s short false (uncut (rw lines (some_left before l ls))) ∙ rw lines;
         }
 
-    module _ {when : When} {start : ℕ} (is : read_line rules l ≡ line.Entry when start) where
+    module _ {when : When} {start : ℕ} (is : read_line rules l ≡ Ok (line.Entry when start)) where
       abbrev found : Entry
       found = placed place.at place.line (length l) place.offset when start
 
-      entry-there : entry_in (table_of rules s) place.count ≡ Found found
+      entry-there : entry_in (table_of rules s) place.count ≡ Ok found
       unfolding items_from after_line
       entry-there =
           let o = line_of in
-          let few : (after rules (onward place l (line.Entry when start)) ls).count ≤ max_entries = rw is at o.few in
-          let room : place.count < max_entries = omega (arith, few, after-count rules ls (onward place l (line.Entry when start))) in
+          let few : (after rules (onward place l (Ok (line.Entry when start))) ls).count ≤ max_entries = rw is at o.few in
+          let room : place.count < max_entries = omega (arith, few, after-count rules ls (onward place l (Ok (line.Entry when start)))) in
           table-entry rules s place.count
-          ∙ ap (entry_from (Refused 13) 0 place.count) o.items
-          ∙ entry-after rules false before l ls begin o.earlier (Refused 13) place.count room (omega arith)
-          ∙ rw (is, lt-ltb place.count max_entries room) (this (accepted-clean rules ls (onward place l (line.Entry when start)) o.others few))
+          ∙ ap (entry_from (Err NoSuchEntry) 0 place.count) o.items
+          ∙ entry-after rules false before l ls begin o.earlier (Err NoSuchEntry) place.count room (omega arith)
+          ∙ rw (is, lt-ltb place.count max_entries room) (this (accepted-clean rules ls (onward place l (Ok (line.Entry when start))) o.others few))
         where
-          this : Clean (from rules false (onward place l (line.Entry when start)) ls)
-              → entry_from (Refused 13) place.count place.count (entry found (from rules false (onward place l (line.Entry when start)) ls)) ≡ Found found
+          this : Clean (from rules false (onward place l (Ok (line.Entry when start))) ls)
+              → entry_from (Err NoSuchEntry) place.count place.count (entry found (from rules false (onward place l (Ok (line.Entry when start))) ls)) ≡ Ok found
           this clean =
-              here-entry (Refused 13) place.count found (from rules false (onward place l (line.Entry when start)) ls)
-              ∙ found-stays (Found found) (place.count + 1) place.count (from rules false (onward place l (line.Entry when start)) ls) clean (omega arith)
+              here-entry (Err NoSuchEntry) place.count found (from rules false (onward place l (Ok (line.Entry when start))) ls)
+              ∙ found-stays (Ok found) (place.count + 1) place.count (from rules false (onward place l (Ok (line.Entry when start))) ls) clean (omega arith)
 
       -- an entry: its number is how many come before it, its place that of its line, and its offset the last one before it
       pub entry-of-line : entry_in (table_of rules s) (entries_among rules before)
-          ≡ Found (record {
+          ≡ Ok (record {
             when = when;
             line = length before + 1;
             at = bytes_of before;
@@ -471,7 +460,7 @@ module _ (rules : Rules) (s : List ℕ) (good : (table_of rules s).refusal ≡ 0
 
     -- a setting, and none on a line that has another
     module _ (j : ℕ) (number : j ≡ place.line) where
-      setting-there : (f : SettingAnswer) → setting_from f j (items_of rules s)
+      setting-there : (f : Result Setting Refusal) → setting_from f j (items_of rules s)
           ≡ setting_from f j (after_line place.at place.line (length l) place.count place.offset (read_line rules l) (later rules false place l ls))
       unfolding items_from
       setting-there f =
@@ -480,43 +469,43 @@ module _ (rules : Rules) (s : List ℕ) (good : (table_of rules s).refusal ≡ 0
           ∙ setting-after rules false before l ls begin o.earlier f j
           (counted_back (read_line rules l) place.count max_entries (omega (arith, o.few, after-count rules ls (onward place l (read_line rules l))))) (omega (arith, number))
 
-      none-later : (f : SettingAnswer) (x : Line) → read_line rules l ≡ x → setting_from f j (from rules false (onward place l x) ls) ≡ f
+      none-later : (f : Result Setting Refusal) (x : Result Line Fault) → read_line rules l ≡ x → setting_from f j (from rules false (onward place l x) ls) ≡ f
       none-later f x is =
           let o = line_of in
           settings-past rules ls (onward place l x) f j o.others (rw is at o.few) (omega (arith, number))
 
-      setting-is : {name value : Part} {zone : Zone} → read_line rules l ≡ line.Setting name value zone
+      setting-is : {name value : Part} {zone : Option ℤ} → read_line rules l ≡ Ok (line.Setting name value zone)
           → setting_in (items_of rules s) j ≡ shown (moved place.at name) (moved place.at value)
       unfolding setting_in after_line
       setting-is {name} {value} {zone} is =
-          setting-there (refused_setting 19)
-          ∙ rw is (here-setting (refused_setting 19) place.line j (moved place.at name) (moved place.at value)
+          setting-there (Err no_setting)
+          ∙ rw is (here-setting (Err no_setting) place.line j (moved place.at name) (moved place.at value)
           (later rules false place l ls place.count (in_force zone place.offset)) (sym number))
-          ∙ none-later (shown (moved place.at name) (moved place.at value)) (line.Setting name value zone) is
+          ∙ none-later (shown (moved place.at name) (moved place.at value)) (Ok (line.Setting name value zone)) is
 
-      none_is : NoSetting (read_line rules l) → setting_in (items_of rules s) j ≡ refused_setting 19
+      none_is : NoSetting (read_line rules l) → setting_in (items_of rules s) j ≡ Err no_setting
       unfolding setting_in after_line setting_from
-      none_is none = setting-there (refused_setting 19) ∙ go (read_line rules l) refl none
+      none_is none = setting-there (Err no_setting) ∙ go (read_line rules l) refl none
         where
-          go : (x : Line) → read_line rules l ≡ x → NoSetting x
-              → setting_from (refused_setting 19) j (after_line place.at place.line (length l) place.count place.offset x (later rules false place l ls)) ≡ refused_setting 19
-          go line.Ignored is n = none-later (refused_setting 19) line.Ignored is
-          go (line.Setting name value zone) is n = absurd n
-          go (line.Entry when start) is n =
+          go : (x : Result Line Fault) → read_line rules l ≡ x → NoSetting x
+              → setting_from (Err no_setting) j (after_line place.at place.line (length l) place.count place.offset x (later rules false place l ls)) ≡ Err no_setting
+          go (Ok line.Ignored) is n = none-later (Err no_setting) (Ok line.Ignored) is
+          go (Ok (line.Setting name value _)) is n = absurd n
+          go (Ok (line.Entry when start)) is n =
               let o = line_of in
-              let few : (after rules (onward place l (line.Entry when start)) ls).count ≤ max_entries = rw is at o.few in
-              rw (lt-ltb place.count max_entries (omega (arith, few, after-count rules ls (onward place l (line.Entry when start)))))
-              (none-later (refused_setting 19) (line.Entry when start) is)
-          go (line.Refused f) is n = absurd n
+              let few : (after rules (onward place l (Ok (line.Entry when start))) ls).count ≤ max_entries = rw is at o.few in
+              rw (lt-ltb place.count max_entries (omega (arith, few, after-count rules ls (onward place l (Ok (line.Entry when start))))))
+              (none-later (Err no_setting) (Ok (line.Entry when start)) is)
+          go (Err f) is n = absurd n
 
     number-here : length before + 1 ≡ place.line
     number-here = sym (after_line_lem rules before begin ∙ omega arith)
 
-    pub setting-of-line : {name value : Part} {zone : Zone} → read_line rules l ≡ line.Setting name value zone
+    pub setting-of-line : {name value : Part} {zone : Option ℤ} → read_line rules l ≡ Ok (line.Setting name value zone)
         → setting_in (items_of rules s) (length before + 1) ≡ shown (moved (bytes_of before) name) (moved (bytes_of before) value)
     setting-of-line is =
         let at : place.at ≡ bytes_of before = after-at rules before begin ∙ omega arith in
         setting-is (length before + 1) number-here is ∙ rw at
 
-    pub no-setting-of-line : NoSetting (read_line rules l) → setting_in (items_of rules s) (length before + 1) ≡ refused_setting 19
+    pub no-setting-of-line : NoSetting (read_line rules l) → setting_in (items_of rules s) (length before + 1) ≡ Err no_setting
     no-setting-of-line none = none_is (length before + 1) number-here none

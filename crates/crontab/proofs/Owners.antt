@@ -5,6 +5,8 @@ use mathlib.Core.List.{List}
 use Prim.Native.Nat.{ℕ, ◌-◌, ◌≤◌, ◌<◌}
 use native.Mathlib.Omega.{arith}
 use borrow.Author.Tests.{lt-ltb, le-ltb}
+use Rattle.std.specs.Prelude.{Result, Ok}
+use Rattle.refusal.specs.declared.Refusal.{Refusal}
 use Rattle.octets.specs.declared.class.Class.TheVariants.{Blank}
 use Rattle.octets.specs.Runs.{skipped, between}
 use Rattle.line.specs.declared.Rules.{Rules}
@@ -14,12 +16,7 @@ use Rattle.line.specs.declared.Kind.TheVariants.{System}
 use Rattle.line.specs.declared.Part.{Part}
 use Rattle.crontab.specs.declared.entry.Entry.{Entry}
 use Rattle.line.specs.declared.user.Owner.{Owner}
-use Rattle.crontab.specs.declared.owner.OwnerAnswer.{OwnerAnswer}
-use Rattle.line.specs.declared.user.Column.TheVariants.{Named}
-use Rattle.line.specs.declared.time.Time.TheVariants.{Read}
-use Rattle.crontab.specs.declared.table.EntryAnswer.{EntryAnswer}
-use Rattle.crontab.specs.declared.table.EntryAnswer.TheVariants.{Found}
-use Rattle.line.specs.Users.{absent, column_at}
+use Rattle.line.specs.Users.{absent, column_at, column_of}
 use Rattle.line.specs.Entries.{time_at}
 use Rattle.crontab.specs.Items.{moved}
 use Rattle.crontab.specs.Tables.{table_of, entry_in}
@@ -28,6 +25,7 @@ use Rattle.line.specs.Owners.{behind, time_runs, named_owner, line_owner}
 use Rattle.line.proofs.Theorems.{time-view, column-view, content_start, AfterUser, CommandAt, line_view}
 use Rattle.crontab.proofs.Sound.{EntryLine}
 use Rattle.crontab.proofs.EntryViews.{found-entry}
+use Rattle.line.specs.Times.{time_of}
 
 -- a part of a line is shown where it is in the table, and an empty one as absent
 abbrev pub ShownAt : ℕ → Part → Part → Type 0
@@ -35,24 +33,25 @@ ShownAt at p shown = (p.start < p.end → shown ≡ moved at p) × (p.end ≤ p.
 
 -- An entry of a system table: its line is the one that was judged; there the column after the time was accepted, and what it names is shown, as
 -- parts of the table. Its user isn't empty. Nothing is refused.
-pub record OwnerJudged (rules : Rules) (s : List ℕ) (e : Entry) (answer : OwnerAnswer) : Type 0 where
-  pub given : answer.refusal ≡ 0
+pub record OwnerJudged (rules : Rules) (s : List ℕ) (e : Entry) (answer : Result Owner Refusal) : Type 0 where
+  pub shown : Owner
+  pub given : answer ≡ Ok shown
   pub line : EntryLine rules s e
   pub next : ℕ
-  pub time : time_at rules.dialect (between s e.at e.end) (content_start (between s e.at e.end)) ≡ Read e.when next
+  pub time : time_at rules.dialect (between s e.at e.end) (content_start (between s e.at e.end)) ≡ time_of e.when next
   pub owner : Owner
   pub end : ℕ
-  pub column : column_at (between s e.at e.end) next ≡ Named owner end
+  pub column : column_at (between s e.at e.end) next ≡ column_of owner end
   pub command : e.start - e.at ≡ skipped Blank (between s e.at e.end) end
-  pub user : answer.owner.user ≡ moved e.at owner.user
-  pub group : ShownAt e.at owner.group answer.owner.group
-  pub class : ShownAt e.at owner.class answer.owner.class
+  pub user : shown.user ≡ moved e.at owner.user
+  pub group : ShownAt e.at owner.group shown.group
+  pub class : ShownAt e.at owner.class shown.class
   pub some : owner.user.start < owner.user.end
 
 -- what is shown of an entry, by the column that was accepted
 shown-is : (rules : Rules) (s : List ℕ) (e : Entry) (owner : Owner) (next end : ℕ)
     → let l = between s e.at e.end in
-    rules.kind ≡ System → behind (time_runs l (content_start l)) l (content_start l) ≡ next → column_at l next ≡ Named owner end
+    rules.kind ≡ System → behind (time_runs l (content_start l)) l (content_start l) ≡ next → column_at l next ≡ column_of owner end
     → owner_of rules s e ≡ shifted_all e.at owner
 unfolding owner_of owner_from line_owner named_owner
 shown-is rules s e owner next end system ends column = rw (system, ends, column)
@@ -65,7 +64,7 @@ none : (at : ℕ) (p : Part) → p.end ≤ p.start → shifted at p ≡ absent
 unfolding shifted
 none at p h = rw (le-ltb p.start p.end h)
 
-pub owner-judged : (rules : Rules) (s : List ℕ) (i : ℕ) {e : Entry} → rules.kind ≡ System → entry_in (table_of rules s) i ≡ Found e
+pub owner-judged : (rules : Rules) (s : List ℕ) (i : ℕ) {e : Entry} → rules.kind ≡ System → entry_in (table_of rules s) i ≡ Ok e
     → OwnerJudged rules s e (owner_in rules s i)
 unfolding owner_answer
 owner-judged rules s i {e} system found =
@@ -75,11 +74,12 @@ owner-judged rules s i {e} system found =
     let u : AfterUser l v.next (e.start - e.at) = subst (λ (k : Kind). CommandAt k l v.next (e.start - e.at)) system v.command in
     let ends = (rw v.time at (time-view rules.dialect l (content_start l))).ends in
     let some = (rw u.column at (column-view l v.next)).0 in
-    let is = ap (λ (a : EntryAnswer). (owner_answer rules s a).owner) found ∙ shown-is rules s e u.owner v.next u.end system ends u.column in
+    let is = shown-is rules s e u.owner v.next u.end system ends u.column in
     let group = ap (λ (o : Owner). o.group) is in
     let class = ap (λ (o : Owner). o.class) is in
     record {
-      given = ap (λ (a : EntryAnswer). (owner_answer rules s a).refusal) found;
+      shown = owner_of rules s e;
+      given = ap (owner_answer rules s) found;
       line = f.line;
       next = v.next;
       time = v.time;
@@ -96,7 +96,7 @@ owner-judged rules s i {e} system found =
 -- used for entry 511 of a table in the second dialect: somebody is named, on the entry's line
 pub owner-named : (s : List ℕ) {e : Entry}
     → let rules : Rules = record { kind = System; dialect = Wrapping } in
-    entry_in (table_of rules s) 511 ≡ Found e → let shown = (owner_in rules s 511).owner.user in (e.at ≤ shown.start) × (shown.start < shown.end)
+    entry_in (table_of rules s) 511 ≡ Ok e → (o : Owner) × (owner_in rules s 511 ≡ Ok o) × (e.at ≤ o.user.start) × (o.user.start < o.user.end)
 owner-named s found =
     let j = owner-judged (record { kind = System; dialect = Wrapping }) s 511 refl found in
-    rw j.user (omega arith, omega (arith, j.some))
+    (j.shown, j.given, rw j.user (omega arith), rw j.user (omega (arith, j.some)))

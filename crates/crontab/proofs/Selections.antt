@@ -12,9 +12,14 @@ use lib.IntN.{ℤ}
 use borrow.Author.Tests.{le-leb, lt-leb, lt-ltb}
 use mir.Syntax.{w32}
 use mir.Val.{to_z, of_z}
+use Rattle.std.specs.Prelude.{Option, Result, Ok, Err}
+use Rattle.refusal.specs.declared.Refusal.{Refusal}
+use Rattle.refusal.specs.declared.Refusal.TheVariants.{TableTooLong}
+use Rattle.crontab.specs.declared.table.Table.{Table}
+use Rattle.crontab.specs.declared.table.TableFault.{TableFault}
+use Rattle.crontab.specs.declared.select.Selection.{Selection}
 use Rattle.octets.specs.BitSets.{with_member, bit_set_of}
 use Rattle.octets.proofs.BitSets.{bit-set-same}
-use Rattle.schedule.specs.declared.local.LocalDate.{LocalDate}
 use Rattle.calendar.specs.Dates.{last_minute}
 use Rattle.schedule.specs.declared.jump.Case.{Case}
 use Rattle.schedule.specs.Local.{OffsetInRange, biased_offset, local_date}
@@ -24,21 +29,21 @@ use Rattle.crontab.specs.declared.select.Selector.{Selector}
 use Rattle.crontab.specs.declared.select.Selector.TheVariants.{At}
 use Rattle.line.specs.declared.Rules.{Rules}
 use Rattle.line.specs.declared.Part.{Part}
-use Rattle.line.specs.declared.Fault.{Fault}
 use Rattle.crontab.specs.declared.item.Cursor.{Cursor}
 use Rattle.crontab.specs.declared.item.Item.TheVariants as item
-use Rattle.crontab.specs.declared.item.Item.TheVariants.{Nothing, Setting, Refused}
+use Rattle.crontab.specs.declared.item.Item.TheVariants.{Nothing, Setting}
 use Rattle.crontab.specs.declared.item.NextItem.{NextItem}
 use Rattle.crontab.specs.Limits.{max_table, max_entries}
 use Rattle.crontab.specs.Items.{items_of}
-use Rattle.crontab.specs.Inner.{items_at, Reached, ItemIs}
-use Rattle.crontab.specs.Tables.{blank_entry, no_entries, refused_table, empty_table, with_items, table_of}
+use Rattle.crontab.specs.Inner.{items_at, Reached, ItemIs, ItemFault}
+use Rattle.crontab.specs.Tables.{refusal_in, count_in, table_entries, blank_entry, no_entries, refused_table, empty_table, with_items, table_of}
 use Rattle.crontab.proofs.Tables.{good}
 use Rattle.crontab.proofs.Items.{start, items-start, start-reached}
 use Rattle.crontab.proofs.Walks.{count-setting, count-entry, entry-room, table-nothing, table-refused, table-setting, table_more}
-use Rattle.crontab.specs.Selections.{is_selected, date_under, bit_set_words, refused_selection, choice, selected_by}
+use Rattle.crontab.specs.Selections.{is_selected, date_under, bit_set_words, choice, selected_by}
 use Rattle.crontab.specs.Firings.{is_fixed, fires_at}
 use Rattle.line.proofs.Theorems.{kept}
+use Rattle.calendar.specs.declared.Date.{Date}
 
 -- one entry more
 pub selected-more : (p : Entry → Bool) (es : List Entry) (k : ℕ) (e : Entry) → k < length es
@@ -51,9 +56,18 @@ selected-more p es k e h =
     same : (x : ℕ) → x < k → choice p (set es k e) x ≡ choice p es x
     same x j = rw (get_or-set_other es k x e blank_entry (λ q. omega (arith, q)))
 
-pub selected-refused : (p : Entry → Bool) (number line column : ℕ) → refused_selection number ≡ selected_by p (refused_table number line column)
-unfolding refused_selection selected_by refused_table bit_set_of
-selected-refused p number line column = refl
+pub selected-refused : (p : Entry → Bool) (refusal : Refusal) (line column : ℕ) → Err refusal ≡ selected_by p (refused_table refusal line column)
+unfolding selected_by refused_table bit_set_of
+selected-refused p refusal line column = refl
+
+-- what a selection says of its table
+pub selected-good : (p : Entry → Bool) (t : Result Table TableFault) {x : Selection} → Ok x ≡ selected_by p t
+    → (refusal_in t ≡ 0) × (x.count ≡ count_in t) × (x.members ≡ bit_set_of bit_set_words (choice p (table_entries t)) (count_in t))
+unfolding selected_by
+selected-good p (Ok t) {x} e =
+    let same : x ≡ record { count = t.count; members = bit_set_of bit_set_words (choice p t.entries) t.count } = cc in
+    (refl, ap (λ (y : Selection). y.count) same, ap (λ (y : Selection). y.members) same)
+selected-good p (Err f) e = cc
 
 -- ---- a walk that marks the entries which pass a test
 
@@ -66,21 +80,18 @@ pub record Selecting (p : Entry → Bool) (rules : Rules) (s : List ℕ) (c : Cu
   pub reached : Reached s c
 
 module _ (p : Entry → Bool) (rules : Rules) (s : List ℕ) where
-  pub selecting-long : max_table < length s → refused_selection 1 ≡ selected_by p (table_of rules s)
+  pub selecting-long : max_table < length s → Err TableTooLong ≡ selected_by p (table_of rules s)
   unfolding items_of table_of with_items
-  selecting-long h = rw (lt-ltb max_table (length s) h) (selected-refused p 1 0 0)
+  selecting-long h = rw (lt-ltb max_table (length s) h) (selected-refused p TableTooLong 0 0)
 
   pub selecting-starts : length s ≤ max_table → Selecting p rules s start (replicate bit_set_words 0)
   unfolding table_of empty_table refused_table no_entries bit_set_of
   selecting-starts h = record { entries = no_entries; table = rw (items-start rules s h); full = refl; marked = refl; reached = start-reached s h }
 
 module _ {p : Entry → Bool} {rules : Rules} {s : List ℕ} {c : Cursor} {members : List ℕ} (so : Selecting p rules s c members) {r : NextItem} (step : ItemIs rules s c r) where
-  pub selecting-ends : r.item ≡ Nothing → record { refusal = 0; count = c.count; members = members } ≡ selected_by p (table_of rules s)
+  pub selecting-ends : r.item ≡ Nothing → Ok (record { count = c.count; members = members }) ≡ selected_by p (table_of rules s)
   unfolding selected_by
   selecting-ends is = rw (← (table-nothing step so.entries is ∙ so.table), so.marked)
-
-  pub selecting-refused : {f : Fault} → r.item ≡ Refused f → refused_selection f.number ≡ selected_by p (table_of rules s)
-  selecting-refused {f} is = selected-refused p f.number r.line f.column ∙ ap (selected_by p) (table-refused step so.entries is ∙ so.table)
 
   pub selecting-setting : {name value : Part} → r.item ≡ Setting name value → Selecting p rules s r.next members
   selecting-setting is =
@@ -102,6 +113,10 @@ module _ {p : Entry → Bool} {rules : Rules} {s : List ℕ} {c : Cursor} {membe
         reached = step.reached;
       }
 
+module _ {p : Entry → Bool} {rules : Rules} {s : List ℕ} {c : Cursor} {members : List ℕ} (so : Selecting p rules s c members) {f : TableFault} (bad : ItemFault rules s c f) where
+  pub selecting-refused : Err f.refusal ≡ selected_by p (table_of rules s)
+  selecting-refused = selected-refused p f.refusal f.line f.column ∙ ap (selected_by p) (table-refused bad so.entries ∙ so.table)
+
 -- an announced minute off the calendar calls nobody; on it, the local date is the minute's
 module _ {which : Selector} {m : ℕ} {case : Case} (e : Entry) (is : which ≡ At m case) where
   pub selected-off : last_minute < m → false ≡ is_selected which e
@@ -117,7 +132,7 @@ module _ {which : Selector} {m : ℕ} {case : Case} (e : Entry) (is : which ≡ 
   date-at h = rw (is, le-leb m last_minute h)
 
 -- the date under an offset that was read back
-module _ (which : Selector) (z : ℤ) {d : LocalDate} (h : OffsetInRange z) where
+module _ (which : Selector) (z : ℤ) {d : Option Date} (h : OffsetInRange z) where
   pub date-kept : d ≡ date_under which (to_z w32 (of_z w32 z)) → d ≡ date_under which z
   date-kept p = p ∙ ap (date_under which) (kept h)
 

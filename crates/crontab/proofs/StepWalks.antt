@@ -8,24 +8,22 @@ use Prim.Native.Nat.{ℕ, ◌+◌, ◌-◌, ◌<◌}
 use native.Mathlib.Omega.{arith}
 use lib.ListN.{length, set}
 use lib.Dec.{eqb}
+use Rattle.std.specs.Prelude.{Result, Ok, Err}
+use Rattle.refusal.specs.declared.Refusal.{Refusal}
 use Rattle.line.specs.declared.Rules.{Rules}
 use Rattle.line.specs.declared.Part.{Part}
 use Rattle.crontab.specs.declared.entry.Entry.{Entry}
-use Rattle.line.specs.declared.Fault.{Fault}
-use Rattle.crontab.specs.declared.table.EntryAnswer.{EntryAnswer}
-use Rattle.crontab.specs.declared.table.EntryAnswer.TheVariants.{Found, Refused}
-use Rattle.crontab.specs.declared.setting.SettingAnswer.{SettingAnswer}
-use Rattle.crontab.specs.declared.setting.LineAnswer.{LineAnswer}
-use Rattle.crontab.specs.declared.setting.LineAnswer.TheVariants as next_line
+use Rattle.field.specs.declared.Fault.{Fault}
 use Rattle.crontab.specs.declared.item.Cursor.{Cursor}
 use Rattle.crontab.specs.declared.item.Item.{Item}
 use Rattle.crontab.specs.declared.item.Item.TheVariants as item
 use Rattle.crontab.specs.declared.item.Step.{Step}
 use Rattle.crontab.specs.Limits.{max_entries}
-use Rattle.crontab.specs.Inner.{items_at, given, counted, StepIs, Sound}
+use Rattle.crontab.specs.Inner.{items_at, given, counted, StepIs, StepFault, Sound}
 use Rattle.crontab.specs.Tables.{refused_table, with_entry, with_items}
-use Rattle.crontab.specs.Settings.{refused_setting, shown, setting_from, line_or, next_line_from}
+use Rattle.crontab.specs.Settings.{shown, setting_from, line_or, next_line_from}
 use Rattle.crontab.proofs.Tables.{good, verdict_from, entry_from}
+use Rattle.crontab.specs.declared.setting.Setting.{Setting}
 
 module _ {rules : Rules} {s : List ℕ} {c : Cursor} {r : Step} (step : StepIs rules s c r) where
   -- each step leaves less to walk
@@ -64,14 +62,9 @@ module _ {rules : Rules} {s : List ℕ} {c : Cursor} {r : Step} (step : StepIs r
   unfolding given counted verdict_from
   verdict-nothing is = rw (left is, count is)
 
-  pub verdict-refused : {fault : Fault} → r.item ≡ item.Refused fault
-      → record { refusal = fault.number; line = c.line; column = fault.column; count = 0 } ≡ verdict_from c.count (items_at rules s c)
-  unfolding given verdict_from
-  verdict-refused is = rw (left is)
-
-  module _ (f : EntryAnswer) (i : ℕ) where
+  module _ (f : Result Entry Refusal) (i : ℕ) where
     pub entry_here : {e : Entry} → r.item ≡ item.Entry e
-        → entry_from (cond (eqb c.count i) (Found e) f) r.next.count i (items_at rules s r.next) ≡ entry_from f c.count i (items_at rules s c)
+        → entry_from (cond (eqb c.count i) (Ok e) f) r.next.count i (items_at rules s r.next) ≡ entry_from f c.count i (items_at rules s c)
     unfolding given counted entry_from
     entry_here is = rw (left is, count is)
 
@@ -84,11 +77,7 @@ module _ {rules : Rules} {s : List ℕ} {c : Cursor} {r : Step} (step : StepIs r
     unfolding given counted entry_from
     entry-nothing is = rw (left is, count is)
 
-    pub entry-refused : {fault : Fault} → r.item ≡ item.Refused fault → Refused fault.number ≡ entry_from f c.count i (items_at rules s c)
-    unfolding given entry_from
-    entry-refused is = rw (left is)
-
-  module _ (f : SettingAnswer) (n : ℕ) where
+  module _ (f : Result Setting Refusal) (n : ℕ) where
     pub setting-here : {name value : Part} → r.item ≡ item.Setting name value
         → setting_from (cond (eqb c.line n) (shown name value) f) n (items_at rules s r.next) ≡ setting_from f n (items_at rules s c)
     unfolding given setting_from
@@ -102,11 +91,7 @@ module _ {rules : Rules} {s : List ℕ} {c : Cursor} {r : Step} (step : StepIs r
     unfolding given setting_from
     setting-nothing is = rw (left is)
 
-    pub setting-refused : {fault : Fault} → r.item ≡ item.Refused fault → refused_setting fault.number ≡ setting_from f n (items_at rules s c)
-    unfolding given setting_from
-    setting-refused is = rw (left is)
-
-  module _ (f : LineAnswer) (n : ℕ) where
+  module _ (f : Result ℕ Refusal) (n : ℕ) where
     pub line-here : {name value : Part} → r.item ≡ item.Setting name value
         → next_line_from (line_or f n c.line) n (items_at rules s r.next) ≡ next_line_from f n (items_at rules s c)
     unfolding given next_line_from
@@ -119,10 +104,6 @@ module _ {rules : Rules} {s : List ℕ} {c : Cursor} {r : Step} (step : StepIs r
     pub line-nothing : r.item ≡ item.Nothing → next_line_from f n (items_at rules s r.next) ≡ next_line_from f n (items_at rules s c)
     unfolding given next_line_from
     line-nothing is = rw (left is)
-
-    pub line_refused : {fault : Fault} → r.item ≡ item.Refused fault → next_line.Refused fault.number ≡ next_line_from f n (items_at rules s c)
-    unfolding given next_line_from
-    line_refused is = rw (left is)
 
   pub entry-under : {e : Entry} → r.item ≡ item.Entry e → e.offset ≡ c.offset
   entry-under is = (rw is at step.under).0
@@ -151,7 +132,24 @@ module _ {rules : Rules} {s : List ℕ} {c : Cursor} {r : Step} (step : StepIs r
     unfolding given counted with_items
     table-nothing is = rw (left is, count is)
 
-    pub table-refused : {fault : Fault} → r.item ≡ item.Refused fault
-        → refused_table fault.number c.line fault.column ≡ with_items (good c.count es) (items_at rules s c)
-    unfolding given with_items
-    table-refused is = rw (left is)
+-- the line is refused
+module _ {rules : Rules} {s : List ℕ} {c : Cursor} {fault : Fault} (bad : StepFault rules s c fault) where
+  pub verdict-refused : Err (record { refusal = fault.refusal; line = c.line; column = fault.column }) ≡ verdict_from c.count (items_at rules s c)
+  unfolding verdict_from
+  verdict-refused = rw bad.gives
+
+  pub entry-refused : (f : Result Entry Refusal) (i : ℕ) → Err fault.refusal ≡ entry_from f c.count i (items_at rules s c)
+  unfolding entry_from
+  entry-refused f i = rw bad.gives
+
+  pub setting-refused : (f : Result Setting Refusal) (n : ℕ) → Err fault.refusal ≡ setting_from f n (items_at rules s c)
+  unfolding setting_from
+  setting-refused f n = rw bad.gives
+
+  pub line_refused : (f : Result ℕ Refusal) (n : ℕ) → Err fault.refusal ≡ next_line_from f n (items_at rules s c)
+  unfolding next_line_from
+  line_refused f n = rw bad.gives
+
+  pub table-refused : (es : List Entry) → refused_table fault.refusal c.line fault.column ≡ with_items (good c.count es) (items_at rules s c)
+  unfolding with_items
+  table-refused es = rw bad.gives

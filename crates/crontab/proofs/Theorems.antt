@@ -5,11 +5,10 @@
 --   owner-inside, owner-short: where an owner's parts stand
 --   owner-judged: in a system table the owner that is shown is the one that was judged, with a user that isn't empty; owner-named: used for entry 511
 --   entry-on-line, found-view: it is on a line of its table, which is the line that was read to it
---   owner-number, setting-number: a refusal has eight bits
 --   setting-inside, setting-short: where name and value stand
 --   next-setting: the first line from a line on that has a setting is the least one, and where there is none no line has one
 --   line-told: what is answered there, refused or not
---   due-told, next-told: what is said of an entry, refused or not
+--   next-told: what is said of when an entry fires next, refused or not
 --   next-in-gap: a next firing that is told is at most 21,036,960 minutes ahead
 --   next-by-clock: a next firing, refused or not, is what the slow engine (N5) says, minute by minute under the entry's offset;
 --     clock-used: used for entry 511
@@ -38,11 +37,13 @@ use native.Mathlib.Omega.{arith}
 use lib.ListN.{length, get_or, set, drop, length-set, length-drop}
 use lib.Seq.{get_or-set_same, get_or-set_other, length-take-le}
 use lib.Dec.{eqb, leb, ltb}
-use borrow.Author.Tests.{ltb-true, ltb-false, eqb-true, eqb-false}
+use borrow.Author.Tests.{ltb-true, ltb-false}
+use Rattle.std.specs.Prelude.{Result, Ok, Err, IsOk, IfOk, IfErr}
+use Rattle.refusal.specs.declared.Refusal.{Refusal}
+use Rattle.refusal.specs.declared.Refusal.TheVariants.{TableTooLong, NoSuchEntry, NotOnCalendar, AtBootOnly, NoSetting}
+use Rattle.refusal.specs.Numbers.{number_of}
 use Rattle.calendar.specs.Dates.{last_minute}
 use Rattle.schedule.specs.declared.Schedule.{Schedule}
-use Rattle.schedule.specs.declared.Next.{Next}
-use Rattle.schedule.specs.declared.Next.TheVariants as next
 use Rattle.schedule.specs.Local.{biased_offset, next_after_in}
 use Rattle.schedule.proofs.Theorems.{next-on-calendar-in}
 use Rattle.line.specs.declared.Rules.{Rules}
@@ -50,7 +51,6 @@ use Rattle.line.specs.declared.Part.{Part}
 use Rattle.line.specs.declared.Kind.{Kind}
 use Rattle.line.specs.declared.Kind.TheVariants.{User, System}
 use Rattle.line.specs.declared.user.Owner.{Owner}
-use Rattle.octets.specs.Refusals.{IsRefusal}
 use Rattle.octets.specs.Runs.{between}
 use Rattle.line.specs.Users.{absent}
 use Rattle.line.specs.Entries.{by_kind}
@@ -61,24 +61,18 @@ use Rattle.line.specs.declared.time.When.{When}
 use Rattle.line.specs.declared.time.When.TheVariants.{Reboot, Timed}
 use Rattle.crontab.specs.declared.entry.Entry.{Entry}
 use Rattle.crontab.specs.declared.table.Table.{Table}
-use Rattle.crontab.specs.declared.table.EntryAnswer.{EntryAnswer}
-use Rattle.crontab.specs.declared.table.EntryAnswer.TheVariants as answer
-use Rattle.crontab.specs.declared.setting.SettingAnswer.{SettingAnswer}
-use Rattle.crontab.specs.declared.setting.LineAnswer.{LineAnswer}
-use Rattle.crontab.specs.declared.setting.LineAnswer.TheVariants as next_line
-use Rattle.crontab.specs.declared.firing.DueAnswer.{DueAnswer}
-use Rattle.crontab.specs.declared.firing.DueAnswer.TheVariants as due
-use Rattle.crontab.specs.declared.firing.NextAnswer.{NextAnswer}
-use Rattle.crontab.specs.declared.firing.NextAnswer.TheVariants.{At, Refused}
+use Rattle.crontab.specs.declared.table.TableFault.{TableFault}
 use Rattle.crontab.specs.Limits.{max_table, max_entries}
 use Rattle.line.specs.Limits.{max_line}
 use Rattle.crontab.specs.Lines.{lines_of, is_cut}
 use Rattle.line.specs.Offsets.{utc}
 use Rattle.crontab.specs.Items.{Items, done, fault, setting, entry, moved, items_from, items_of}
-use Rattle.crontab.specs.Tables.{blank_entry, no_entries, refused_table, empty_table, with_entry, with_items, table_of, entry_in}
-use Rattle.crontab.specs.Settings.{refused_setting, shown, setting_from, setting_in, next_line_in}
-use Rattle.crontab.specs.Firings.{by_when, fires_at, due_of, told, next_of, due_answer, due_in, next_answer, next_in}
+use Rattle.crontab.specs.Tables.{blank_entry, no_entries, refused_table, empty_table, with_entry, with_items, table_of, entry_in, column_in, count_in, line_in, refusal_in, table_entries, verdict_of}
+use Rattle.crontab.specs.Selections.{selected_by}
+use Rattle.crontab.specs.Settings.{shown, setting_from, setting_in, next_line_in}
+use Rattle.crontab.specs.Firings.{by_when, next_of, next_answer, next_in}
 use Rattle.crontab.proofs.Sound.{Sound, SoundItems, items-sound}
+use Rattle.crontab.proofs.Tables.{refused-some}
 pub use Rattle.crontab.proofs.Gap.{next-in-gap}
 pub use Rattle.crontab.proofs.Clocks.{next-by-clock, clock-used}
 pub use Rattle.crontab.proofs.Cuts.{cut-refused}
@@ -89,29 +83,32 @@ pub use Rattle.crontab.proofs.Alike.{ReadAlike, items_alike, table-alike, Untime
 pub use Rattle.crontab.proofs.EntryViews.{FoundEntry, FoundView, found-view, entry-sound, entry-on-line}
 pub use Rattle.crontab.proofs.LineNumbers.{HasSetting, HasNone, NextSetting, next-setting}
 pub use Rattle.crontab.proofs.Lines.{LinesAt, lines_at}
+use Rattle.crontab.specs.declared.setting.Setting.{Setting}
 
 -- ---- a table
 
 -- A table of n bytes. Its entries are sound, and a refused one has none; a good one has no place of fault.
-pub record SoundTable (n : ℕ) (t : Table) : Type 0 where
-  pub number : t.refusal ≤ 27
-  pub few : t.count ≤ max_entries
-  pub full : length t.entries ≡ max_entries
-  pub each : (i : ℕ) → i < t.count → Sound n (get_or t.entries i blank_entry)
-  pub empty : (t.refusal ≡ 0 → ⊥) → t.count ≡ 0
-  pub clean : t.refusal ≡ 0 → (t.line ≡ 0) × (t.column ≡ 0)
-  pub line-few : t.line ≤ max_table + 1
-  pub column-few : t.column ≤ max_line + 1
+pub record SoundTable (n : ℕ) (t : Result Table TableFault) : Type 0 where
+  pub number : refusal_in t ≤ 27
+  pub some : IfErr t (λ f. 1 ≤ number_of f.refusal)
+  pub few : count_in t ≤ max_entries
+  pub full : length (table_entries t) ≡ max_entries
+  pub each : (i : ℕ) → i < count_in t → Sound n (get_or (table_entries t) i blank_entry)
+  pub empty : (refusal_in t ≡ 0 → ⊥) → count_in t ≡ 0
+  pub clean : refusal_in t ≡ 0 → (line_in t ≡ 0) × (column_in t ≡ 0)
+  pub line-few : line_in t ≤ max_table + 1
+  pub column-few : column_in t ≤ max_line + 1
 
 module _ (rules : Rules) (s : List ℕ) where
   abbrev n : ℕ
   n = length s
 
-  refused-sound : (number line column : ℕ) → 1 ≤ number → number ≤ 27 → line ≤ max_table + 1 → column ≤ max_line + 1 → SoundTable n (refused_table number line column)
+  refused-sound : (refusal : Refusal) (line column : ℕ) → 1 ≤ number_of refusal → number_of refusal ≤ 27 → line ≤ max_table + 1 → column ≤ max_line + 1 → SoundTable n (refused_table refusal line column)
   unfolding refused_table no_entries
-  refused-sound number line column h k i j =
+  refused-sound refusal line column h k i j =
       record {
         number = k;
+        some = h;
         few = omega arith;
         full = refl;
         each = λ i z. absurd (omega arith);
@@ -121,19 +118,25 @@ module _ (rules : Rules) (s : List ℕ) where
         column-few = j;
       }
 
-  entry-added : (t : Table) (e : Entry) → t.refusal ≡ 0 → t.count < max_entries → SoundTable n t → Sound n e → SoundTable n (with_entry t e)
-  unfolding with_entry
-  entry-added t e good h p q =
+  -- a good table, by its count and its entries
+  good-sound : (t : Table) → t.count ≤ max_entries → length t.entries ≡ max_entries
+      → ((i : ℕ) → i < t.count → Sound n (get_or t.entries i blank_entry)) → SoundTable n (Ok t)
+  good-sound t few full each =
       record {
-        number = p.number;
-        few = omega arith;
-        full = simp length-set p.full;
-        each = at_each;
-        empty = λ z. absurd (z good);
-        clean = p.clean;
-        line-few = p.line-few;
-        column-few = p.column-few;
+        number = omega arith;
+        some = tt;
+        few = few;
+        full = full;
+        each = each;
+        empty = λ z. absurd (z refl);
+        clean = λ z. (refl, refl);
+        line-few = omega arith;
+        column-few = omega arith;
       }
+
+  entry-added : (t : Table) (e : Entry) → t.count < max_entries → SoundTable n (Ok t) → Sound n e → SoundTable n (Ok (with_entry t e))
+  unfolding with_entry
+  entry-added t e h p q = good-sound (with_entry t e) (omega arith) (simp length-set p.full) at_each
     where
       long : t.count < length t.entries
       long = omega (arith, p.full)
@@ -147,60 +150,69 @@ module _ (rules : Rules) (s : List ℕ) where
           other : i < t.count → Sound n (get_or (set t.entries t.count e) i blank_entry)
           other c = rw (get_or-set_other t.entries t.count i e blank_entry (λ z. omega (arith, z))) (p.each i c)
 
-  with-sound : (m : ℕ) (t : Table) (items : Items) → t.refusal ≡ 0 → SoundTable n t → SoundItems rules s m t.count items → SoundTable n (with_items t items)
+  with-sound : (m : ℕ) (t : Table) (items : Items) → SoundTable n (Ok t) → SoundItems rules s m t.count items → SoundTable n (with_items t items)
   unfolding with_items with_entry
-  with-sound m t done good p q = p
-  with-sound m t (fault number line column) good p q = refused-sound number line column q.0.from q.0.to q.1 q.0.inside
-  with-sound m t (setting line name value later) good p q = with-sound (line + 1) t later good p q.2
-  with-sound m t (entry e later) good p q = with-sound (e.line + 1) (with_entry t e) later good (entry-added t e good q.1 p q.0) q.2
-
-  empty-sound : SoundTable n empty_table
-  unfolding empty_table refused_table no_entries
-  empty-sound =
-      record {
-        number = omega arith;
-        few = omega arith;
-        full = refl;
-        each = λ i z. absurd (omega arith);
-        empty = λ z. refl;
-        clean = λ z. (refl, refl);
-        line-few = omega arith;
-        column-few = omega arith;
-      }
+  with-sound m t done p q = p
+  with-sound m t (fault refusal line column) p q = refused-sound refusal line column q.0.from q.0.to q.1 q.0.inside
+  with-sound m t (setting line name value later) p q = with-sound (line + 1) t later p q.2
+  with-sound m t (entry e later) p q = with-sound (e.line + 1) (with_entry t e) later (entry-added t e q.1 p q.0) q.2
 
 pub table-sound : (rules : Rules) (s : List ℕ) → SoundTable (length s) (table_of rules s)
-unfolding table_of empty_table refused_table
-table-sound rules s = with-sound rules s 1 empty_table (items_of rules s) refl (empty-sound rules s) (items-sound rules s)
+unfolding table_of empty_table no_entries
+table-sound rules s =
+    with-sound rules s 1 empty_table (items_of rules s) (good-sound rules s empty_table (omega arith) refl (λ i z. absurd (omega arith))) (items-sound rules s)
 
 -- a table that isn't refused has at most so many bytes
-pub table-short : (rules : Rules) (s : List ℕ) → (table_of rules s).refusal ≡ 0 → length s ≤ max_table
-unfolding table_of items_of with_items refused_table
+pub table-short : (rules : Rules) (s : List ℕ) → refusal_in (table_of rules s) ≡ 0 → length s ≤ max_table
+unfolding table_of items_of with_items refused_table number_of
 table-short rules s = go (ltb max_table (length s)) refl
   where
     go : (b : Bool) → ltb max_table (length s) ≡ b
-        → (with_items empty_table (cond b (fault 1 0 0) (items_from rules (is_cut s) 0 1 0 utc (lines_of s)))).refusal ≡ 0 → length s ≤ max_table
+        → refusal_in (with_items empty_table (cond b (fault TableTooLong 0 0) (items_from rules (is_cut s) 0 1 0 utc (lines_of s)))) ≡ 0 → length s ≤ max_table
     go true e z = absurd (omega arith)
     go false e z = ltb-false max_table (length s) e
+
+-- a refusal isn't 0
+pub table-refused : (rules : Rules) (s : List ℕ) {f : TableFault} → table_of rules s ≡ Err f → refusal_in (table_of rules s) ≡ 0 → ⊥
+table-refused rules s is = refused-some (table_of rules s) is
+
+-- a table whose verdict is a fault has that fault; one whose selection is refused has a fault with that refusal
+module _ (rules : Rules) (s : List ℕ) where
+  pub verdict-bad : {f : TableFault} → Err f ≡ verdict_of (table_of rules s) → table_of rules s ≡ Err f
+  unfolding verdict_of
+  verdict-bad {f} = go (table_of rules s)
+    where
+      go : (t : Result Table TableFault) → Err f ≡ verdict_of t → t ≡ Err f
+      go (Ok t) e = cc
+      go (Err g) e = cc
+
+  pub selected-bad : (p : Entry → Bool) {refusal : Refusal} → Err refusal ≡ selected_by p (table_of rules s)
+      → (f : TableFault) × (table_of rules s ≡ Err f) × (f.refusal ≡ refusal)
+  unfolding selected_by
+  selected-bad p {refusal} = go (table_of rules s)
+    where
+      go : (t : Result Table TableFault) → Err refusal ≡ selected_by p t → (f : TableFault) × (t ≡ Err f) × (f.refusal ≡ refusal)
+      go (Ok t) e = cc
+      go (Err g) e = (g, refl, cc)
 
 -- ---- an entry that is found
 
 -- an answer of a table of n bytes: an entry, and then the table isn't refused; or a refusal
-abbrev pub EntryBounded : ℕ → EntryAnswer → Type 0
-EntryBounded n (answer.Found e) = (Sound n e) × (n ≤ max_table)
-EntryBounded n (answer.Refused number) = IsRefusal number
+abbrev pub EntryBounded : ℕ → Result Entry Refusal → Type 0
+EntryBounded n (Ok e) = (Sound n e) × (n ≤ max_table)
+EntryBounded n (Err refusal) = Unit {0}
 
 pub entry-told : (rules : Rules) (s : List ℕ) (i : ℕ) → EntryBounded (length s) (entry_in (table_of rules s) i)
 unfolding entry_in
-entry-told rules s i = go (eqb t.refusal 0) (ltb i t.count) refl refl
+entry-told rules s i = go (table_of rules s) (table-sound rules s) (table-short rules s)
   where
-    t : Table
-    t = table_of rules s
-
-    go : (a b : Bool) → eqb t.refusal 0 ≡ a → ltb i t.count ≡ b
-        → EntryBounded (length s) (cond a (cond b (answer.Found (get_or t.entries i blank_entry)) (answer.Refused 13)) (answer.Refused t.refusal))
-    go true true p q = ((table-sound rules s).each i (ltb-true i t.count q), table-short rules s (eqb-true t.refusal 0 p))
-    go true false p q = omega arith
-    go false b p q = omega (arith, eqb-false t.refusal 0 p, (table-sound rules s).number)
+    go : (t : Result Table TableFault) → SoundTable (length s) t → (refusal_in t ≡ 0 → length s ≤ max_table) → EntryBounded (length s) (entry_in t i)
+    go (Err f) sound short = tt
+    go (Ok t) sound short = has (ltb i t.count) refl
+      where
+        has : (b : Bool) → ltb i t.count ≡ b → EntryBounded (length s) (cond b (Ok (get_or t.entries i blank_entry)) (Err NoSuchEntry))
+        has true q = (sound.each i (ltb-true i t.count q), short refl)
+        has false q = tt
 
 -- ---- its owner
 
@@ -246,152 +258,92 @@ of-inside rules s e h = go rules.kind
         }
 
 module _ (rules : Rules) (s : List ℕ) (i : ℕ) where
-  pub owner-inside : OwnerInside (length s) (owner_in rules s i).owner
+  pub owner-inside : IfOk (owner_in rules s i) (OwnerInside (length s))
   unfolding owner_answer
   owner-inside = go (entry_in (table_of rules s) i) (entry-told rules s i)
     where
-      go : (a : EntryAnswer) → EntryBounded (length s) a → OwnerInside (length s) (owner_answer rules s a).owner
-      go (answer.Found e) h = of-inside rules s e h.0
-      go (answer.Refused number) h = nobody-inside (length s)
+      go : (a : Result Entry Refusal) → EntryBounded (length s) a → IfOk (owner_answer rules s a) (OwnerInside (length s))
+      go (Ok e) h = of-inside rules s e h.0
+      go (Err refusal) h = tt
 
-  pub owner-short : (owner_in rules s i).refusal ≡ 0 → length s ≤ max_table
+  pub owner-short : IsOk (owner_in rules s i) → length s ≤ max_table
   unfolding owner_answer
   owner-short = go (entry_in (table_of rules s) i) (entry-told rules s i)
     where
-      go : (a : EntryAnswer) → EntryBounded (length s) a → (owner_answer rules s a).refusal ≡ 0 → length s ≤ max_table
-      go (answer.Found e) h z = h.1
-      go (answer.Refused number) h z = absurd (omega arith)
-
-  pub owner-number : (owner_in rules s i).refusal ≤ 255
-  unfolding owner_answer
-  owner-number = go (entry_in (table_of rules s) i) (entry-told rules s i)
-    where
-      go : (a : EntryAnswer) → EntryBounded (length s) a → (owner_answer rules s a).refusal ≤ 255
-      go (answer.Found e) h = omega arith
-      go (answer.Refused number) h = h.1
+      go : (a : Result Entry Refusal) → EntryBounded (length s) a → IsOk (owner_answer rules s a) → length s ≤ max_table
+      go (Ok e) h z = h.1
+      go (Err refusal) h z = cc
 
 -- ---- a setting
 
-pub record SettingInside (n : ℕ) (a : SettingAnswer) : Type 0 where
+pub record SettingInside (n : ℕ) (a : Setting) : Type 0 where
   pub name : Inside n a.name
   pub value : Inside n a.value
 
 module _ (rules : Rules) (s : List ℕ) where
-  none_inside : (number : ℕ) → SettingInside (length s) (refused_setting number)
-  unfolding refused_setting
-  none_inside number =
-      record {
-        name = record { order = omega arith; within = omega arith };
-        value = record { order = omega arith; within = omega arith };
-      }
-
-  from-inside : (l k m : ℕ) (f : SettingAnswer) (items : Items) → SettingInside (length s) f → SoundItems rules s l k items → SettingInside (length s) (setting_from f m items)
+  from-inside : (l k m : ℕ) (f : Result Setting Refusal) (items : Items) → IfOk f (SettingInside (length s)) → SoundItems rules s l k items → IfOk (setting_from f m items) (SettingInside (length s))
   unfolding setting_from
   from-inside l k m f done p q = p
-  from-inside l k m f (fault number line column) p q = none_inside number
+  from-inside l k m f (fault refusal line column) p q = tt
   from-inside l k m f (entry e later) p q = from-inside (e.line + 1) (k + 1) m f later p q.2
   from-inside l k m f (setting line name value later) p q = from-inside (line + 1) k m (cond (eqb line m) (shown name value) f) later (go (eqb line m)) q.2
     where
-      go : (t : Bool) → SettingInside (length s) (cond t (shown name value) f)
+      go : (t : Bool) → IfOk (cond t (shown name value) f) (SettingInside (length s))
       go true = record { name = q.0; value = q.1 }
       go false = p
 
-pub setting-inside : (rules : Rules) (s : List ℕ) (k : ℕ) → SettingInside (length s) (setting_in (items_of rules s) k)
+pub setting-inside : (rules : Rules) (s : List ℕ) (k : ℕ) → IfOk (setting_in (items_of rules s) k) (SettingInside (length s))
 unfolding setting_in
-setting-inside rules s k = from-inside rules s 1 0 k (refused_setting 19) (items_of rules s) (none_inside rules s 19) (items-sound rules s)
-
--- the refusal of a setting is the table's, or 19
-from-number : (rules : Rules) (s : List ℕ) (l k m : ℕ) (f : SettingAnswer) (items : Items) → f.refusal ≤ 255 → SoundItems rules s l k items
-    → (setting_from f m items).refusal ≤ 255
-unfolding setting_from refused_setting
-from-number rules s l k m f done p q = p
-from-number rules s l k m f (fault number line column) p q = omega (arith, q.0.to)
-from-number rules s l k m f (entry e later) p q = from-number rules s (e.line + 1) (k + 1) m f later p q.2
-from-number rules s l k m f (setting line name value later) p q = from-number rules s (line + 1) k m (cond (eqb line m) (shown name value) f) later (go (eqb line m)) q.2
-  where
-    go : (t : Bool) → (cond t (shown name value) f).refusal ≤ 255
-    go true = omega arith
-    go false = p
-
-pub setting-number : (rules : Rules) (s : List ℕ) (k : ℕ) → (setting_in (items_of rules s) k).refusal ≤ 255
-unfolding setting_in refused_setting
-setting-number rules s k = from-number rules s 1 0 k (refused_setting 19) (items_of rules s) (omega arith) (items-sound rules s)
+setting-inside rules s k = from-inside rules s 1 0 k (Err NoSetting) (items_of rules s) tt (items-sound rules s)
 
 -- a setting that is found stands in a table that isn't too long
-pub setting-short : (rules : Rules) (s : List ℕ) (k : ℕ) → (setting_in (items_of rules s) k).refusal ≡ 0 → length s ≤ max_table
-unfolding setting_in items_of setting_from refused_setting
+pub setting-short : (rules : Rules) (s : List ℕ) (k : ℕ) → IsOk (setting_in (items_of rules s) k) → length s ≤ max_table
+unfolding setting_in items_of setting_from
 setting-short rules s k = go (ltb max_table (length s)) refl
   where
     go : (b : Bool) → ltb max_table (length s) ≡ b
-        → (setting_from (refused_setting 19) k (cond b (fault 1 0 0) (items_from rules (is_cut s) 0 1 0 utc (lines_of s)))).refusal ≡ 0 → length s ≤ max_table
-    go true e z = absurd (omega arith)
+        → IsOk (setting_from (Err NoSetting) k (cond b (fault TableTooLong 0 0) (items_from rules (is_cut s) 0 1 0 utc (lines_of s)))) → length s ≤ max_table
+    go true e z = cc
     go false e z = ltb-false max_table (length s) e
 
 -- a line of the table, or a refusal
-abbrev pub LineBounded : LineAnswer → Type 0
-LineBounded (next_line.At k) = k ≤ max_table + 1
-LineBounded (next_line.Refused number) = IsRefusal number
+abbrev pub LineBounded : Result ℕ Refusal → Type 0
+LineBounded (Ok k) = k ≤ max_table + 1
+LineBounded (Err refusal) = Unit {0}
 
 pub line-told : (rules : Rules) (s : List ℕ) (n : ℕ) → LineBounded (next_line_in (items_of rules s) n)
 line-told rules s n = go (next_line_in (items_of rules s) n) (next-setting rules s n)
   where
-    go : (a : LineAnswer) → NextSetting rules s n a → LineBounded a
-    go (next_line.At k) h = omega (arith, h.2, table-short rules s h.0)
-    go (next_line.Refused number) h =
-        elim (dec_le (table_of rules s).refusal 0) [
-          | yes z ↦ omega (arith, (h.1 (omega arith)).0)
-          | no z ↦ let l = lt_of_not-le z in omega (arith, h.0 (λ e. omega (arith, e, l)), (table-sound rules s).number)
-        ]
+    go : (a : Result ℕ Refusal) → NextSetting rules s n a → LineBounded a
+    go (Ok k) h = omega (arith, h.2, table-short rules s h.0)
+    go (Err refusal) h = tt
 
--- ---- what is said of an entry: yes, no, a minute of the calendar, or a refusal
+-- ---- when an entry fires next: a minute of the calendar, or a refusal
 
-abbrev pub DueBounded : DueAnswer → Type 0
-DueBounded due.Yes = Unit {0}
-DueBounded due.No = Unit {0}
-DueBounded (due.Refused number) = IsRefusal number
-
-abbrev pub NextBounded : NextAnswer → Type 0
-NextBounded (At n) = n ≤ last_minute
-NextBounded (Refused number) = IsRefusal number
-
-due-of : (e : Entry) (m : ℕ) → DueBounded (due_of e m)
-unfolding due_of
-due-of e m = go (leb m last_minute) (fires_at e m)
-  where
-    go : (a b : Bool) → DueBounded (cond a (cond b due.Yes due.No) (due.Refused 14))
-    go true true = tt
-    go true false = tt
-    go false b = omega arith
-
-pub due-told : (rules : Rules) (s : List ℕ) (i m : ℕ) → DueBounded (due_in (table_of rules s) i m)
-unfolding due_in due_answer
-due-told rules s i m = go (entry_in (table_of rules s) i) (entry-told rules s i)
-  where
-    go : (a : EntryAnswer) → EntryBounded (length s) a → DueBounded (due_answer a m)
-    go (answer.Found e) h = due-of e m
-    go (answer.Refused number) h = h
+abbrev pub NextBounded : Result ℕ Refusal → Type 0
+NextBounded (Ok n) = n ≤ last_minute
+NextBounded (Err refusal) = Unit {0}
 
 next-of : (e : Entry) (m : ℕ) → NextBounded (next_of e m)
-unfolding next_of told
+unfolding next_of
 next-of e m = go (leb m last_minute) e.when
   where
     o : ℕ
     o = biased_offset e.offset
 
-    firing : (times : Schedule) (x : Next) → next_after_in times o m ≡ x → NextBounded (told x)
-    firing times (next.At n) p = next-on-calendar-in times o m n p
-    firing times next.Never p = omega arith
-    firing times next.PastEnd p = omega arith
+    firing : (times : Schedule) (x : Result ℕ Refusal) → next_after_in times o m ≡ x → NextBounded x
+    firing times (Ok n) p = next-on-calendar-in times o m n p
+    firing times (Err refusal) p = tt
 
-    go : (b : Bool) (when : When) → NextBounded (cond b (by_when when (Refused 15) (λ s. told (next_after_in s o m))) (Refused 14))
-    go false when = omega arith
-    go true Reboot = omega arith
+    go : (b : Bool) (when : When) → NextBounded (cond b (by_when when (Err AtBootOnly) (λ s. next_after_in s o m)) (Err NotOnCalendar))
+    go false when = tt
+    go true Reboot = tt
     go true (Timed times) = firing times (next_after_in times o m) refl
 
 pub next-told : (rules : Rules) (s : List ℕ) (i m : ℕ) → NextBounded (next_in (table_of rules s) i m)
 unfolding next_in next_answer
 next-told rules s i m = go (entry_in (table_of rules s) i) (entry-told rules s i)
   where
-    go : (a : EntryAnswer) → EntryBounded (length s) a → NextBounded (next_answer a m)
-    go (answer.Found e) h = next-of e m
-    go (answer.Refused number) h = h
+    go : (a : Result Entry Refusal) → EntryBounded (length s) a → NextBounded (next_answer a m)
+    go (Ok e) h = next-of e m
+    go (Err refusal) h = tt

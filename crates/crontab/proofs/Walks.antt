@@ -1,49 +1,29 @@
 -- A walk over a table's items, step by step: what a step leaves, by its item, and how the table and what is found go on from there.
 -- Assumes nothing.
 use mathlib.Core.Path.{◌≡◌, refl, sym, ap, ◌∙◌}
-use mathlib.Core.Logic.{◌⊎◌, inl, inr}
 use mathlib.Core.List.{List}
 use Prim.Native.Nat.{ℕ, ◌+◌, ◌-◌, ◌<◌}
 use native.Mathlib.Omega.{arith}
 use lib.ListN.{length, set}
 use lib.IntN.{ℤ}
+use Rattle.std.specs.Prelude.{Ok, Err}
 use Rattle.line.specs.declared.Rules.{Rules}
 use Rattle.line.specs.declared.Part.{Part}
-use Rattle.line.specs.declared.Fault.{Fault}
 use Rattle.crontab.specs.declared.entry.Entry.{Entry}
 use Rattle.crontab.specs.declared.item.Cursor.{Cursor}
 use Rattle.crontab.specs.declared.item.Item.{Item}
 use Rattle.crontab.specs.declared.item.Item.TheVariants as item
 use Rattle.crontab.specs.declared.item.NextItem.{NextItem}
+use Rattle.crontab.specs.declared.table.TableFault.{TableFault}
 use Rattle.crontab.specs.declared.find.Wanted.{Wanted}
 use Rattle.crontab.specs.declared.find.Finding.{Finding}
 use Rattle.crontab.specs.Limits.{max_entries}
-use Rattle.crontab.specs.Items.{Items, done, fault, setting, entry}
-use Rattle.crontab.specs.Inner.{items_at, given, counted, ItemIs, Sound, Under, Stays, Leads}
+use Rattle.crontab.specs.Items.{Items, done, setting, entry}
+use Rattle.crontab.specs.Inner.{items_at, given, counted, ItemIs, ItemFault, Sound, Under, Stays, Leads}
 use Rattle.crontab.specs.Tables.{refused_table, with_entry, with_items}
-use Rattle.crontab.specs.Findings.{is_wanted, refused_finding, found_or, finding_from}
+use Rattle.crontab.specs.Findings.{is_wanted, found_or, finding_from}
 use Rattle.crontab.proofs.Tables.{good}
 use Rattle.crontab.proofs.Items.{items-end}
-
--- ---- items that don't end a walk
-
-abbrev pub Kept : Item → Type 0
-Kept item.Nothing = Unit {0}
-Kept (item.Setting name value) = Unit {0}
-Kept (item.Entry e) = Unit {0}
-Kept (item.Refused f) = ⊥
-
--- the last variant is none of the three before it
-pub last-variant : (◌≡◌ {A = ℕ} 3 0) ⊎ ((◌≡◌ {A = ℕ} 3 1) ⊎ (◌≡◌ {A = ℕ} 3 2)) → ⊥
-last-variant (inl e) = omega (arith, e)
-last-variant (inr (inl e)) = omega (arith, e)
-last-variant (inr (inr e)) = omega (arith, e)
-
-pub not-refused : (x : Item) → ((f : Fault) → x ≡ item.Refused f → ⊥) → Kept x
-not-refused item.Nothing h = tt
-not-refused (item.Setting name value) h = tt
-not-refused (item.Entry e) h = tt
-not-refused (item.Refused f) h = h f refl
 
 -- ---- one step
 
@@ -51,7 +31,6 @@ leads-on : {n from next : ℕ} (x : Item) → from < n → Leads n from next x �
 leads-on item.Nothing h l = omega (arith, l)
 leads-on (item.Setting name value) h l = l
 leads-on (item.Entry e) h l = l
-leads-on (item.Refused f) h l = l
 
 module _ {rules : Rules} {s : List ℕ} {c : Cursor} {r : NextItem} (step : ItemIs rules s c r) where
   -- each step leaves less to walk
@@ -74,10 +53,6 @@ module _ {rules : Rules} {s : List ℕ} {c : Cursor} {r : NextItem} (step : Item
   pub left-nothing : r.item ≡ item.Nothing → items_at rules s c ≡ done
   unfolding given
   left-nothing is = left is ∙ items-end rules s r.next (leads is)
-
-  pub left-refused : {f : Fault} → r.item ≡ item.Refused f → items_at rules s c ≡ fault f.number r.line f.column
-  unfolding given
-  left-refused is = left is
 
   module _ {name value : Part} (is : r.item ≡ item.Setting name value) where
     pub left-setting : items_at rules s c ≡ setting r.line name value (items_at rules s r.next)
@@ -116,14 +91,9 @@ module _ {rules : Rules} {s : List ℕ} {c : Cursor} {r : NextItem} (step : Item
   -- ---- the table so far
 
   module _ (es : List Entry) where
-    pub table-nothing : r.item ≡ item.Nothing → good c.count es ≡ with_items (good c.count es) (items_at rules s c)
+    pub table-nothing : r.item ≡ item.Nothing → Ok (good c.count es) ≡ with_items (good c.count es) (items_at rules s c)
     unfolding with_items
     table-nothing is = rw (left-nothing is)
-
-    pub table-refused : {f : Fault} → r.item ≡ item.Refused f
-        → refused_table f.number r.line f.column ≡ with_items (good c.count es) (items_at rules s c)
-    unfolding with_items
-    table-refused is = rw (left-refused is)
 
     pub table-setting : {name value : Part} → r.item ≡ item.Setting name value
         → with_items (good r.next.count es) (items_at rules s r.next) ≡ with_items (good c.count es) (items_at rules s c)
@@ -138,21 +108,26 @@ module _ {rules : Rules} {s : List ℕ} {c : Cursor} {r : NextItem} (step : Item
   -- ---- what is found
 
   module _ (w : Wanted) (found : Finding) where
-    finding-given : (x : Item) (later : Items) (n : ℕ) (o : ℤ) → Kept x → Stays n c.offset o x
+    finding-given : (x : Item) (later : Items) (n : ℕ) (o : ℤ) → Stays n c.offset o x
         → finding_from w (found_or w found n c.count x) (counted x c.count) later ≡ finding_from w found c.count (given n x later)
     unfolding finding_from found_or is_wanted given counted
-    finding-given item.Nothing later n o kept u = refl
-    finding-given (item.Setting name value) later n o kept u = refl
-    finding-given (item.Entry e) later n o kept u = rw u
-    finding-given (item.Refused f) later n o kept u = absurd kept
+    finding-given item.Nothing later n o u = refl
+    finding-given (item.Setting name value) later n o u = refl
+    finding-given (item.Entry e) later n o u = rw u
 
-    pub finding-next : Kept r.item
-        → finding_from w (found_or w found r.line c.count r.item) r.next.count (items_at rules s r.next) ≡ finding_from w found c.count (items_at rules s c)
-    finding-next kept =
+    pub finding-next : finding_from w (found_or w found r.line c.count r.item) r.next.count (items_at rules s r.next) ≡ finding_from w found c.count (items_at rules s c)
+    finding-next =
         ap (λ (k : ℕ). finding_from w (found_or w found r.line c.count r.item) k (items_at rules s r.next)) step.counts
-        ∙ finding-given r.item (items_at rules s r.next) r.line r.next.offset kept step.stays
+        ∙ finding-given r.item (items_at rules s r.next) r.line r.next.offset step.stays
         ∙ ap (finding_from w found c.count) (sym step.gives)
 
-    pub finding-refused : {f : Fault} → r.item ≡ item.Refused f → refused_finding f r.line ≡ finding_from w found c.count (items_at rules s c)
-    unfolding finding_from
-    finding-refused is = rw (left-refused is)
+-- ---- a fault
+
+module _ {rules : Rules} {s : List ℕ} {c : Cursor} {f : TableFault} (bad : ItemFault rules s c f) where
+  pub table-refused : (es : List Entry) → refused_table f.refusal f.line f.column ≡ with_items (good c.count es) (items_at rules s c)
+  unfolding with_items
+  table-refused es = rw bad.gives
+
+  pub finding-refused : (w : Wanted) (found : Finding) → Err f ≡ finding_from w found c.count (items_at rules s c)
+  unfolding finding_from
+  finding-refused w found = rw bad.gives

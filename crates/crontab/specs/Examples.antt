@@ -1,7 +1,10 @@
 -- Worked tables, checked by computing: rows of a text and what it is. Lines
 -- are in `line/specs/Examples`.
 -- Assumes nothing.
-use Rattle.std.specs.Prelude.{ℕ, zero, suc, ◌+◌, refl, Bool, true, false, List, [], ◌∷◌, ◌++◌, replicate, ℤ, pos, negsuc}
+use Rattle.std.specs.Prelude.{ℕ, zero, suc, ◌+◌, refl, Bool, true, false, List, [], ◌∷◌, ◌++◌, replicate, ℤ, pos, negsuc, Result, Ok, Err}
+use Rattle.refusal.specs.declared.Refusal.{Refusal}
+use Rattle.refusal.specs.declared.Refusal.TheVariants.{OutOfLimits, NoSuchEntry, NotOnCalendar, PastEnd, NoSetting, CutTable}
+use Rattle.refusal.specs.Numbers.{number_of}
 use Rattle.octets.specs.Texts.{text}
 use Rattle.octets.specs.Rows.{Hold}
 use Rattle.calendar.specs.Dates.{last_minute}
@@ -12,27 +15,20 @@ use Rattle.field.specs.declared.Dialect.TheVariants.{Rising}
 use Rattle.line.specs.declared.Kind.TheVariants.{User, System}
 use Rattle.line.specs.declared.time.When.{When}
 use Rattle.line.specs.declared.time.When.TheVariants.{Reboot, Timed}
-use Rattle.crontab.specs.declared.firing.DueAnswer.{DueAnswer}
-use Rattle.crontab.specs.declared.firing.DueAnswer.TheVariants.{Yes, No}
-use Rattle.crontab.specs.declared.firing.DueAnswer.TheVariants as due
-use Rattle.crontab.specs.declared.table.EntryAnswer.{EntryAnswer}
-use Rattle.crontab.specs.declared.table.EntryAnswer.TheVariants as answer
-use Rattle.crontab.specs.declared.setting.LineAnswer.TheVariants as line
 use Rattle.crontab.specs.Limits.{max_entries}
 use Rattle.line.specs.Limits.{max_line}
+use Rattle.line.specs.declared.user.Owner.{Owner}
 use Rattle.line.specs.Users.{absent}
 use Rattle.line.specs.Offsets.{utc}
 use Rattle.crontab.specs.Owners.{owner_in}
 use Rattle.crontab.specs.Items.{items_of}
-use Rattle.crontab.specs.Tables.{table_of, entry_in, command_in}
-use Rattle.crontab.specs.Settings.{setting_in, next_line_in}
-use Rattle.line.specs.Assignments.{part_bytes}
+use Rattle.crontab.specs.Tables.{table_of, entry_in, command_in, column_in, count_in, line_in, refusal_in}
+use Rattle.crontab.specs.Settings.{name_in, value_in, setting_in, next_line_in}
 use Rattle.schedule.specs.Next.{can_fire}
 use Rattle.schedule.specs.Local.{firing_from_in, firing_after_in, next_after_in}
-use Rattle.crontab.specs.declared.firing.NextAnswer.{NextAnswer}
-use Rattle.crontab.specs.declared.firing.NextAnswer.TheVariants as next
-use Rattle.crontab.specs.Firings.{is_fixed, due_in, told, next_of, next_answer, next_in}
+use Rattle.crontab.specs.Firings.{is_fixed, due_in, next_of, next_answer, next_in}
 use Rattle.crontab.specs.Computing.{reading, zoning}
+use Rattle.crontab.specs.declared.entry.Entry.{Entry}
 
 abbrev of_user : Rules
 of_user = record { kind = User; dialect = Rising }
@@ -55,7 +51,7 @@ hourly =
 -- ---- tables: the refusal, its line and column, and the count of entries
 
 abbrev fault : List ℕ → List ℕ
-fault s = let t = table_of of_user s in t.refusal ∷ t.line ∷ t.column ∷ t.count ∷ []
+fault s = let t = table_of of_user s in refusal_in t ∷ line_in t ∷ column_in t ∷ count_in t ∷ []
 
 times : ℕ → List ℕ → List ℕ
 times zero s = []
@@ -105,13 +101,13 @@ tables-read = refl
 abbrev three : List ℕ
 three = text "A=b\n @reboot x y \n0 * * * * z\n'B C' = d e \n"
 
-abbrev found : ℕ → EntryAnswer × List ℕ
+abbrev found : ℕ → Result Entry Refusal × List ℕ
 found i = let e = entry_in (table_of of_user three) i in (e, command_in three e)
 
 entries-found : Hold found
-    ((0, (answer.Found (record { when = Reboot; line = 2; at = 4; start = 13; end = 17; offset = utc }), text "x y "))
-    ∷ (1, (answer.Found (record { when = hourly; line = 3; at = 18; start = 28; end = 29; offset = utc }), text "z"))
-    ∷ (2, (answer.Refused 13, []))
+    ((0, (Ok (record { when = Reboot; line = 2; at = 4; start = 13; end = 17; offset = utc }), text "x y "))
+    ∷ (1, (Ok (record { when = hourly; line = 3; at = 18; start = 28; end = 29; offset = utc }), text "z"))
+    ∷ (2, (Err NoSuchEntry, []))
     ∷ [])
 unfolding reading
 entries-found = refl
@@ -120,9 +116,9 @@ entries-found = refl
 abbrev zones : List ℕ
 zones = text "@reboot a\nCRON_TZ=-03:30\n@reboot b\nA=+01:00\n@reboot c\n'CRON_TZ'='+05:45'\n#\n\n@reboot d\n@reboot e\nCRON_TZ=-00:00\n@reboot f\n"
 
-abbrev under_of : EntryAnswer → ℤ
-under_of (answer.Found e) = e.offset
-under_of (answer.Refused number) = pos number
+abbrev under_of : Result Entry Refusal → ℤ
+under_of (Ok e) = e.offset
+under_of (Err refusal) = pos (number_of refusal)
 
 under-offset : Hold (λ i. under_of (entry_in (table_of of_user zones) i))
     ((0, pos 0) ∷ (1, negsuc 209) ∷ (2, negsuc 209) ∷ (3, pos 345) ∷ (4, pos 345) ∷ (5, pos 0) ∷ (6, pos 13) ∷ [])
@@ -130,9 +126,9 @@ unfolding reading
 under-offset = refl
 
 -- M6: whether an entry is fixed, by how its minute and its hour begin, and not by their values
-abbrev fixed_in : EntryAnswer → Bool
-fixed_in (answer.Found e) = is_fixed e
-fixed_in (answer.Refused number) = false
+abbrev fixed_in : Result Entry Refusal → Bool
+fixed_in (Ok e) = is_fixed e
+fixed_in (Err refusal) = false
 
 fixed : Hold (λ (s : List ℕ). fixed_in (entry_in (table_of of_user s) 0))
     ((text "30 4 * * * x\n", true)
@@ -147,8 +143,13 @@ fixed : Hold (λ (s : List ℕ). fixed_in (entry_in (table_of of_user s) 0))
 unfolding reading is_fixed
 fixed = refl
 
+-- R35: the refusal, 0 if there is none
+abbrev refused_as : {A : Type 0} → Result A Refusal → ℕ
+refused_as (Ok a) = 0
+refused_as (Err refusal) = number_of refusal
+
 abbrev named : ℕ → ℕ × List ℕ × List ℕ
-named n = let a = setting_in (items_of of_user three) n in (a.refusal, part_bytes three a.name, part_bytes three a.value)
+named n = let a = setting_in (items_of of_user three) n in (refused_as a, name_in three a, value_in three a)
 
 settings-found : Hold named
     ((1, (0, text "A", text "b"))
@@ -160,17 +161,17 @@ settings-found = refl
 
 -- the first setting from a line on, which may be that line; 0 is before all of them
 next-found : Hold (λ (n : ℕ). next_line_in (items_of of_user three) n)
-    ((0, line.At 1) ∷ (1, line.At 1) ∷ (2, line.At 4) ∷ (4, line.At 4) ∷ (5, line.Refused 19) ∷ [])
+    ((0, Ok 1) ∷ (1, Ok 1) ∷ (2, Ok 4) ∷ (4, Ok 4) ∷ (5, Err NoSetting) ∷ [])
 unfolding reading
 next-found = refl
 
 -- two settings of one name; no setting at all; a fault after the setting, and a table that is cut
 next-in : Hold (λ (s : List ℕ). next_line_in (items_of of_user s) 1)
-    ((text "#\nA=b\nA=c\n", line.At 2)
-    ∷ (text "@reboot x\n", line.Refused 19)
-    ∷ ([], line.Refused 19)
-    ∷ (text "A=b\n60\n", line.Refused 6)
-    ∷ (text "A=b", line.Refused 26)
+    ((text "#\nA=b\nA=c\n", Ok 2)
+    ∷ (text "@reboot x\n", Err NoSetting)
+    ∷ ([], Err NoSetting)
+    ∷ (text "A=b\n60\n", Err OutOfLimits)
+    ∷ (text "A=b", Err CutTable)
     ∷ [])
 unfolding reading
 next-in = refl
@@ -180,10 +181,13 @@ next-in = refl
 abbrev watch : List ℕ
 watch = text "A=b\n @reboot u:g x\n0 * * * * v/c y\n@daily w:h/d z\n"
 
+-- U4: user, group and class
+abbrev parts_in : Result Owner Refusal → List Part
+parts_in (Ok o) = o.user ∷ o.group ∷ o.class ∷ []
+parts_in (Err refusal) = []
+
 abbrev owned : Rules → ℕ → ℕ × List Part
-owned rules i =
-    let a = owner_in rules watch i in
-    (a.refusal, a.owner.user ∷ a.owner.group ∷ a.owner.class ∷ [])
+owned rules i = let a = owner_in rules watch i in (refused_as a, parts_in a)
 
 abbrev part : ℕ → ℕ → Part
 part start end = record { start = start; end = end }
@@ -192,63 +196,63 @@ owners-found : Hold (owned of_system)
     ((0, (0, part 13 14 ∷ part 15 16 ∷ absent ∷ []))
     ∷ (1, (0, part 29 30 ∷ absent ∷ part 31 32 ∷ []))
     ∷ (2, (0, part 42 43 ∷ part 44 45 ∷ part 46 47 ∷ []))
-    ∷ (3, (13, absent ∷ absent ∷ absent ∷ []))
+    ∷ (3, (13, []))
     ∷ [])
 unfolding reading
 owners-found = refl
 
 -- in a user table it is part of the command
-nobody-found : Hold (owned of_user) ((0, (0, absent ∷ absent ∷ absent ∷ [])) ∷ (3, (13, absent ∷ absent ∷ absent ∷ [])) ∷ [])
+nobody-found : Hold (owned of_user) ((0, (0, absent ∷ absent ∷ absent ∷ [])) ∷ (3, (13, [])) ∷ [])
 unfolding reading
 nobody-found = refl
 
 -- ---- M5: whether an entry is due, by its local minute
 
-due_at : List ℕ → ℕ → DueAnswer
+due_at : List ℕ → ℕ → Result Bool Refusal
 due_at s m = due_in (table_of of_user s) 0 m
 
 -- an hour ahead, midnight is at 23:00
 due-ahead : Hold (due_at (text "CRON_TZ=+01:00\n0 0 * * * x\n"))
-    ((1380, Yes)
-    ∷ (1440, No)
-    ∷ (0, No)
+    ((1380, Ok true)
+    ∷ (1440, Ok false)
+    ∷ (0, Ok false)
     ∷ [])
 unfolding due_at zoning
 due-ahead = refl
 
 -- before 1970 locally, and from there on
-due-behind : Hold (due_at (text "CRON_TZ=-12:00\n* * * * * x\n")) ((0, No) ∷ (719, No) ∷ (720, Yes) ∷ [])
+due-behind : Hold (due_at (text "CRON_TZ=-12:00\n* * * * * x\n")) ((0, Ok false) ∷ (719, Ok false) ∷ (720, Ok true) ∷ [])
 unfolding due_at zoning
 due-behind = refl
 
 -- up to the local calendar's end, after it, and after that of UTC, which comes later in the one and earlier in the other
 due-last : Hold (due_at (text "CRON_TZ=+14:00\n* * * * * x\n"))
-    ((last_minute, No)
-    ∷ (4223370839, Yes)
-    ∷ (4223370840, No)
-    ∷ (last_minute + 1, due.Refused 14)
+    ((last_minute, Ok false)
+    ∷ (4223370839, Ok true)
+    ∷ (4223370840, Ok false)
+    ∷ (last_minute + 1, Err NotOnCalendar)
     ∷ [])
 unfolding due_at zoning
 due-last = refl
 
 -- a minute off the calendar is refused, though it is on it locally, and one whose low 32 bits are the minute 720
 due-off : Hold (due_at (text "CRON_TZ=-12:00\n* * * * * x\n"))
-    ((last_minute, Yes)
-    ∷ (last_minute + 1, due.Refused 14)
-    ∷ (4294968016, due.Refused 14)
+    ((last_minute, Ok true)
+    ∷ (last_minute + 1, Err NotOnCalendar)
+    ∷ (4294968016, Err NotOnCalendar)
     ∷ [])
 unfolding due_at zoning
 due-off = refl
 
-next_at : List ℕ → ℕ → NextAnswer
+next_at : List ℕ → ℕ → Result ℕ Refusal
 next_at s m = next_in (table_of of_user s) 0 m
 
 -- a quarter of an hour ahead, the hour is at 45 in UTC
-next-ahead : Hold (next_at (text "CRON_TZ=+00:15\n0 * * * * x\n")) ((0, next.At 45) ∷ (45, next.At 105) ∷ (4223371679, next.Refused 17) ∷ [])
-unfolding next_at zoning told next_of next_answer next_in next_after_in firing_after_in firing_from_in can_fire
+next-ahead : Hold (next_at (text "CRON_TZ=+00:15\n0 * * * * x\n")) ((0, Ok 45) ∷ (45, Ok 105) ∷ (4223371679, Err PastEnd) ∷ [])
+unfolding next_at zoning next_of next_answer next_in next_after_in firing_after_in firing_from_in can_fire
 next-ahead = refl
 
 -- before 1970 locally it is the first minute on the calendar there
-next-behind : Hold (next_at (text "CRON_TZ=-03:30\n* * * * * x\n")) ((0, next.At 210) ∷ (209, next.At 210) ∷ (210, next.At 211) ∷ [])
-unfolding next_at zoning told next_of next_answer next_in next_after_in firing_after_in firing_from_in can_fire
+next-behind : Hold (next_at (text "CRON_TZ=-03:30\n* * * * * x\n")) ((0, Ok 210) ∷ (209, Ok 210) ∷ (210, Ok 211) ∷ [])
+unfolding next_at zoning next_of next_answer next_in next_after_in firing_after_in firing_from_in can_fire
 next-behind = refl

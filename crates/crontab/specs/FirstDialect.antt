@@ -1,9 +1,10 @@
 -- A table of the rising dialect, with nothing that wraps: `proofs.Theorems.first-dialect-same` says that the wrapping dialect changes
 -- nothing in it (T8).
 -- Assumes nothing.
-use Rattle.std.specs.Prelude.{ℕ, ◌+◌, Bool, cond, ◌&&◌, List, [], ◌∷◌, length, ℤ, ltb}
+use Rattle.std.specs.Prelude.{ℕ, ◌+◌, Bool, cond, ◌&&◌, List, [], ◌∷◌, length, ℤ, ltb, Result}
 use Rattle.line.specs.declared.Kind.{Kind}
 use Rattle.crontab.specs.declared.table.Table.{Table}
+use Rattle.crontab.specs.declared.table.TableFault.{TableFault}
 use Rattle.crontab.specs.Limits.{max_table}
 use Rattle.crontab.specs.Refusals.{table_too_long}
 use Rattle.line.specs.Offsets.{utc}
@@ -25,5 +26,5 @@ unfoldable pub first_items : Kind → List ℕ → Items
 first_items kind s = cond (ltb max_table (length s)) (fault table_too_long 0 0) (first_items_from kind (is_cut s) 0 1 0 utc (lines_of s))
 
 -- T7: a table by its items
-unfoldable pub first_table : Kind → List ℕ → Table
+unfoldable pub first_table : Kind → List ℕ → Result Table TableFault
 first_table kind s = with_items empty_table (first_items kind s)

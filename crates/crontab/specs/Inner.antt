@@ -1,14 +1,14 @@
 -- What the functions inside promise each other: one step of the walk over a table's lines, and what follows from it. What a reader must
 -- believe is in Items.
 -- Assumes nothing.
-use Rattle.std.specs.Prelude.{◌≡◌, ℕ, ◌+◌, ◌-◌, ◌≤◌, ◌<◌, cond, List, length, drop, ℤ, ltb}
+use Rattle.std.specs.Prelude.{◌≡◌, ℕ, ◌+◌, ◌-◌, ◌≤◌, ◌<◌, cond, List, length, drop, ℤ, ltb, Ok, Err, Result}
 use Rattle.octets.specs.declared.class.Class.TheVariants.{Not, InLine}
 use Rattle.octets.specs.Classes.{newline}
 use Rattle.octets.specs.Runs.{skipped, between}
 use Rattle.schedule.specs.Local.{OffsetInRange}
 use Rattle.line.specs.declared.Rules.{Rules}
 use Rattle.crontab.specs.declared.entry.Entry.{Entry}
-use Rattle.line.specs.declared.Fault.{Fault}
+use Rattle.field.specs.declared.Fault.{Fault}
 use Rattle.line.specs.declared.Line.{Line}
 use Rattle.line.specs.declared.Line.TheVariants as line
 use Rattle.crontab.specs.declared.item.Cursor.{Cursor}
@@ -16,6 +16,7 @@ use Rattle.crontab.specs.declared.item.Item.{Item}
 use Rattle.crontab.specs.declared.item.Item.TheVariants as item
 use Rattle.crontab.specs.declared.item.Step.{Step}
 use Rattle.crontab.specs.declared.item.NextItem.{NextItem}
+use Rattle.crontab.specs.declared.table.TableFault.{TableFault}
 use Rattle.crontab.specs.Limits.{max_table, max_entries}
 use Rattle.line.specs.Limits.{max_line}
 use Rattle.crontab.specs.Refusals.{too_many_entries}
@@ -52,13 +53,11 @@ unfoldable pub given : ℕ → Item → Items → Items
 given n item.Nothing later = later
 given n (item.Setting name value) later = setting n name value later
 given n (item.Entry e) later = entry e later
-given n (item.Refused f) later = fault f.number n f.column
 
 unfoldable pub counted : Item → ℕ → ℕ
 counted item.Nothing k = k
 counted (item.Setting name value) k = k
 counted (item.Entry e) k = k + 1
-counted (item.Refused f) k = k
 
 -- an entry's command is some bytes of n, on a line that isn't too long, and its offset is one that may be
 pub record Sound (n : ℕ) (e : Entry) : Type 0 where
@@ -73,44 +72,41 @@ abbrev pub Under : ℕ → ℤ → Item → Type 0
 Under n offset item.Nothing = Unit {0}
 Under n offset (item.Setting name value) = Unit {0}
 Under n offset (item.Entry e) = (e.offset ≡ offset) × Sound n e
-Under n offset (item.Refused f) = Unit {0}
 
 -- an entry is on the line of its step, and an ignored line keeps the offset
 abbrev pub Stays : ℕ → ℤ → ℤ → Item → Type 0
 Stays line offset next item.Nothing = next ≡ offset
 Stays line offset next (item.Setting name value) = Unit {0}
 Stays line offset next (item.Entry e) = e.line ≡ line
-Stays line offset next (item.Refused f) = Unit {0}
 
 -- how far a step leads: past its item, or to the end where there is none
 abbrev pub Leads : ℕ → ℕ → ℕ → Item → Type 0
 Leads n from next item.Nothing = n ≤ next
 Leads n from next (item.Setting name value) = from < next
 Leads n from next (item.Entry e) = from < next
-Leads n from next (item.Refused f) = from < next
 
 -- ---- one step
 
 abbrev pub too_many : Fault
-too_many = record { number = too_many_entries; column = 1 }
+too_many = record { refusal = too_many_entries; column = 1 }
 
 -- a line that ends in a newline, and the cursor after it
-unfoldable pub ended_step : Cursor → ℕ → Line → Step
-ended_step c end line.Ignored = record { item = item.Nothing; next = behind c end c.count c.offset }
-ended_step c end (line.Setting name value zone) =
-    record { item = item.Setting (moved c.at name) (moved c.at value); next = behind c end c.count (in_force zone c.offset) }
-ended_step c end (line.Entry when start) =
+unfoldable pub ended_step : Cursor → ℕ → Result Line Fault → Result Step Fault
+ended_step c end (Ok line.Ignored) = Ok (record { item = item.Nothing; next = behind c end c.count c.offset })
+ended_step c end (Ok (line.Setting name value zone)) =
+    Ok (record { item = item.Setting (moved c.at name) (moved c.at value); next = behind c end c.count (in_force zone c.offset) })
+ended_step c end (Ok (line.Entry when start)) =
     cond (ltb c.count max_entries)
-    (record { item = item.Entry (placed c.at c.line (end - c.at) c.offset when start); next = behind c end (c.count + 1) c.offset })
-    (record { item = item.Refused too_many; next = behind c end c.count c.offset })
-ended_step c end (line.Refused f) = record { item = item.Refused f; next = behind c end c.count c.offset }
+    (Ok (record { item = item.Entry (placed c.at c.line (end - c.at) c.offset when start); next = behind c end (c.count + 1) c.offset }))
+    (Err too_many)
+ended_step c end (Err f) = Err f
 
 -- a last line without one
-abbrev pub cut_step : Cursor → ℕ → Line → Step
-cut_step c end x = record { item = item.Refused (last_fault (end - c.at) c.count x); next = behind c end c.count c.offset }
+abbrev pub cut_step : Cursor → ℕ → Result Line Fault → Result Step Fault
+cut_step c end x = Err (last_fault (end - c.at) c.count x)
 
 -- the line at a cursor, up to a newline or the table's end
-unfoldable pub step_at : Rules → List ℕ → Cursor → Step
+unfoldable pub step_at : Rules → List ℕ → Cursor → Result Step Fault
 step_at rules s c =
     let end = skipped (Not newline) s c.at in
     let x = read_line rules (between s c.at end) in
@@ -118,13 +114,18 @@ step_at rules s c =
 
 -- what a step over one line is, and what follows for walks
 pub record StepIs (rules : Rules) (s : List ℕ) (c : Cursor) (r : Step) : Type 0 where
-  pub is : r ≡ step_at rules s c
+  pub is : Ok r ≡ step_at rules s c
   pub gives : items_at rules s c ≡ given c.line r.item (items_at rules s r.next)
   pub onward : c.at < r.next.at
   pub reached : Reached s r.next
   pub counts : r.next.count ≡ counted r.item c.count
   pub under : Under (length s) c.offset r.item
   pub stays : Stays c.line c.offset r.next.offset r.item
+
+-- what the fault of one line is, and what follows
+pub record StepFault (rules : Rules) (s : List ℕ) (c : Cursor) (f : Fault) : Type 0 where
+  pub is : Err f ≡ step_at rules s c
+  pub gives : items_at rules s c ≡ fault f.refusal c.line f.column
 
 -- what holds of a step to the next item
 pub record ItemIs (rules : Rules) (s : List ℕ) (c : Cursor) (r : NextItem) : Type 0 where
@@ -134,3 +135,7 @@ pub record ItemIs (rules : Rules) (s : List ℕ) (c : Cursor) (r : NextItem) : T
   pub counts : r.next.count ≡ counted r.item c.count
   pub under : Under (length s) c.offset r.item
   pub stays : Stays r.line c.offset r.next.offset r.item
+
+-- and of the fault that stands where it would
+pub record ItemFault (rules : Rules) (s : List ℕ) (c : Cursor) (f : TableFault) : Type 0 where
+  pub gives : items_at rules s c ≡ fault f.refusal f.line f.column

@@ -1,12 +1,13 @@
 -- A table as the sequence of its settings and entries, each with the number of its line and its place, up to its end or to the fault that
 -- refuses it whole (T7, R29). Lines count from 1, entries and places from 0.
 -- Assumes nothing.
-use Rattle.std.specs.Prelude.{ℕ, ◌+◌, Bool, cond, ◌&&◌, List, [], ◌∷◌, length, ltb, ℤ}
+use Rattle.std.specs.Prelude.{ℕ, ◌+◌, Bool, cond, ◌&&◌, List, [], ◌∷◌, length, ltb, ℤ, Ok, Err, Result}
+use Rattle.refusal.specs.declared.Refusal.{Refusal}
 use Rattle.crontab.specs.declared.entry.Entry.{Entry}
 use Rattle.line.specs.declared.Part.{Part}
 use Rattle.line.specs.declared.time.When.{When}
 use Rattle.line.specs.declared.Rules.{Rules}
-use Rattle.line.specs.declared.Fault.{Fault}
+use Rattle.field.specs.declared.Fault.{Fault}
 use Rattle.line.specs.declared.Line.{Line}
 use Rattle.line.specs.declared.Line.TheVariants as line
 use Rattle.crontab.specs.Limits.{max_table, max_entries}
@@ -18,8 +19,8 @@ use Rattle.line.specs.Lines.{read_line}
 -- T7: settings and entries, up to the end or a fault
 pub data Items : Type 0 where
   done : Items
-  -- number, line and column
-  fault : ℕ → ℕ → ℕ → Items
+  -- refusal, line and column
+  fault : Refusal → ℕ → ℕ → Items
   -- the line's number, name and value
   setting : ℕ → Part → Part → Items → Items
   entry : Entry → Items → Items
@@ -38,25 +39,25 @@ placed at n size offset when start = record { when = when; line = n; at = at; st
 
 -- T7, T9, R12, R30: line n, which starts at a place and has so many bytes, after k entries and under an offset; then the items of the lines
 -- after it, which get the number of entries so far and the offset in force. R12 comes after all else on its line.
-unfoldable pub after_line : ℕ → ℕ → ℕ → ℕ → ℤ → Line → (ℕ → ℤ → Items) → Items
-after_line at n size k offset line.Ignored later = later k offset
-after_line at n size k offset (line.Setting name value zone) later =
+unfoldable pub after_line : ℕ → ℕ → ℕ → ℕ → ℤ → Result Line Fault → (ℕ → ℤ → Items) → Items
+after_line at n size k offset (Ok line.Ignored) later = later k offset
+after_line at n size k offset (Ok (line.Setting name value zone)) later =
     setting n (moved at name) (moved at value) (later k (in_force zone offset))
-after_line at n size k offset (line.Entry when start) later =
+after_line at n size k offset (Ok (line.Entry when start)) later =
     cond (ltb k max_entries) (entry (placed at n size offset when start) (later (k + 1) offset)) (fault too_many_entries n 1)
-after_line at n size k offset (line.Refused f) later = fault f.number n f.column
+after_line at n size k offset (Err f) later = fault f.refusal n f.column
 
 -- R26, R12, R29: the last line of a cut table, of so many bytes and after k entries: its own fault, R12 too, or else R26
-unfoldable pub last_fault : ℕ → ℕ → Line → Fault
-last_fault size k line.Ignored = record { number = cut_table; column = size + 1 }
-last_fault size k (line.Setting name value zone) = record { number = cut_table; column = size + 1 }
-last_fault size k (line.Entry when start) =
-    cond (ltb k max_entries) (record { number = cut_table; column = size + 1 }) (record { number = too_many_entries; column = 1 })
-last_fault size k (line.Refused f) = f
+unfoldable pub last_fault : ℕ → ℕ → Result Line Fault → Fault
+last_fault size k (Ok line.Ignored) = record { refusal = cut_table; column = size + 1 }
+last_fault size k (Ok (line.Setting name value _)) = record { refusal = cut_table; column = size + 1 }
+last_fault size k (Ok (line.Entry when start)) =
+    cond (ltb k max_entries) (record { refusal = cut_table; column = size + 1 }) (record { refusal = too_many_entries; column = 1 })
+last_fault size k (Err f) = f
 
 -- R29: a line's fault as the table's
 abbrev pub fault_of : ℕ → Fault → Items
-fault_of n f = fault f.number n f.column
+fault_of n f = fault f.refusal n f.column
 
 -- T2, T7, R29: the lines of a table that is cut or isn't; the next line starts a newline after this one
 unfoldable pub items_from : Rules → Bool → ℕ → ℕ → ℕ → ℤ → List (List ℕ) → Items

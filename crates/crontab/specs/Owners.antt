@@ -1,15 +1,13 @@
 -- User, group and class of an entry, as parts of the table (U4), read again from the entry's line. That this is the column which was judged
 -- is `owner-judged` of proofs/Theorems. The order is R34.
 -- Assumes nothing.
-use Rattle.std.specs.Prelude.{ℕ, cond, List, ltb}
+use Rattle.std.specs.Prelude.{ℕ, cond, List, ltb, Result, Ok, Err}
+use Rattle.refusal.specs.declared.Refusal.{Refusal}
 use Rattle.octets.specs.Runs.{between}
 use Rattle.line.specs.declared.Part.{Part}
 use Rattle.line.specs.declared.Rules.{Rules}
 use Rattle.crontab.specs.declared.entry.Entry.{Entry}
 use Rattle.line.specs.declared.user.Owner.{Owner}
-use Rattle.crontab.specs.declared.owner.OwnerAnswer.{OwnerAnswer}
-use Rattle.crontab.specs.declared.table.EntryAnswer.{EntryAnswer}
-use Rattle.crontab.specs.declared.table.EntryAnswer.TheVariants as answer
 use Rattle.line.specs.Users.{absent}
 use Rattle.line.specs.Entries.{by_kind}
 use Rattle.line.specs.Owners.{nobody, line_owner}
@@ -35,10 +33,10 @@ unfoldable pub owner_of : Rules → List ℕ → Entry → Owner
 owner_of rules s e = owner_from rules e.at (between s e.at e.end)
 
 -- U4, R34: of an entry that is found or isn't
-unfoldable pub owner_answer : Rules → List ℕ → EntryAnswer → OwnerAnswer
-owner_answer rules s (answer.Found e) = record { refusal = 0; owner = owner_of rules s e }
-owner_answer rules s (answer.Refused number) = record { refusal = number; owner = nobody }
+unfoldable pub owner_answer : Rules → List ℕ → Result Entry Refusal → Result Owner Refusal
+owner_answer rules s (Ok e) = Ok (owner_of rules s e)
+owner_answer rules s (Err refusal) = Err refusal
 
 -- U4, R34: of the entry of a number, counted from 0
-abbrev pub owner_in : Rules → List ℕ → ℕ → OwnerAnswer
+abbrev pub owner_in : Rules → List ℕ → ℕ → Result Owner Refusal
 owner_in rules s i = owner_answer rules s (entry_in (table_of rules s) i)

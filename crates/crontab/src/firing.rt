@@ -5,93 +5,61 @@ ghost use Rattle.calendar.specs.Dates.{last_minute};
 ghost use Rattle.schedule.specs.Local.{OffsetInRange, biased_offset, local_date};
 ghost use Rattle.schedule.specs.Jumps.{judged};
 ghost use Rattle.crontab.specs.Tables.{table_of};
-ghost use Rattle.crontab.specs.Firings.{is_boot, is_fixed, fires_on, fires_at, due_of, told, next_of, due_in, next_in};
+ghost use Rattle.crontab.specs.Firings.{is_boot, is_fixed, fires_on, fires_at, due_of, next_of, due_in, next_in};
 
-use crate::AT_BOOT_ONLY;
 use crate::entry::Entry;
-use crate::table::{EntryAnswer, find_entry};
-use calendar::{LAST_MINUTE, NOT_ON_CALENDAR};
+use crate::table::find_entry;
+use calendar::{Date, LAST_MINUTE};
 use line::Rules;
 use line::time::When;
+use refusal::Refusal;
 use schedule::jump::Case;
-use schedule::local::LocalDate;
-use schedule::{Next, local};
-
-// Whether an entry is due at a minute.
-#[derive(Clone, Copy)]
-pub enum DueAnswer {
-    Yes,
-    No,
-    Refused(u8),
-}
-
-// When an entry fires next after a minute.
-#[derive(Clone, Copy)]
-pub enum NextAnswer {
-    At(u64),
-    // Never and past the calendar's end are refusals here, by their numbers.
-    Refused(u8),
-}
+use schedule::local;
 
 // Whether an entry is an `@reboot` entry.
 pub fn is_boot(entry: Entry) -> bool
     ensures { result ≡ is_boot entry }
 {
-    let when = entry.when;
-    match when {
+    match entry.when {
         When::Reboot => true,
         When::Timed(_) => false,
     }
 }
 
 // Whether an entry matches a local date.
-pub fn fires_on(entry: Entry, date: LocalDate) -> bool
+pub fn fires_on(entry: Entry, date: Option<Date>) -> bool
     ensures { result ≡ fires_on entry date }
 {
-    let when = entry.when;
-    match when {
+    match entry.when {
         When::Reboot => false,
         When::Timed(times) => local::matches_local(times, date),
     }
 }
 
 // Whether an entry is due at a minute.
-fn due_at(entry: Entry, minute: u64) -> DueAnswer
+fn due_at(entry: Entry, minute: u64) -> Result<bool, Refusal>
     requires { OffsetInRange entry.offset }
     ensures { result ≡ due_of entry minute }
 {
     if LAST_MINUTE < minute {
-        return DueAnswer::Refused(NOT_ON_CALENDAR);
+        return Err(Refusal::NotOnCalendar);
     }
     let date = local::local_date(entry.offset, minute);
-    if fires_on(entry, date) {
-        return DueAnswer::Yes;
-    }
-    DueAnswer::No
-}
-
-fn told(next: Next) -> NextAnswer
-    ensures { result ≡ told next }
-{
-    match next {
-        Next::At(minute) => NextAnswer::At(minute),
-        Next::Never => NextAnswer::Refused(schedule::NEVER),
-        Next::PastEnd => NextAnswer::Refused(schedule::PAST_END),
-    }
+    Ok(fires_on(entry, date))
 }
 
 // When an entry fires next, strictly after a minute.
-fn next_after(entry: Entry, minute: u64) -> NextAnswer
+fn next_after(entry: Entry, minute: u64) -> Result<u64, Refusal>
     requires { OffsetInRange entry.offset }
     ensures { result ≡ next_of entry minute }
 {
     if LAST_MINUTE < minute {
-        return NextAnswer::Refused(NOT_ON_CALENDAR);
+        return Err(Refusal::NotOnCalendar);
     }
     let when = entry.when;
     match when {
-        When::Reboot => NextAnswer::Refused(AT_BOOT_ONLY),
-        When::Timed(times) => told(local::next_firing_in(times, entry.offset, minute)),
+        When::Reboot => Err(Refusal::AtBootOnly),
+        When::Timed(times) => local::next_firing_in(times, entry.offset, minute),
     }
 }
 
@@ -99,8 +67,7 @@ fn next_after(entry: Entry, minute: u64) -> NextAnswer
 fn is_fixed(entry: Entry) -> bool
     ensures { result ≡ is_fixed entry }
 {
-    let when = entry.when;
-    let When::Timed(times) = when else {
+    let When::Timed(times) = entry.when else {
         return false;
     };
     let stars = times.stars;
@@ -113,13 +80,13 @@ fn caught_up(entry: Entry, mark: u64, minute: u64) -> bool
     ensures { result ≡ passes (fires_at entry) mark minute }
 {
     match next_after(entry, mark) {
-        NextAnswer::At(next) => next <= minute,
-        NextAnswer::Refused(_) => false,
+        Ok(next) => next <= minute,
+        Err(_) => false,
     }
 }
 
 // Whether an announced minute calls an entry, by its case and by the local date under the entry's offset.
-pub fn is_called(entry: Entry, minute: u64, case: Case, date: LocalDate) -> bool
+pub fn is_called(entry: Entry, minute: u64, case: Case, date: Option<Date>) -> bool
     requires { OffsetInRange entry.offset × (minute ≤ last_minute) × (date ≡ local_date (biased_offset entry.offset) minute) }
     ensures { result ≡ judged case (is_fixed entry) (fires_at entry) minute }
 {
@@ -134,20 +101,16 @@ pub fn is_called(entry: Entry, minute: u64, case: Case, date: LocalDate) -> bool
 }
 
 // The same of an entry of a table, by its number.
-pub fn due(s: &[u8], rules: Rules, entry: u64, minute: u64) -> DueAnswer
+pub fn due(s: &[u8], rules: Rules, entry: u64, minute: u64) -> Result<bool, Refusal>
     ensures { result ≡ due_in (table_of rules s.now) entry minute }
 {
-    match find_entry(s, rules, entry) {
-        EntryAnswer::Found(found) => due_at(found, minute),
-        EntryAnswer::Refused(number) => DueAnswer::Refused(number),
-    }
+    let found = find_entry(s, rules, entry)?;
+    due_at(found, minute)
 }
 
-pub fn next(s: &[u8], rules: Rules, entry: u64, minute: u64) -> NextAnswer
+pub fn next(s: &[u8], rules: Rules, entry: u64, minute: u64) -> Result<u64, Refusal>
     ensures { result ≡ next_in (table_of rules s.now) entry minute }
 {
-    match find_entry(s, rules, entry) {
-        EntryAnswer::Found(found) => next_after(found, minute),
-        EntryAnswer::Refused(number) => NextAnswer::Refused(number),
-    }
+    let found = find_entry(s, rules, entry)?;
+    next_after(found, minute)
 }

@@ -1,17 +1,19 @@
 // A walk over the lines of a table, one step for each.
-ghost use Rattle.std.specs.Prelude.{◌≡◌, ◌+◌, ◌≤◌, ◌<◌, length};
+ghost use Rattle.std.specs.Prelude.{◌≡◌, ◌+◌, ◌≤◌, ◌<◌, length, MatchResult};
 ghost use Rattle.crontab.specs.Limits.{max_table};
 ghost use Rattle.line.specs.Limits.{max_line};
 ghost use Rattle.crontab.specs.Items.{moved, placed, last_fault};
-ghost use Rattle.crontab.specs.Inner.{behind, Reached, LineAt, StepIs, ItemIs};
+ghost use Rattle.crontab.specs.Inner.{behind, Reached, LineAt, StepIs, StepFault, ItemIs, ItemFault};
 
+use crate::MAX_ENTRIES;
 use crate::entry::Entry;
-use crate::{CUT_TABLE, MAX_ENTRIES, TOO_MANY_ENTRIES};
+use crate::table::{TableFault, on_line};
 use line::offset::in_force;
 use line::time::When;
 use line::{Fault, Line, Part, Rules};
 use octets::class::Class;
 use octets::run::skip;
+use refusal::Refusal;
 
 // Where a line starts, its number from 1, how many entries stand before it, and the offset from UTC that is in force.
 #[derive(Clone, Copy)]
@@ -35,7 +37,6 @@ pub enum Item {
     Nothing,
     Setting { name: Part, value: Part },
     Entry(Entry),
-    Refused(Fault),
 }
 
 // What the line at a cursor is, and the cursor after it.
@@ -93,122 +94,111 @@ fn behind(c: Cursor, end: usize, count: usize, offset: i32) -> Cursor
 }
 
 const TOO_MANY: Fault = Fault {
-    number: TOO_MANY_ENTRIES,
+    refusal: Refusal::TooManyEntries,
     column: 1,
 };
 
 // The line at a cursor that ends in a newline, and the cursor behind it.
-fn ended(s: &[u8], rules: Rules, c: Cursor, stop: usize, end: usize) -> Step
+fn ended(s: &[u8], rules: Rules, c: Cursor, stop: usize, end: usize) -> Result<Step, Fault>
     requires { LineAt s.now c stop end × (end < length s.now) }
-    ensures { StepIs rules s.now c result }
+    ensures { MatchResult result (StepIs rules s.now c) (StepFault rules s.now c) }
 {
     let at = c.at;
-    let next = behind(c, end, c.count, c.offset);
-    match line::judge(&s[at..end], rules, stop - at) {
-        Line::Ignored => Step {
+    let line = line::judge(&s[at..end], rules, stop - at)?;
+    match line {
+        Line::Ignored => Ok(Step {
             item: Item::Nothing,
-            next,
-        },
-        Line::Setting { name, value, zone } => Step {
+            next: behind(c, end, c.count, c.offset),
+        }),
+        Line::Setting { name, value, zone } => Ok(Step {
             item: Item::Setting {
                 name: moved(name, at),
                 value: moved(value, at),
             },
             next: behind(c, end, c.count, in_force(zone, c.offset)),
-        },
+        }),
         Line::Entry { when, start } => {
             if c.count == MAX_ENTRIES {
-                return Step {
-                    item: Item::Refused(TOO_MANY),
-                    next,
-                };
+                return Err(TOO_MANY);
             }
-            Step {
+            Ok(Step {
                 item: Item::Entry(placed(c, end - at, when, start)),
                 next: behind(c, end, c.count + 1, c.offset),
-            }
+            })
         }
-        Line::Refused(fault) => Step {
-            item: Item::Refused(fault),
-            next,
-        },
     }
 }
 
 // The fault of a last line without a newline, which has so many bytes and stands behind so many entries.
-fn last_fault(line: Line, size: usize, count: usize) -> Fault
+#[tactic(auto, unfolding(crate::specs::Items::last_fault))]
+fn last_fault(line: Result<Line, Fault>, size: usize, count: usize) -> Fault
     requires { size ≤ max_table }
     ensures { result ≡ last_fault size count line }
 {
     let cut = Fault {
-        number: CUT_TABLE,
+        refusal: Refusal::CutTable,
         column: size + 1,
     };
     match line {
-        Line::Refused(fault) => fault,
-        Line::Entry { when: _, start: _ } => {
+        Err(fault) => fault,
+        Ok(Line::Entry { .. }) => {
             if count < MAX_ENTRIES {
                 return cut;
             }
             TOO_MANY
         }
-        Line::Setting {
-            name: _,
-            value: _,
-            zone: _,
-        } => cut,
-        Line::Ignored => cut,
+        Ok(_) => cut,
     }
 }
 
-// The line at a cursor that ends where the table does, with no newline.
-fn last(s: &[u8], rules: Rules, c: Cursor, stop: usize) -> Step
+// The fault of the line at a cursor that ends where the table does, with no newline.
+fn last(s: &[u8], rules: Rules, c: Cursor, stop: usize) -> Fault
     requires { LineAt s.now c stop (length s.now) }
-    ensures { StepIs rules s.now c result }
+    ensures { StepFault rules s.now c result }
 {
     let at = c.at;
     let end = s.len();
     let line = line::judge(&s[at..end], rules, stop - at);
-    Step {
-        item: Item::Refused(last_fault(line, end - at, c.count)),
-        next: behind(c, end, c.count, c.offset),
-    }
+    last_fault(line, end - at, c.count)
 }
 
 // The line at a cursor. One search finds the line's end and its first forbidden byte.
-pub fn advance(s: &[u8], rules: Rules, c: Cursor) -> Step
+pub fn advance(s: &[u8], rules: Rules, c: Cursor) -> Result<Step, Fault>
     requires { Reached s.now c × (c.at < length s.now) }
-    ensures { StepIs rules s.now c result }
+    ensures { MatchResult result (StepIs rules s.now c) (StepFault rules s.now c) }
 {
     let stop = skip(s, c.at, Class::InLine);
     let end = skip(s, stop, Class::Not(b'\n'));
     if end < s.len() {
         return ended(s, rules, c, stop, end);
     }
-    last(s, rules, c, stop)
+    Err(last(s, rules, c, stop))
 }
 
-// The first item from a cursor on: ignored lines are skipped.
-pub fn next_item(s: &[u8], rules: Rules, from: Cursor) -> NextItem
+// The first item from a cursor on, or the fault before it: ignored lines are skipped.
+pub fn next_item(s: &[u8], rules: Rules, from: Cursor) -> Result<NextItem, TableFault>
     requires { Reached s.now from }
-    ensures { ItemIs rules s.now from result }
+    ensures { MatchResult result (ItemIs rules s.now from) (ItemFault rules s.now from) }
 {
     let mut c = from;
     while c.at < s.len() {
-        let step = advance(s, rules, c);
+        let step = match advance(s, rules, c) {
+            Ok(step) => step,
+            Err(fault) => return Err(on_line(fault, c.line)),
+        };
         let item = step.item;
         let Item::Nothing = item else {
-            return NextItem {
+            return Ok(NextItem {
                 item,
                 line: c.line,
                 next: step.next,
-            };
+            });
         };
         c = step.next;
     }
-    NextItem {
+    Ok(NextItem {
         item: Item::Nothing,
         line: c.line,
         next: c,
-    }
+    })
 }

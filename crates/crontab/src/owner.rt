@@ -5,16 +5,10 @@ ghost use Rattle.crontab.specs.Owners.{shifted, owner_from, owner_of, owner_in};
 ghost use Rattle.crontab.specs.Inner.{Sound};
 
 use crate::entry::Entry;
-use crate::table::{EntryAnswer, find_entry};
+use crate::table::find_entry;
 use line::user::{NOBODY, Owner, line_owner};
 use line::{Kind, Part, Rules};
-
-// Whose an entry is: user, group and class as parts of the table. A refused answer has all three absent.
-#[derive(Clone, Copy)]
-pub struct OwnerAnswer {
-    pub refusal: u8,
-    pub owner: Owner,
-}
+use refusal::Refusal;
 
 // A part of a line that starts at a place of the table; an absent one stays where it is.
 fn shifted(part: Part, at: usize) -> Part
@@ -35,18 +29,14 @@ fn owner_from(l: &[u8], rules: Rules, at: usize) -> Owner
     requires { (length l.now ≤ max_line) × (at < 2 ^ 16) }
     ensures { result ≡ owner_from rules at l.now }
 {
-    let kind = rules.kind;
-    match kind {
+    match rules.kind {
         Kind::User => NOBODY,
         Kind::System => {
             let owner = line_owner(l);
-            let user = owner.user;
-            let group = owner.group;
-            let class = owner.class;
             Owner {
-                user: shifted(user, at),
-                group: shifted(group, at),
-                class: shifted(class, at),
+                user: shifted(owner.user, at),
+                group: shifted(owner.group, at),
+                class: shifted(owner.class, at),
             }
         }
     }
@@ -62,20 +52,10 @@ pub fn of_entry(s: &[u8], rules: Rules, entry: Entry) -> Owner
     owner_from(&s[at..end], rules, at)
 }
 
-// The owner of the entry of a number, counted from 0.
-pub fn read(s: &[u8], rules: Rules, entry: u64) -> OwnerAnswer
+// The owner of the entry of a number, counted from 0: user, group and class as parts of the table.
+pub fn read(s: &[u8], rules: Rules, entry: u64) -> Result<Owner, Refusal>
     ensures { result ≡ owner_in rules s.now entry }
 {
-    match find_entry(s, rules, entry) {
-        EntryAnswer::Found(found) => {
-            OwnerAnswer {
-                refusal: 0,
-                owner: of_entry(s, rules, found),
-            }
-        }
-        EntryAnswer::Refused(number) => OwnerAnswer {
-            refusal: number,
-            owner: NOBODY,
-        },
-    }
+    let found = find_entry(s, rules, entry)?;
+    Ok(of_entry(s, rules, found))
 }

@@ -3,18 +3,20 @@ ghost use Rattle.std.specs.Prelude.{◌≡◌, cond};
 ghost use Rattle.octets.specs.BitSets.{with_member};
 ghost use Rattle.schedule.specs.Local.{OffsetInRange};
 ghost use Rattle.crontab.specs.Tables.{table_of};
-ghost use Rattle.crontab.specs.Selections.{is_selected, date_under, refused_selection, selected_in};
+ghost use Rattle.crontab.specs.Selections.{is_selected, date_under, selected_in};
 
 use crate::entry::Entry;
 use crate::item::Item;
-use crate::{MAX_ENTRIES, MAX_TABLE, TABLE_TOO_LONG, firing, item};
-use calendar::LAST_MINUTE;
+use crate::{MAX_ENTRIES, MAX_TABLE, firing, item};
+use calendar::{Date, LAST_MINUTE};
 use line::Rules;
 use octets::bitset;
+use refusal::Refusal;
 use schedule::jump::Case;
-use schedule::local::{LocalDate, local_date};
+use schedule::local::local_date;
 
 // Which entries are asked for.
+// Data and no closure: the definitions and laws of a selection go by it.
 #[derive(Clone, Copy)]
 pub enum Selector {
     // The boot jobs.
@@ -25,30 +27,29 @@ pub enum Selector {
 
 pub const WORDS: usize = MAX_ENTRIES / 64;
 
-// How many entries a table has, and those that were asked for, by a bit for each number. A refused table has none.
+// How many entries a table has, and those that were asked for, by a bit for each number.
 #[derive(Clone, Copy)]
 pub struct Selection {
-    pub refusal: u8,
     pub count: usize,
     pub members: [u64; WORDS],
 }
 
 // The local date of the minute that is asked for, under an offset.
-fn date_under(which: Selector, offset: i32) -> LocalDate
+fn date_under(which: Selector, offset: i32) -> Option<Date>
     requires { OffsetInRange offset }
     ensures { result ≡ date_under which offset }
 {
-    let Selector::At { minute, case: _ } = which else {
-        return LocalDate::Off;
+    let Selector::At { minute, .. } = which else {
+        return None;
     };
     if LAST_MINUTE < minute {
-        return LocalDate::Off;
+        return None;
     }
     local_date(offset, minute)
 }
 
 // The same under the next offset: it is worked out again only where that is another.
-fn moved_on(which: Selector, date: LocalDate, offset: i32, next: i32) -> LocalDate
+fn moved_on(which: Selector, date: Option<Date>, offset: i32, next: i32) -> Option<Date>
     requires { OffsetInRange offset × OffsetInRange next × (date ≡ date_under which offset) }
     ensures { result ≡ date_under which next }
 {
@@ -59,7 +60,7 @@ fn moved_on(which: Selector, date: LocalDate, offset: i32, next: i32) -> LocalDa
 }
 
 // Whether an entry is chosen, by the local date under its offset.
-fn is_selected(entry: Entry, which: Selector, date: LocalDate) -> bool
+fn is_selected(entry: Entry, which: Selector, date: Option<Date>) -> bool
     requires { OffsetInRange entry.offset × (date ≡ date_under which entry.offset) }
     ensures { result ≡ is_selected which entry }
 {
@@ -83,22 +84,12 @@ pub fn add_if(members: &mut [u64; WORDS], n: usize, chosen: bool)
     }
 }
 
-pub fn refused(number: u8) -> Selection
-    ensures { result ≡ refused_selection number }
-{
-    Selection {
-        refusal: number,
-        count: 0,
-        members: [0; WORDS],
-    }
-}
-
 // The entries of any bytes as a table.
-pub fn read(s: &[u8], rules: Rules, which: Selector) -> Selection
+pub fn read(s: &[u8], rules: Rules, which: Selector) -> Result<Selection, Refusal>
     ensures { result ≡ selected_in which (table_of rules s.now) }
 {
     if MAX_TABLE < s.len() {
-        return refused(TABLE_TOO_LONG);
+        return Err(Refusal::TableTooLong);
     }
     let mut members = [0u64; WORDS];
     let mut c = item::START;
@@ -107,21 +98,13 @@ pub fn read(s: &[u8], rules: Rules, which: Selector) -> Selection
         let count = c.count;
         let under = date;
         let offset = c.offset;
-        let step = item::next_item(s, rules, c);
+        let step = item::next_item(s, rules, c)?;
         c = step.next;
         date = moved_on(which, under, offset, c.offset);
-        let item = step.item;
-        match item {
-            Item::Nothing => {
-                return Selection {
-                    refusal: 0,
-                    count,
-                    members,
-                };
-            }
-            Item::Refused(fault) => return refused(fault.number),
+        match step.item {
+            Item::Nothing => return Ok(Selection { count, members }),
             Item::Entry(entry) => add_if(&mut members, count, is_selected(entry, which, under)),
-            Item::Setting { name: _, value: _ } => {}
+            Item::Setting { .. } => {}
         }
     }
 }

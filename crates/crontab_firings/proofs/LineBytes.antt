@@ -7,8 +7,10 @@ use native.Mathlib.Nat.{zero-lt-suc, pow-le-pow_right, lt_of_not-le}
 use native.Mathlib.Decide.{dec_le}
 use native.Mathlib.Omega.{arith}
 use lib.ListN.{get_or}
+use Rattle.std.specs.Prelude.{Result}
 use Rattle.io.specs.Digits.{last_digits, IsDigitCount}
 use Rattle.crontab.specs.declared.table.Table.{Table}
+use Rattle.crontab.specs.declared.table.TableFault.{TableFault}
 use Rattle.firings.specs.Lists.{merged_over, merged_up_to, merged_of}
 use Rattle.firings.specs.Calls.{minutes_of, entries_of}
 use Rattle.crontab_firings.specs.Lines.{Decimal, Line, Lines}
@@ -46,10 +48,10 @@ pub last-line-bytes : (written : List ℕ) → Line 4223371679 511 written → w
 last-line-bytes written l = line-bytes 4223371679 511 10 3 (omega arith, omega arith, λ _. omega arith) (omega arith, omega arith, λ _. omega arith) written l
 
 -- where b isn't after a, nothing is written, in as many pieces as one likes
-none-merged : (t : Table) (a b : ℕ) → b ≤ a → merged_of t a b ≡ []
+none-merged : (t : Result Table TableFault) (a b : ℕ) → b ≤ a → merged_of t a b ≡ []
 unfolding merged_of merged_up_to merged_over
 none-merged t a b h = let z : b + 1 - (a + 1) ≡ 0 = omega arith in rw z
 
-pub pieces_none : (t : Table) (a b : ℕ) (written : List ℕ) → b ≤ a → Pieces t b a written → written ≡ []
+pub pieces_none : (t : Result Table TableFault) (a b : ℕ) (written : List ℕ) → b ≤ a → Pieces t b a written → written ≡ []
 unfolding minutes_of entries_of
 pieces_none t a b written h p = rw (none-merged t a b h) at (pieces_whole t a b written p)

@@ -1,5 +1,6 @@
 -- Laws of the pieces of a list: what is written of the runs is the lines of a piece; and pieces that follow each other are the whole list.
 -- Assumes nothing.
+use Rattle.std.specs.Prelude.{Result, Ok, Err}
 use mathlib.Core.Path.{◌≡◌, refl, sym, ap, ◌∙◌}
 use mathlib.Core.Logic.{◌⊎◌, inl, inr}
 use mathlib.Core.Bool.{Bool, true, false, cond}
@@ -8,13 +9,17 @@ use Prim.Native.Nat.{ℕ, zero, suc, ◌+◌, ◌-◌, ◌/◌, ◌≤◌, ◌<�
 use native.Mathlib.Omega.{arith}
 use lib.ListN.{length, take, drop, get_or, length-append}
 use lib.Seq.{get_or-take}
-use lib.Dec.{eqb, leb}
+use lib.Dec.{leb}
+use Rattle.std.specs.Prelude.{Result}
+use Rattle.refusal.specs.declared.Refusal.{Refusal}
+use Rattle.refusal.specs.declared.Refusal.TheVariants.{NotOnCalendar}
 use Rattle.field.specs.declared.Dialect.TheVariants.{Rising}
 use Rattle.line.specs.declared.Kind.TheVariants.{User}
 use Rattle.crontab.specs.declared.table.Table.{Table}
+use Rattle.crontab.specs.declared.table.TableFault.{TableFault}
 use Rattle.crontab.proofs.Theorems.{table-sound}
 use Rattle.firings.specs.declared.Filled.{Filled}
-use Rattle.firings.specs.declared.Filled.TheVariants.{All, More, Refused}
+use Rattle.firings.specs.declared.Filled.TheVariants.{All, More}
 use Rattle.firings.specs.Lists.{Firing, merged_of}
 use Rattle.firings.specs.Calls.{MergedStep, filled, fitted, room_in, minutes_of, entries_of, refused_merged, listed_merged, merged_in}
 use Rattle.calendar.specs.Dates.{last_minute}
@@ -50,12 +55,12 @@ left-lines p q k written e l =
 -- ---- a piece
 
 -- what a merged list left in runs of 4,096 places each, and a text with room for as many lines
-pub record Filling (t : Table) (a b : ℕ) (x : Filled) (minutes entries before : List ℕ) : Type 0 where
+pub record Filling (t : Result Table TableFault) (a b : ℕ) (x : Result Filled Refusal) (minutes entries before : List ℕ) : Type 0 where
   pub runs : Runs t a b 4096 x minutes entries
   pub places : (length minutes ≡ 4096) × (length entries ≡ 4096)
   pub text : length before ≡ 172032
 
-pub filling : (t : Table) (a b : ℕ) (m e minutes entries before : List ℕ) {x y : Filled} → x ≡ (merged_in t a b m e).answer
+pub filling : (t : Result Table TableFault) (a b : ℕ) (m e minutes entries before : List ℕ) {x y : Result Filled Refusal} → x ≡ (merged_in t a b m e).answer
     → (minutes ≡ (merged_in t a b m e).minutes) × (entries ≡ (merged_in t a b m e).entries) → x ≡ y
     → (length m ≡ 4096) × (length e ≡ 4096) → length before ≡ 172032
     → Filling t a b y minutes entries before
@@ -72,16 +77,16 @@ pub record Wrote (n : ℕ) (minutes entries before now : List ℕ) (size : ℕ) 
   pub rest : drop size now ≡ drop size before
 
 module _ (s : List ℕ) (a b n : ℕ) (minutes entries before : List ℕ) where
-  abbrev t : Table
+  abbrev t : Result Table TableFault
   t = user_table s
 
-  all-written : {x : Filled} → Filling t a b x minutes entries before → (k size : ℕ) (now : List ℕ) → k ≤ 4096 → Wrote k minutes entries before now size
+  all-written : {x : Result Filled Refusal} → Filling t a b x minutes entries before → (k size : ℕ) (now : List ℕ) → k ≤ 4096 → Wrote k minutes entries before now size
       → Lines minutes entries k (take size now)
   all-written f k size now h w =
       let e : min (min k (length before / 42)) (min (length minutes) (length entries)) ≡ k = omega (arith, f.places.0, f.places.1, f.text) in
       rw e at w.lines
 
-  pub all-piece : Filling t a b (All n) minutes entries before → (size : ℕ) (now : List ℕ) → Wrote n minutes entries before now size
+  pub all-piece : Filling t a b (Ok (All n)) minutes entries before → (size : ℕ) (now : List ℕ) → Wrote n minutes entries before now size
       → PieceLines t a b before now size b
   all-piece f size now w =
       let (given, first, all, fits) = f.runs in
@@ -93,7 +98,7 @@ module _ (s : List ℕ) (a b n : ℕ) (minutes entries before : List ℕ) where
         onward = inl refl;
       }
 
-  module _ (f : Filling t a b (More n) minutes entries before) (kept last : ℕ) (is : last ≡ get_or (0 ∷ minutes) n 0)
+  module _ (f : Filling t a b (Ok (More n)) minutes entries before) (kept last : ℕ) (is : last ≡ get_or (0 ∷ minutes) n 0)
       (k : Before last minutes (min n (length minutes)) kept) where
     full : (n ≡ 4096) × (min n (length minutes) ≡ n)
     full = let (given, first, few, all) = f.runs in (all, omega (arith, all, f.places.0))
@@ -128,23 +133,25 @@ module _ (s : List ℕ) (a b n : ℕ) (minutes entries before : List ℕ) where
         }
 
 -- a refusal has nothing to do with the runs
-pub refused-any : (t : Table) (a b : ℕ) (m e : List ℕ) {n : ℕ} {x : Filled} → x ≡ (merged_in t a b m e).answer → x ≡ Refused n
-    → (merged_in t a b [] []).answer ≡ Refused n
+pub refused-any : (t : Result Table TableFault) (a b : ℕ) (m e : List ℕ) {n : Refusal} {x : Result Filled Refusal} → x ≡ (merged_in t a b m e).answer → x ≡ Err n
+    → (merged_in t a b [] []).answer ≡ Err n
 unfolding merged_in refused_merged listed_merged filled
-refused-any t a b m e {n} is refused =
-    go (eqb t.refusal 0) (leb a last_minute) (leb b last_minute) (leb (length (merged_of t a b)) (room_in m e)) (sym is ∙ refused)
+refused-any t a b m e {n} is refused = go t (sym is ∙ refused)
   where
-    all : List ℕ → List ℕ → Filled → MergedStep
-    all m e x = record { answer = x; minutes = fitted (minutes_of (merged_of t a b)) (room_in m e) m; entries = fitted (entries_of (merged_of t a b)) (room_in m e) e }
+    all : Table → List ℕ → List ℕ → Filled → MergedStep
+    all v m e x = record { answer = Ok x; minutes = fitted (minutes_of (merged_of (Ok v) a b)) (room_in m e) m; entries = fitted (entries_of (merged_of (Ok v) a b)) (room_in m e) e }
 
-    go : (r x y z : Bool)
-        → (cond {A = MergedStep} r (cond x (cond y (all m e (cond z (All (length (merged_of t a b))) (More (room_in m e)))) (refused_merged 14 m e)) (refused_merged 14 m e)) (refused_merged t.refusal m e)).answer ≡ Refused n
-        → (cond {A = MergedStep} r (cond x (cond y (listed_merged (merged_of t a b) [] []) (refused_merged 14 [] [])) (refused_merged 14 [] [])) (refused_merged t.refusal [] [])).answer ≡ Refused n
-    go false x y z q = q
-    go true false y z q = q
-    go true true false z q = q
-    go true true true true q = absurd (let z : ◌≡◌ {A = ℕ} 0 1 = cc in omega arith)
-    go true true true false q = absurd (let z : ◌≡◌ {A = ℕ} 0 1 = cc in omega arith)
+    by_test : (v : Table) (x y z : Bool)
+        → (cond {A = MergedStep} x (cond y (all v m e (cond z (All (length (merged_of (Ok v) a b))) (More (room_in m e)))) (refused_merged NotOnCalendar m e)) (refused_merged NotOnCalendar m e)).answer ≡ Err n
+        → (cond {A = MergedStep} x (cond y (listed_merged (merged_of (Ok v) a b) [] []) (refused_merged NotOnCalendar [] [])) (refused_merged NotOnCalendar [] [])).answer ≡ Err n
+    by_test v false y z q = q
+    by_test v true false z q = q
+    by_test v true true true q = absurd (let z : ◌≡◌ {A = ℕ} 0 1 = cc in omega arith)
+    by_test v true true false q = absurd (let z : ◌≡◌ {A = ℕ} 0 1 = cc in omega arith)
+
+    go : (u : Result Table TableFault) → (merged_in u a b m e).answer ≡ Err n → (merged_in u a b [] []).answer ≡ Err n
+    go (Err f) q = q
+    go (Ok v) q = by_test v (leb a last_minute) (leb b last_minute) (leb (length (merged_of (Ok v) a b)) (room_in m e)) q
 
 -- ---- pieces that follow each other
 
@@ -162,7 +169,7 @@ join-lines p q (suc k) u v h l (before, line, m, is, whole) =
     let entry : get_or (entries_of (p ++ q)) (length p + k) 0 ≡ get_or (entries_of q) k 0 = entries-right p q (length p + k) (omega arith) ∙ rw z in
     rw e (u ++ before, line, join-lines p q k u before (omega arith) l m, rw (minute, entry) is, rw whole (sym (append_assoc u before line)))
 
-lines-from : (t : Table) (b a : ℕ) (written : List ℕ) → Pieces t b a written → LinesOf (merged_of t a b) written
+lines-from : (t : Result Table TableFault) (b a : ℕ) (written : List ℕ) → Pieces t b a written → LinesOf (merged_of t a b) written
 lines-from t b a written (last w l) = l
 lines-from t b a written (more {next = next} w {later = later} h i l p) =
     let first = merged_of t a next in
@@ -170,11 +177,11 @@ lines-from t b a written (more {next = next} w {later = later} h i l p) =
     rw (merged-split t a next b (omega arith) (omega arith), length-append first second)
     (join-lines first second (length second) w later (omega arith) l (lines-from t b next later p))
 
-pub pieces_whole : (t : Table) (a b : ℕ) (written : List ℕ) → Pieces t b a written → LinesOf (merged_of t a b) written
+pub pieces_whole : (t : Result Table TableFault) (a b : ℕ) (written : List ℕ) → Pieces t b a written → LinesOf (merged_of t a b) written
 pieces_whole t a b written p = lines-from t b a written p
 
 -- a piece that ends with the list is its last; another goes before the pieces that go on where it ended
-pub piece-on : (t : Table) (a b size next : ℕ) (before now later : List ℕ) → PieceLines t a b before now size next
+pub piece-on : (t : Result Table TableFault) (a b size next : ℕ) (before now later : List ℕ) → PieceLines t a b before now size next
     → (next ≡ b → Pieces t b a (take size now)) × (next < b → Pieces t b next later → Pieces t b a (take size now ++ later))
 piece-on t a b size next before now later p = (
   (λ e. last (take size now) (rw e at p.lines)),

@@ -1,9 +1,10 @@
 -- What is said of lines and pieces, where it doesn't hold: each word is refused for each of its parts.
 -- Assumes nothing.
-use Rattle.std.specs.Prelude.{refl, List, [], ◌∷◌, ◌++◌, ℕ, length, get_or}
+use Rattle.std.specs.Prelude.{refl, List, [], ◌∷◌, ◌++◌, ℕ, length, get_or, Err, Result}
 use Rattle.std.proofs.Common.{ap, inl, inr, arith, length-append}
+use Rattle.refusal.specs.declared.Refusal.TheVariants.{OutOfLimits}
 use Rattle.crontab.specs.declared.table.Table.{Table}
-use Rattle.crontab_firings.specs.declared.piece.Piece.TheVariants.{Refused}
+use Rattle.crontab.specs.declared.table.TableFault.{TableFault}
 use Rattle.crontab_firings.specs.Lines.{Line, Before, space, newline}
 use Rattle.crontab_firings.specs.Pieces.{LinesOf, PieceLines, PieceIs}
 
@@ -23,13 +24,13 @@ not-before = (
 )
 
 -- Off the calendar; more bytes than there are; the bytes after them changed; on to no later minute, or to one beyond b. And a refusal that changes the text.
-not_piece : (t : Table)
+not_piece : (t : Result Table TableFault)
     → (PieceLines t 0 4223371680 [] [] 0 4223371680 → ⊥)
     × (PieceLines t 0 9 [] [] 1 9 → ⊥)
     × (PieceLines t 0 9 (1 ∷ []) (2 ∷ []) 0 9 → ⊥)
     × (PieceLines t 0 9 [] [] 0 0 → ⊥)
     × (PieceLines t 0 9 [] [] 0 10 → ⊥)
-    × (PieceIs t 0 9 (1 ∷ []) (2 ∷ []) (Refused 6) → ⊥)
+    × (PieceIs t 0 9 (1 ∷ []) (2 ∷ []) (Err OutOfLimits) → ⊥)
 not_piece t = (
   (λ p. omega (arith, p.given.to)),
   (λ p. omega (arith, p.within)),

@@ -5,6 +5,7 @@ use Rattle.std.proofs.Common.{◌∙◌, zero-lt-suc, arith}
 use Rattle.std.proofs.Math.Nat.{pow-le-pow_right}
 use Rattle.octets.specs.Texts.{text}
 use Rattle.io.specs.Digits.{last_digits, IsDigitCount}
+use Rattle.crontab.specs.Tables.{refusal_in}
 use Rattle.crontab.specs.Computing.{zoning}
 use Rattle.firings.specs.Calls.{minutes_of, entries_of}
 use Rattle.crontab_firings.specs.Lines.{Decimal, Line}
@@ -48,6 +49,6 @@ two-lines = (
 -- ---- the table
 
 -- a range over midnight is 7, 7 is a Sunday, and there is no user column
-read_as : ((user_table (text "0 22-3 * * * x\n")).refusal ≡ 7) × ((user_table (text "0 0 * * 7 x\n")).refusal ≡ 0) × ((user_table (text "@reboot -a\n")).refusal ≡ 0)
+read_as : (refusal_in (user_table (text "0 22-3 * * * x\n")) ≡ 7) × (refusal_in (user_table (text "0 0 * * 7 x\n")) ≡ 0) × (refusal_in (user_table (text "@reboot -a\n")) ≡ 0)
 unfolding zoning
 read_as = (refl, refl, refl)

@@ -4,7 +4,6 @@ ghost use Rattle.octets.specs.Clipped.{Wrote};
 ghost use Rattle.io.specs.Counts.{IsPrefixLen};
 ghost use Rattle.crontab_firings.specs.Lines.{Decimal, Line, Lines, Before};
 
-use octets::size::lesser;
 use octets::write;
 
 // The room of the longest line, whatever the numbers.
@@ -34,15 +33,12 @@ pub fn write(minutes: &[u32], entries: &[u16], n: usize, text: &mut [u8]) -> usi
     ensures lines { Lines minutes.now entries.now (min (min n (length text.old / 42)) (min (length minutes.now) (length entries.now))) (take result text.new) }
     ensures rest { (drop result text.new ≡ drop result text.old) × (length text.new ≡ length text.old) }
 {
-    let most = lesser(
-        lesser(n, text.len() / LINE),
-        lesser(minutes.len(), entries.len()),
-    );
+    let most = n
+        .min(text.len() / LINE)
+        .min(minutes.len().min(entries.len()));
     let mut at = 0;
-    let mut i = 0;
-    while i < most {
+    for i in 0..most {
         at = line(text, at, minutes[i], entries[i]);
-        i += 1;
     }
     at
 }
@@ -51,14 +47,12 @@ pub fn write(minutes: &[u32], entries: &[u16], n: usize, text: &mut [u8]) -> usi
 pub fn before_last(minutes: &[u32], n: usize, last: u32) -> usize
     ensures { Before last minutes.now (min n (length minutes.now)) result }
 {
-    let mut k = lesser(n, minutes.len());
-    while 0 < k {
-        if minutes[k - 1] != last {
-            return k;
+    for k in (0..n.min(minutes.len())).rev() {
+        if minutes[k] != last {
+            return k + 1;
         }
-        k -= 1;
     }
-    k
+    0
 }
 
 // The minute of firing n, counted from 1; 0 where there is none.
@@ -68,8 +62,5 @@ pub fn minute_of(minutes: &[u32], n: usize) -> u32
     if n == 0 {
         return 0;
     }
-    if minutes.len() < n {
-        return 0;
-    }
-    minutes[n - 1]
+    minutes.get(n - 1).copied().unwrap_or(0)
 }

@@ -10,8 +10,6 @@ mod piece;
 ghost use Rattle.std.specs.Prelude.{◌≡◌, ◌⊎◌, ◌<◌, IfOk};
 
 use crontab::MAX_TABLE;
-use file::Whole;
-use number::Number;
 use piece::Piece;
 use std::env::FillError;
 use std::io::Read;
@@ -34,12 +32,12 @@ fn print_piece(rt: &impl Print, table: &[u8], a: u64, b: u64) -> io::Result<u64>
 {
     let mut text = [0u8; piece::ROOM];
     match piece::write(table, a, b, &mut text) {
-        Piece::Lines { size, next } => {
+        Ok(Piece { size, next }) => {
             rt.write_all(&text[..size])?;
             Ok(next)
         }
-        Piece::Refused { number } => {
-            refuse(rt, number)?;
+        Err(refusal) => {
+            refuse(rt, u8::from(refusal))?;
             Ok(b)
         }
     }
@@ -54,13 +52,11 @@ fn print_all(rt: &impl Print, table: &[u8], a: u64, b: u64) -> io::Result<()> {
     Ok(())
 }
 
-// A number among the arguments.
-fn argument(rt: &impl Env, i: usize) -> Number {
+// A number among the arguments, none where it isn't one.
+fn argument(rt: &impl Env, i: usize) -> Option<u64> {
     let mut text = [0u8; MAX_ARGUMENT];
-    match rt.arg(i, &mut text) {
-        Ok(n) => number::read(&text[..n]),
-        Err(_) => Number::Bad,
-    }
+    let n = rt.arg(i, &mut text).ok()?;
+    number::read(&text[..n])
 }
 
 // Whether argument i is given, however long.
@@ -81,8 +77,8 @@ fn open_file<R: Env + Files>(rt: &R) -> Option<R::File> {
 fn print_file(rt: &impl Print, file: &mut impl Read, a: u64, b: u64) -> io::Result<()> {
     let mut table = [0u8; MAX_TABLE + 1];
     match file::read(file, &mut table) {
-        Whole::Bytes(n) => print_all(rt, &table[..n], a, b),
-        Whole::Failed => refuse(rt, 0),
+        Ok(n) => print_all(rt, &table[..n], a, b),
+        Err(_) => refuse(rt, 0),
     }
 }
 
@@ -93,7 +89,7 @@ fn main(rt: HostRuntime) -> io::Result<()> {
     if !has_argument(&rt, 3) || has_argument(&rt, 4) {
         return refuse(&rt, 0);
     }
-    let (Some(mut file), Number::Value(after), Number::Value(last)) = (file, a, b) else {
+    let (Some(mut file), Some(after), Some(last)) = (file, a, b) else {
         return refuse(&rt, 0);
     };
     print_file(&rt, &mut file, after, last)

@@ -2,37 +2,19 @@
 ghost use Rattle.std.specs.Prelude.{◌≡◌};
 ghost use Rattle.crontab_firings.specs.Numbers.{number_of};
 
-#[derive(Clone, Copy)]
-pub enum Number {
-    Value(u64),
-    // No digits, something else among them, or more than 64 bits.
-    Bad,
-}
-
-const MAX: u64 = 18_446_744_073_709_551_615;
-
-pub fn read(text: &[u8]) -> Number
+// None where there are no digits, something else among them, or more than 64 bits.
+pub fn read(text: &[u8]) -> Option<u64>
     ensures { result ≡ number_of text.now }
 {
-    if text.len() == 0 {
-        return Number::Bad;
+    if text.is_empty() {
+        return None;
     }
     let mut value: u64 = 0;
-    let mut i = 0;
-    while i < text.len() {
-        let b = text[i];
-        if b < b'0' {
-            return Number::Bad;
+    for &b in text {
+        if !b.is_ascii_digit() {
+            return None;
         }
-        if b'9' < b {
-            return Number::Bad;
-        }
-        let digit = (b - b'0') as u64;
-        if (MAX - digit) / 10 < value {
-            return Number::Bad;
-        }
-        value = value * 10 + digit;
-        i += 1;
+        value = value.checked_mul(10)?.checked_add((b - b'0') as u64)?;
     }
-    Number::Value(value)
+    Some(value)
 }

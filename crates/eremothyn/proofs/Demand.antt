@@ -9,21 +9,23 @@ use Prim.Native.Nat.{ℕ, zero, suc, ◌+◌, ◌-◌, ◌*◌, ◌≤◌, ◌<�
 use native.Mathlib.Omega.{arith}
 use lib.Dec.{ltb, leb, eqb}
 use lib.ListN.{length, take, drop, get_or, replicate}
-use borrow.Author.Tests.{ltb-true, leb-true, eqb-true, ne_eqb, le-leb, lt-leb}
+use borrow.Author.Tests.{ltb-true, leb-true, ne_eqb, le-leb, lt-leb}
+use Rattle.std.specs.Prelude.{Result, Ok, Err}
+use Rattle.refusal.specs.declared.Refusal.{Refusal}
+use Rattle.refusal.specs.declared.Refusal.TheVariants.{NotAQueue}
+use Rattle.refusal.specs.Numbers.{number_of}
 use Rattle.octets.specs.Texts.{text}
 use Rattle.calendar.specs.Dates.{last_minute}
 use Rattle.line.specs.declared.Rules.{Rules}
 use Rattle.crontab.specs.Limits.{max_entries}
-use Rattle.crontab.specs.declared.firing.DueAnswer.{DueAnswer}
-use Rattle.crontab.specs.declared.firing.DueAnswer.TheVariants as due
-use Rattle.crontab.specs.Tables.{table_of}
+use Rattle.crontab.specs.declared.table.Table.{Table}
+use Rattle.crontab.specs.declared.table.TableFault.{TableFault}
+use Rattle.crontab.specs.Tables.{table_of, count_in, refusal_in}
 use Rattle.crontab.specs.Firings.{due_in}
 use Rattle.crontab.specs.Computing.{reading}
 use Rattle.crontab.proofs.Theorems.{table-sound}
-use Rattle.fifo.specs.declared.CountAnswer.{CountAnswer}
-use Rattle.fifo.specs.declared.CountAnswer.TheVariants as tick
-use Rattle.fifo.specs.declared.FrontAnswer.{FrontAnswer}
-use Rattle.fifo.specs.declared.FrontAnswer.TheVariants as pop
+use Rattle.crontab.proofs.Tables.{good-is}
+use Rattle.std.specs.Prelude.{Option, Some, None, Result, Ok, Err}
 use Rattle.fifo.specs.Layout.{queue_of, stored, roomy, is_queue}
 use Rattle.fifo.specs.Refusals.{tick_refusal, pop_refusal}
 use Rattle.fifo.specs.Steps.{Jobs, Step, fresh, init_step, standing, entry_step}
@@ -50,53 +52,50 @@ use Rattle.eremothyn.specs.Demand.{QueueFair, QueueFairEvery, QueueFairSteady, Q
 -- ---- numbers
 
 -- an answer is above 4,294,967,296 just where it is a refusal
-tick-above : (n : ℕ) (a : CountAnswer) → n ≤ max_entries → TickedWithin n a → leb (tick_number a) refused_from ≡ eqb (tick_refusal a) 0
+tick-above : (n : ℕ) (a : Result ℕ Refusal) → n ≤ max_entries → TickedWithin n a → leb (tick_number a) refused_from ≡ eqb (tick_refusal a) 0
 unfolding tick_number tick_refusal
-tick-above n (tick.Joined k) h w = le-leb k refused_from (omega arith)
-tick-above n (tick.Refused number) h w =
-    lt-leb (refused_from + number) refused_from (omega arith) ∙ sym (ne_eqb number 0 (λ z. omega (arith, z)))
+tick-above n (Ok k) h w = le-leb k refused_from (omega arith)
+tick-above n (Err refusal) h w =
+    lt-leb (refused_from + number_of refusal) refused_from (omega (arith, w.0)) ∙ sym (ne_eqb (number_of refusal) 0 (λ z. omega (arith, w.0, z)))
 
-pop-above : (n : ℕ) (a : FrontAnswer) → n ≤ max_entries → PoppedWithin n a → leb (pop_number a) refused_from ≡ eqb (pop_refusal a) 0
+pop-above : (n : ℕ) (a : Result (Option ℕ) Refusal) → n ≤ max_entries → PoppedWithin n a → leb (pop_number a) refused_from ≡ eqb (pop_refusal a) 0
 unfolding pop_number pop_refusal
-pop-above n (pop.Entry e) h w = le-leb e refused_from (omega arith)
-pop-above n pop.Nothing h w = refl
-pop-above n (pop.Refused number) h w =
-    lt-leb (refused_from + number) refused_from (omega arith) ∙ sym (ne_eqb number 0 (λ z. omega (arith, z)))
+pop-above n (Ok (Some e)) h w = le-leb e refused_from (omega arith)
+pop-above n (Ok None) h w = refl
+pop-above n (Err refusal) h w =
+    lt-leb (refused_from + number_of refusal) refused_from (omega (arith, w.0)) ∙ sym (ne_eqb (number_of refusal) 0 (λ z. omega (arith, w.0, z)))
 
 -- a number below it names an entry
-pop-names : (a : FrontAnswer) (e : ℕ) → e < refused_from → pop_number a ≡ e → a ≡ pop.Entry e
+pop-names : (a : Result (Option ℕ) Refusal) (e : ℕ) → e < refused_from → pop_number a ≡ e → a ≡ Ok (Some e)
 unfolding pop_number
-pop-names (pop.Entry x) e h q = ap pop.Entry q
-pop-names pop.Nothing e h q = absurd (omega (arith, q))
-pop-names (pop.Refused number) e h q = absurd (omega (arith, q))
+pop-names (Ok (Some x)) e h q = rw q
+pop-names (Ok None) e h q = absurd (omega (arith, q))
+pop-names (Err refusal) e h q = absurd (omega (arith, q))
 
 -- ---- the calls of a good table
 
-module _ (table : List ℕ) (kind dialect : ℕ) (good : (table_of (rules_of kind dialect) table).refusal ≡ 0) where
+module _ (table : List ℕ) (kind dialect : ℕ) (good : refusal_in (table_of (rules_of kind dialect) table) ≡ 0) where
   abbrev rules : Rules
   rules = rules_of kind dialect
 
   abbrev jobs : Jobs
   jobs = jobs_in rules table
 
-  small : (table_of (rules_of kind dialect) table).refusal ≤ 255
-  small = omega (arith, good)
-
   bytes-is : (c : Call) → bytes_after table kind dialect c ≡ room_after jobs c
   unfolding bytes_after room_after
-  bytes-is (tick minute room) = ap (λ (s : Step CountAnswer). s.room) (table-steps-good rules table good room minute).1
-  bytes-is (pop room) = ap (λ (s : Step FrontAnswer). s.room) (table-steps-good rules table good room 0).2
+  bytes-is (tick minute room) = ap (λ (s : Step (Result ℕ Refusal)). s.room) (table-steps-good rules table good room minute).1
+  bytes-is (pop room) = ap (λ (s : Step (Result (Option ℕ) Refusal)). s.room) (table-steps-good rules table good room 0).2
 
   above-is : (c : Call) → leb (answer_to table kind dialect c) refused_from ≡ eqb (refusal jobs c) 0
   unfolding answer_to refusal
   above-is (tick minute room) =
       let t = table_of rules table in
-      tick-above t.count (tick_table t minute room).answer (table-sound rules table).few (tick-told t room small minute)
-      ∙ ap (λ (s : Step CountAnswer). eqb (tick_refusal s.answer) 0) (table-steps-good rules table good room minute).1
+      tick-above (count_in t) (tick_table t minute room).answer (table-sound rules table).few (tick-told t room minute)
+      ∙ ap (λ (s : Step (Result ℕ Refusal)). eqb (tick_refusal s.answer) 0) (table-steps-good rules table good room minute).1
   above-is (pop room) =
       let t = table_of rules table in
-      pop-above t.count (pop_table t room).answer (table-sound rules table).few (pop-told t room small)
-      ∙ ap (λ (s : Step FrontAnswer). eqb (pop_refusal s.answer) 0) (table-steps-good rules table good room 0).2
+      pop-above (count_in t) (pop_table t room).answer (table-sound rules table).few (pop-told t room)
+      ∙ ap (λ (s : Step (Result (Option ℕ) Refusal)). eqb (pop_refusal s.answer) 0) (table-steps-good rules table good room 0).2
 
   answered-is : (cs : List Call) → answered table kind dialect cs ≡ unrefused jobs cs
   unfolding answered unrefused is_refused
@@ -118,7 +117,7 @@ module _ (table : List ℕ) (kind dialect : ℕ) (good : (table_of (rules_of kin
 
   made-is : (size : ℕ) (buffer : List ℕ) → buffer_made table kind dialect size buffer ≡ started jobs size buffer
   unfolding buffer_made started
-  made-is size buffer = ap (λ (s : Step CountAnswer). s.room ++ drop size buffer) (table-steps-good rules table good (take size buffer) 0).0
+  made-is size buffer = ap (λ (s : Step (Result ℕ Refusal)). s.room ++ drop size buffer) (table-steps-good rules table good (take size buffer) 0).0
 
   calls_is : (us : List Use) (buffer : List ℕ) → calls_made table kind dialect buffer us ≡ calls_on jobs buffer us
   unfolding calls_made calls_on
@@ -140,12 +139,12 @@ module _ (table : List ℕ) (kind dialect : ℕ) (good : (table_of (rules_of kin
 
   -- a queue that was made had room
   made-roomy : (room : List ℕ) → queue_init_call table kind dialect room ≤ refused_from → roomy jobs.count room ≡ true
-  unfolding init_step tick_number
+  unfolding init_step tick_number number_of
   made-roomy room h = go (roomy jobs.count room) (rw (table-steps-good rules table good room 0).0 at h)
     where
       go : (b : Bool)
           → tick_number
-          (cond {A = Step CountAnswer} b (record { answer = tick.Joined (length (fresh jobs).waiting); room = stored (fresh jobs) room }) (record { answer = tick.Refused 28; room = room })).answer
+          (cond {A = Step (Result ℕ Refusal)} b (record { answer = Ok (length (fresh jobs).waiting); room = stored (fresh jobs) room }) (record { answer = Err NotAQueue; room = room })).answer
           ≤ refused_from
           → b ≡ true
       go true k = refl
@@ -153,10 +152,10 @@ module _ (table : List ℕ) (kind dialect : ℕ) (good : (table_of (rules_of kin
 
   check-is : check_call table kind dialect ≡ jobs.count
   unfolding check_number answer_of jobs_of
-  check-is = rw good
+  check-is = rw (good-is (table_of (rules_of kind dialect) table) good).1
 
 -- the calls that come after a first list on a buffer in which a queue was made
-after-made : (table : List ℕ) (kind dialect : ℕ) (good : (table_of (rules_of kind dialect) table).refusal ≡ 0) (size : ℕ) (buffer : List ℕ) (first second : List Use)
+after-made : (table : List ℕ) (kind dialect : ℕ) (good : refusal_in (table_of (rules_of kind dialect) table) ≡ 0) (size : ℕ) (buffer : List ℕ) (first second : List Use)
     → let jobs = jobs_in (rules_of kind dialect) table in
     calls_made table kind dialect (buffer_left_by table kind dialect (buffer_made table kind dialect size buffer) first) second
     ≡ calls_on jobs (buffer_after_all jobs (started jobs size buffer) first) second
@@ -172,10 +171,10 @@ pub due-can-fire : (table : List ℕ) (kind dialect e m : ℕ) → due_call tabl
 unfolding due_number
 due-can-fire table kind dialect e m q = runqueue.due-can-fire (rules_of kind dialect) table e m (go (due_in (table_of (rules_of kind dialect) table) e m) q)
   where
-    go : (a : DueAnswer) → due_number a ≡ 1 → a ≡ due.Yes
-    go due.Yes q = refl
-    go due.No q = absurd (omega (arith, q))
-    go (due.Refused number) q = absurd (omega (arith, q))
+    go : (a : Result Bool Refusal) → due_number a ≡ 1 → a ≡ Ok true
+    go (Ok true) q = refl
+    go (Ok false) q = absurd (omega (arith, q))
+    go (Err refusal) q = absurd (omega (arith, q))
 
 pub queue-fair : QueueFair
 queue-fair table kind dialect e t size buffer first second f made on consecutive =
@@ -268,23 +267,21 @@ queue-fair-west size buffer first second made =
 -- who is at a place: the table isn't refused, and the bytes hold a queue
 entry-there : (table : List ℕ) (kind dialect e p : ℕ) (room : List ℕ) → queue_entry_call table kind dialect room p ≡ e → e < refused_from
     → let t = table_of (rules_of kind dialect) table in
-    (t.refusal ≡ 0) × (is_queue t.count room ≡ true) × (standing p (queue_of room).waiting ≡ pop.Entry e)
+    (refusal_in t ≡ 0) × (is_queue (count_in t) room ≡ true) × (standing p (queue_of room).waiting ≡ Some e)
 unfolding entry_table entry_step
 entry-there table kind dialect e p room q h =
     let t = table_of (rules_of kind dialect) table in
-    let (good, at) = outer (eqb t.refusal 0) refl (pop-names (entry_table t p room) e h q) in
-    let (is, there) = inner (is_queue t.count room) at in
+    let (good, at) = outer t (pop-names (entry_table t p room) e h q) in
+    let (is, there) = inner (is_queue (count_in t) room) at in
     (good, is, there)
   where
-    outer : (b : Bool) → eqb (table_of (rules_of kind dialect) table).refusal 0 ≡ b
-        → cond b (entry_step (table_of (rules_of kind dialect) table).count p room) (pop.Refused (table_of (rules_of kind dialect) table).refusal) ≡ pop.Entry e
-        → ((table_of (rules_of kind dialect) table).refusal ≡ 0) × (entry_step (table_of (rules_of kind dialect) table).count p room ≡ pop.Entry e)
-    outer true g k = (eqb-true (table_of (rules_of kind dialect) table).refusal 0 g, k)
-    outer false g k = absurd (let z : ◌≡◌ {A = ℕ} 0 1 = cc in omega arith)
+    outer : (t : Result Table TableFault) → entry_table t p room ≡ Ok (Some e) → (refusal_in t ≡ 0) × (entry_step (count_in t) p room ≡ Ok (Some e))
+    outer (Ok x) k = (refl, k)
+    outer (Err f) k = absurd (let z : ◌≡◌ {A = ℕ} 0 1 = cc in omega arith)
 
-    inner : (b : Bool) → cond b (standing p (queue_of room).waiting) (pop.Refused 28) ≡ pop.Entry e
-        → (b ≡ true) × (standing p (queue_of room).waiting ≡ pop.Entry e)
-    inner true k = (refl, k)
+    inner : (b : Bool) → cond {A = Result (Option ℕ) Refusal} b (Ok (standing p (queue_of room).waiting)) (Err NotAQueue) ≡ Ok (Some e)
+        → (b ≡ true) × (standing p (queue_of room).waiting ≡ Some e)
+    inner true k = (refl, cc)
     inner false k = absurd (let z : ◌≡◌ {A = ℕ} 0 1 = cc in omega arith)
 
 pub queue-waits-exactly : QueueWaitsExactly

@@ -15,6 +15,8 @@ use Rattle.fifo.specs.Buffer.{Use}
 use Rattle.runqueue.specs.Jobs.{jobs_of}
 use Rattle.runqueue.specs.Demand.{jobs_in, CanFire, biased_offset_of, bound_from, bound_every_from, OnCalendarEvery}
 use Rattle.runqueue.proofs.Theorems.{entry-good}
+use Rattle.crontab.specs.Tables.{table_of}
+use Rattle.crontab.proofs.Tables.{good-is}
 use Rattle.eremothyn.specs.Answer.{answer_of}
 use Rattle.eremothyn.specs.Rules.{rules_of}
 use Rattle.eremothyn.specs.Tables.{check_number}
@@ -40,7 +42,7 @@ module _ (table : List ℕ) (kind dialect e m size : ℕ) (buffer : List ℕ) (f
 
   count-is : (jobs_in rules table).count ≡ check_call table kind dialect
   unfolding check_number answer_of jobs_of
-  count-is = rw (entry-good rules table e can.entry)
+  count-is = rw (good-is (table_of rules table) (entry-good rules table e can.entry)).1
 
   module _ (n k : ℕ) (utc : t + n ≤ 4223371679) (local : t + n + biased_offset ≤ 4223372399) (some : 0 < k) where
     abbrev calls : List Call

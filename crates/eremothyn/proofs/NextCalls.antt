@@ -8,6 +8,7 @@ use Prim.Native.Nat.{ℕ, ◌+◌, ◌<◌, ◌≤◌}
 use native.Mathlib.Omega.{arith}
 use lib.IntN.{pos}
 use borrow.Author.Tests.{le-leb}
+use Rattle.std.specs.Prelude.{Ok}
 use Rattle.octets.specs.Sets.{set_of, up_to}
 use Rattle.calendar.specs.Dates.{last_minute}
 use Rattle.schedule.specs.declared.Schedule.{Schedule}
@@ -17,9 +18,8 @@ use Rattle.schedule.proofs.Theorems.{next-at-in}
 use Rattle.line.specs.declared.Rules.{Rules}
 use Rattle.line.specs.declared.time.When.TheVariants.{Timed}
 use Rattle.crontab.specs.declared.entry.Entry.{Entry}
-use Rattle.crontab.specs.declared.table.EntryAnswer.TheVariants.{Found}
 use Rattle.crontab.specs.Tables.{table_of, entry_in}
-use Rattle.crontab.specs.Firings.{told, next_of, next_answer, next_in}
+use Rattle.crontab.specs.Firings.{next_of, next_answer, next_in}
 use Rattle.crontab.specs.Computing.{reading}
 use Rattle.eremothyn.specs.Rules.{rules_of}
 use Rattle.eremothyn.specs.Entries.{next_number}
@@ -27,9 +27,9 @@ use Rattle.eremothyn.specs.Calls.{next_call}
 use Rattle.eremothyn.specs.FourWays.{short}
 
 -- the minute after m, if the entry matches it
-next-minute : (rules : Rules) (s : List ℕ) (i : ℕ) (e : Entry) (times : Schedule) (m n : ℕ) → entry_in (table_of rules s) i ≡ Found e → e.when ≡ Timed times
+next-minute : (rules : Rules) (s : List ℕ) (i : ℕ) (e : Entry) (times : Schedule) (m n : ℕ) → entry_in (table_of rules s) i ≡ Ok e → e.when ≡ Timed times
     → m < n → n ≤ m + 1 → n ≤ last_minute → matches_in times (biased_offset e.offset) n ≡ true → next_number (next_in (table_of rules s) i m) ≡ n
-unfolding next_in next_answer next_of next_number told
+unfolding next_in next_answer next_of next_number
 next-minute rules s i e times m n found timed after near on match =
     rw (found, le-leb m last_minute (omega arith), timed, next-at-in times (biased_offset e.offset) m n after on match (λ k low high. absurd (omega arith)))
 
@@ -49,10 +49,10 @@ noons =
 abbrev noon : ℕ → ℕ → Entry
 noon start end = record { when = Timed noons; line = 5; at = 45; start = start; end = end; offset = pos 60 }
 
-read : (entry_in (table_of (rules_of 0 0) (short 0)) 1 ≡ Found (noon 58 67))
-    × (entry_in (table_of (rules_of 0 1) (short 1)) 1 ≡ Found (noon 58 67))
-    × (entry_in (table_of (rules_of 1 0) (short 0)) 1 ≡ Found (noon 64 67))
-    × (entry_in (table_of (rules_of 1 1) (short 1)) 1 ≡ Found (noon 64 67))
+read : (entry_in (table_of (rules_of 0 0) (short 0)) 1 ≡ Ok (noon 58 67))
+    × (entry_in (table_of (rules_of 0 1) (short 1)) 1 ≡ Ok (noon 58 67))
+    × (entry_in (table_of (rules_of 1 0) (short 0)) 1 ≡ Ok (noon 64 67))
+    × (entry_in (table_of (rules_of 1 1) (short 1)) 1 ≡ Ok (noon 64 67))
 unfolding reading rules_of
 read = (refl, refl, refl, refl)
 

@@ -6,13 +6,13 @@ use mathlib.Core.Bool.{false}
 use mathlib.Core.List.{List}
 use Prim.Native.Nat.{ℕ, ◌+◌, ◌≤◌}
 use lib.ListN.{length}
+use Rattle.std.specs.Prelude.{Ok}
 use Rattle.octets.specs.Runs.{between}
 use Rattle.calendar.specs.Dates.{date_of, minute_of}
 use Rattle.line.specs.declared.Rules.{Rules}
 use Rattle.crontab.specs.declared.entry.Entry.{Entry}
-use Rattle.crontab.specs.declared.table.EntryAnswer.TheVariants.{Found}
 use Rattle.crontab.specs.Items.{items_of}
-use Rattle.crontab.specs.Tables.{table_of, entry_in, command_in}
+use Rattle.crontab.specs.Tables.{table_of, entry_in, command_in, refusal_in}
 use Rattle.crontab.specs.Firings.{due_in, next_in}
 use Rattle.crontab.specs.Owners.{owner_in}
 use Rattle.crontab.specs.Settings.{setting_in, next_line_in}
@@ -28,11 +28,11 @@ use Rattle.eremothyn.specs.declared.owners.Owned.{Owned}
 use Rattle.eremothyn.specs.declared.settings.Shown.{Shown}
 use Rattle.eremothyn.specs.Answer.{is_refused}
 use Rattle.eremothyn.specs.Rules.{dialect_of, rules_of}
-use Rattle.eremothyn.specs.Distinct.{granted, by_refusal, by_entry, by_line, by_due, by_next, by_split, by_form, by_tick, by_pop, Tells, TellsFilled, Stays}
+use Rattle.eremothyn.specs.Distinct.{granted, by_refusal, by_result, Tells, TellsFilled, Stays}
 use Rattle.eremothyn.specs.Calls.{check_call, fault_line_call, fault_column_call, due_call, next_call, next_setting_call, normal_form_call, compile_call, decompile_call, stdin_length_call}
 use Rattle.eremothyn.specs.Calls.{command_offset_call, command_length_call, queue_init_call, queue_tick_call, queue_pop_call, queue_entry_call, queue_reload_call, firings_call, merged_firings_call}
 use Rattle.eremothyn.specs.Commands.{split_of, split_number}
-use Rattle.eremothyn.specs.Dates.{date_part, date_minute, date_refusal, date_answer, date_run}
+use Rattle.eremothyn.specs.Dates.{date_part, date_minute, date_written, date_answer, date_run}
 use Rattle.eremothyn.specs.Entries.{place_number}
 use Rattle.eremothyn.specs.Owners.{owner_number}
 use Rattle.eremothyn.specs.Settings.{setting_number}
@@ -44,30 +44,30 @@ module _ (s : List ℕ) (kind dialect : ℕ) where
 
   -- ---- an answer is a refusal exactly where the call is refused
 
-  pub tables-told : Tells (by_refusal (table_of rules s).refusal) (check_call s kind dialect)
+  pub tables-told : Tells (by_refusal (refusal_in (table_of rules s))) (check_call s kind dialect)
       × Tells granted (fault_line_call s kind dialect)
       × Tells granted (fault_column_call s kind dialect)
   tables-told = (answers-distinct.check rules s, answers-distinct.fault-line rules s, answers-distinct.fault-column rules s)
 
   pub entries-told : (i m : ℕ) (place : Place) (owned : Owned)
-      → Tells (by_due (due_in (table_of rules s) i m)) (due_call s kind dialect i m)
-      × Tells (by_next (next_in (table_of rules s) i m)) (next_call s kind dialect i m)
-      × Tells (by_entry (entry_in (table_of rules s) i)) (place_number (entry_in (table_of rules s) i) place)
-      × Tells (by_refusal (owner_in rules s i).refusal) (owner_number (owner_in rules s i) owned)
-      × Tells (by_entry (entry_in (table_of rules s) i)) (stdin_length_call s kind dialect i)
+      → Tells (by_result (due_in (table_of rules s) i m)) (due_call s kind dialect i m)
+      × Tells (by_result (next_in (table_of rules s) i m)) (next_call s kind dialect i m)
+      × Tells (by_result (entry_in (table_of rules s) i)) (place_number (entry_in (table_of rules s) i) place)
+      × Tells (by_result (owner_in rules s i)) (owner_number (owner_in rules s i) owned)
+      × Tells (by_result (entry_in (table_of rules s) i)) (stdin_length_call s kind dialect i)
   entries-told i m place owned =
       (answers-distinct.due rules s i m, answers-distinct.next rules s i m, answers-distinct.line-to-command rules s i place, answers-distinct.owner rules s i owned, answers-distinct.stdin-length rules s i)
 
   pub settings-told : (i : ℕ) (shown : Shown)
-      → Tells (by_refusal (setting_in (items_of rules s) i).refusal) (setting_number (setting_in (items_of rules s) i) shown)
-      × Tells (by_line (next_line_in (items_of rules s) i)) (next_setting_call s kind dialect i)
+      → Tells (by_result (setting_in (items_of rules s) i)) (setting_number (setting_in (items_of rules s) i) shown)
+      × Tells (by_result (next_line_in (items_of rules s) i)) (next_setting_call s kind dialect i)
   settings-told i shown = (answers-distinct.setting rules s i shown, answers-distinct.next-setting rules s i)
 
   pub texts-told : (i : ℕ) (x y : List ℕ)
-      → Tells (by_split (split_of rules s i x y).answer) (split_number (split_of rules s i x y).answer)
-      × Tells (by_form (normal_form (dialect_of dialect) s x).answer) (normal_form_call s dialect x)
-      × Tells (by_form (compiled (dialect_of dialect) s x).answer) (compile_call s dialect x)
-      × Tells (by_form (decompiled s x).answer) (decompile_call s x)
+      → Tells (by_result (split_of rules s i x y).answer) (split_number (split_of rules s i x y).answer)
+      × Tells (by_result (normal_form (dialect_of dialect) s x).answer) (normal_form_call s dialect x)
+      × Tells (by_result (compiled (dialect_of dialect) s x).answer) (compile_call s dialect x)
+      × Tells (by_result (decompiled s x).answer) (decompile_call s x)
       × (length s ≤ 4294967296 → Tells granted (record_fault s))
   texts-told i x y = (
     answers-distinct.split-command rules s i x y,
@@ -78,11 +78,11 @@ module _ (s : List ℕ) (kind dialect : ℕ) where
   )
 
   pub queues-told : (m place : ℕ) (room new : List ℕ)
-      → Tells (by_tick (init_table (table_of rules s) room).answer) (queue_init_call s kind dialect room)
-      × Tells (by_tick (reload_tables rules s new room).answer) (queue_reload_call s new kind dialect room)
-      × Tells (by_tick (tick_table (table_of rules s) m room).answer) (queue_tick_call s kind dialect room m)
-      × Tells (by_pop (pop_table (table_of rules s) room).answer) (queue_pop_call s kind dialect room)
-      × Tells (by_pop (entry_table (table_of rules s) place room)) (queue_entry_call s kind dialect room place)
+      → Tells (by_result (init_table (table_of rules s) room).answer) (queue_init_call s kind dialect room)
+      × Tells (by_result (reload_tables rules s new room).answer) (queue_reload_call s new kind dialect room)
+      × Tells (by_result (tick_table (table_of rules s) m room).answer) (queue_tick_call s kind dialect room m)
+      × Tells (by_result (pop_table (table_of rules s) room).answer) (queue_pop_call s kind dialect room)
+      × Tells (by_result (entry_table (table_of rules s) place room)) (queue_entry_call s kind dialect room place)
   queues-told m place room new = (
     answers-distinct.queue-init rules s room,
     answers-distinct.queue-reload rules s new room,
@@ -99,10 +99,10 @@ module _ (s : List ℕ) (kind dialect : ℕ) where
   -- ---- a refused call leaves what it is lent
 
   pub texts-stay : (i : ℕ) (x y : List ℕ)
-      → (Stays (by_split (split_of rules s i x y).answer) x (split_of rules s i x y).shell × Stays (by_split (split_of rules s i x y).answer) y (split_of rules s i x y).input)
-      × Stays (by_form (normal_form (dialect_of dialect) s x).answer) x (normal_form (dialect_of dialect) s x).buffer
-      × Stays (by_form (compiled (dialect_of dialect) s x).answer) x (compiled (dialect_of dialect) s x).buffer
-      × Stays (by_form (decompiled s x).answer) x (decompiled s x).buffer
+      → (Stays (by_result (split_of rules s i x y).answer) x (split_of rules s i x y).shell × Stays (by_result (split_of rules s i x y).answer) y (split_of rules s i x y).input)
+      × Stays (by_result (normal_form (dialect_of dialect) s x).answer) x (normal_form (dialect_of dialect) s x).buffer
+      × Stays (by_result (compiled (dialect_of dialect) s x).answer) x (compiled (dialect_of dialect) s x).buffer
+      × Stays (by_result (decompiled s x).answer) x (decompiled s x).buffer
   texts-stay i x y = (
     refused-stays.split-command rules s i x y,
     refused-stays.normal-form (dialect_of dialect) s x,
@@ -111,10 +111,10 @@ module _ (s : List ℕ) (kind dialect : ℕ) where
   )
 
   pub queues-stay : (m : ℕ) (room new : List ℕ)
-      → Stays (by_tick (init_table (table_of rules s) room).answer) room (init_table (table_of rules s) room).room
-      × Stays (by_tick (reload_tables rules s new room).answer) room (reload_tables rules s new room).room
-      × Stays (by_tick (tick_table (table_of rules s) m room).answer) room (tick_table (table_of rules s) m room).room
-      × Stays (by_pop (pop_table (table_of rules s) room).answer) room (pop_table (table_of rules s) room).room
+      → Stays (by_result (init_table (table_of rules s) room).answer) room (init_table (table_of rules s) room).room
+      × Stays (by_result (reload_tables rules s new room).answer) room (reload_tables rules s new room).room
+      × Stays (by_result (tick_table (table_of rules s) m room).answer) room (tick_table (table_of rules s) m room).room
+      × Stays (by_result (pop_table (table_of rules s) room).answer) room (pop_table (table_of rules s) room).room
   queues-stay m room new =
       (refused-stays.queue-init rules s room, refused-stays.queue-reload rules s new room, refused-stays.queue-tick rules s room m, refused-stays.queue-pop rules s room)
 
@@ -129,7 +129,7 @@ module _ (s : List ℕ) (kind dialect : ℕ) where
   pub near-any : (i m : ℕ) → is_refused (next_call s kind dialect i m) ≡ false → next_call s kind dialect i m ≤ m + 21036960
   near-any i m taken = next-near s kind dialect i m taken
 
-  pub command-any : (i : ℕ) (e : Entry) → entry_in (table_of rules s) i ≡ Found e
+  pub command-any : (i : ℕ) (e : Entry) → entry_in (table_of rules s) i ≡ Ok e
       → between s (command_offset_call s kind dialect i) (command_offset_call s kind dialect i + command_length_call s kind dialect i) ≡ command_in s (entry_in (table_of rules s) i)
   command-any i e found = command-placed rules s i e found
 
@@ -138,10 +138,10 @@ module _ (s : List ℕ) (kind dialect : ℕ) where
 
 -- dates
 pub dates-any : (m year month day hour minute : ℕ) (part : DatePart) (run : List ℕ)
-    → Tells (by_refusal (date_of m).refusal) (date_part m part)
-    × Tells (by_refusal (minute_of year month day hour minute).refusal) (date_minute year month day hour minute)
-    × Tells (by_refusal (date_refusal m run)) (date_answer m run)
-    × Stays (by_refusal (date_refusal m run)) run (date_run m run)
+    → Tells (by_result (date_of m)) (date_part m part)
+    × Tells (by_result (minute_of year month day hour minute)) (date_minute year month day hour minute)
+    × Tells (by_result (date_written m run)) (date_answer m run)
+    × Stays (by_result (date_written m run)) run (date_run m run)
 dates-any m year month day hour minute part run = (
   answers-distinct.year-to-weekday m part,
   answers-distinct.minute-of-date year month day hour minute,

@@ -3,7 +3,7 @@
 -- Assumes nothing.
 use Rattle.std.specs.Prelude.{ℕ, List}
 use Rattle.crontab.specs.Items.{items_of}
-use Rattle.crontab.specs.Tables.{table_of, entry_in}
+use Rattle.crontab.specs.Tables.{table_of, entry_in, column_in, line_in}
 use Rattle.crontab.specs.Owners.{owner_in}
 use Rattle.crontab.specs.Settings.{setting_in, next_line_in}
 use Rattle.crontab.specs.Firings.{due_in, next_in}
@@ -33,11 +33,11 @@ check_call table kind dialect = check_number (table_of (rules_of kind dialect) t
 
 -- A8: the line of its fault
 abbrev pub fault_line_call : List ℕ → ℕ → ℕ → ℕ
-fault_line_call table kind dialect = (table_of (rules_of kind dialect) table).line
+fault_line_call table kind dialect = line_in (table_of (rules_of kind dialect) table)
 
 -- A8: the column of its fault
 abbrev pub fault_column_call : List ℕ → ℕ → ℕ → ℕ
-fault_column_call table kind dialect = (table_of (rules_of kind dialect) table).column
+fault_column_call table kind dialect = column_in (table_of (rules_of kind dialect) table)
 
 -- ---- an entry of it
 

@@ -1,33 +1,19 @@
 -- Two promises of the C header. EREMOTHYN_IS_REFUSED is true of an answer just if the call is refused, whatever it was lent (A5). And a
 -- refused call changes nothing that it is lent (R40). Both are proved in proofs/Theorems.
 -- Assumes nothing.
-use Rattle.std.specs.Prelude.{◌≡◌, ℕ, zero, suc, ◌+◌, ◌≤◌, ◌<◌, List, [], ◌∷◌, true, false, length, get_or}
+use Rattle.std.specs.Prelude.{◌≡◌, ℕ, zero, suc, ◌+◌, ◌≤◌, ◌<◌, List, [], ◌∷◌, true, false, length, get_or, Result, Ok, Err}
 use Rattle.std.proofs.Common.{ap, arith}
+use Rattle.refusal.specs.declared.Refusal.{Refusal}
+use Rattle.refusal.specs.Numbers.{number_of, IsRefusal}
 use Rattle.calendar.specs.Dates.{date_of, minute_of}
 use Rattle.field.specs.declared.Dialect.{Dialect}
 use Rattle.line.specs.declared.Rules.{Rules}
-use Rattle.crontab.specs.declared.table.EntryAnswer.{EntryAnswer}
-use Rattle.crontab.specs.declared.table.EntryAnswer.TheVariants as entry
-use Rattle.crontab.specs.declared.setting.LineAnswer.{LineAnswer}
-use Rattle.crontab.specs.declared.setting.LineAnswer.TheVariants as line
-use Rattle.crontab.specs.declared.firing.DueAnswer.{DueAnswer}
-use Rattle.crontab.specs.declared.firing.DueAnswer.TheVariants as due
-use Rattle.crontab.specs.declared.firing.NextAnswer.{NextAnswer}
-use Rattle.crontab.specs.declared.firing.NextAnswer.TheVariants as next
 use Rattle.crontab.specs.Items.{items_of}
-use Rattle.crontab.specs.Tables.{table_of, entry_in}
+use Rattle.crontab.specs.Tables.{table_of, entry_in, column_in, line_in, refusal_in}
 use Rattle.crontab.specs.Settings.{setting_in, next_line_in}
 use Rattle.crontab.specs.Firings.{due_in, next_in}
-use Rattle.command.specs.declared.SplitAnswer.{SplitAnswer}
-use Rattle.command.specs.declared.SplitAnswer.TheVariants as split
-use Rattle.normal.specs.declared.NormalAnswer.{NormalAnswer}
-use Rattle.normal.specs.declared.NormalAnswer.TheVariants as normal
 use Rattle.normal.specs.NormalForms.{normal_form}
 use Rattle.records.specs.Calls.{compiled, decompiled, record_fault}
-use Rattle.fifo.specs.declared.CountAnswer.{CountAnswer}
-use Rattle.fifo.specs.declared.CountAnswer.TheVariants as tick
-use Rattle.fifo.specs.declared.FrontAnswer.{FrontAnswer}
-use Rattle.fifo.specs.declared.FrontAnswer.TheVariants as pop
 use Rattle.runqueue.specs.Calls.{init_table, tick_table, pop_table, entry_table}
 use Rattle.reload.specs.Calls.{reload_tables}
 use Rattle.firings.specs.declared.Filled.{Filled}
@@ -36,9 +22,8 @@ use Rattle.firings.specs.Calls.{firings_in, merged_in}
 use Rattle.firings.specs.Rising.{Kept}
 use Rattle.eremothyn.specs.declared.dates.DatePart.{DatePart}
 use Rattle.eremothyn.specs.declared.settings.Shown.{Shown}
-use Rattle.octets.specs.Refusals.{IsRefusal}
 use Rattle.eremothyn.specs.Answer.{refused_from, more_from, is_refused}
-use Rattle.eremothyn.specs.Dates.{date_part, date_minute, date_refusal, date_answer, date_run}
+use Rattle.eremothyn.specs.Dates.{date_part, date_minute, date_written, date_answer, date_run}
 use Rattle.eremothyn.specs.Tables.{check_number}
 use Rattle.eremothyn.specs.declared.entries.Place.{Place}
 use Rattle.eremothyn.specs.Entries.{due_number, next_number, place_number}
@@ -63,47 +48,10 @@ abbrev pub by_refusal : ℕ → Outcome
 by_refusal zero = granted
 by_refusal (suc n) = refused (suc n)
 
--- A5: the entry is found, or the call is refused
-abbrev pub by_entry : EntryAnswer → Outcome
-by_entry (entry.Found e) = granted
-by_entry (entry.Refused number) = refused number
-
--- A5: there is a line, or the call is refused
-abbrev pub by_line : LineAnswer → Outcome
-by_line (line.At k) = granted
-by_line (line.Refused number) = refused number
-
--- A5: due or not, or refused
-abbrev pub by_due : DueAnswer → Outcome
-by_due due.Yes = granted
-by_due due.No = granted
-by_due (due.Refused number) = refused number
-
--- A5: there is a next firing, or the call is refused
-abbrev pub by_next : NextAnswer → Outcome
-by_next (next.At m) = granted
-by_next (next.Refused number) = refused number
-
--- A5: the parts are written, or the call is refused
-abbrev pub by_split : SplitAnswer → Outcome
-by_split (split.Written n input) = granted
-by_split (split.Refused number) = refused number
-
--- A5: the text or the records are written, or the call is refused
-abbrev pub by_form : NormalAnswer → Outcome
-by_form (normal.Written size) = granted
-by_form (normal.Refused number) = refused number
-
--- A5: so many joined, or the call is refused
-abbrev pub by_tick : CountAnswer → Outcome
-by_tick (tick.Joined n) = granted
-by_tick (tick.Refused number) = refused number
-
--- A3: "nothing waits" is an answer
-abbrev pub by_pop : FrontAnswer → Outcome
-by_pop (pop.Entry e) = granted
-by_pop pop.Nothing = granted
-by_pop (pop.Refused number) = refused number
+-- A3, A5: the call has a result, or is refused; that nothing waits is a result
+abbrev pub by_result : {A : Type 0} → Result A Refusal → Outcome
+by_result (Ok value) = granted
+by_result (Err refusal) = refused (number_of refusal)
 
 -- ---- refusals by the number that a C caller gets
 
@@ -117,42 +65,42 @@ Tells granted number = (is_refused number ≡ false) × (number ≤ refused_from
 Tells (refused n) number = TellsRefused n number
 
 -- A4, A5: a list's number is a count, a count where more remain, or a refusal
-abbrev pub TellsFilled : Filled → ℕ → Type 0
-TellsFilled (list.All n) number = (is_refused number ≡ false) × (number < refused_from)
-TellsFilled (list.More n) number = (is_refused number ≡ false) × (more_from ≤ number) × (number < more_from + refused_from)
-TellsFilled (list.Refused n) number = TellsRefused n number
+abbrev pub TellsFilled : Result Filled Refusal → ℕ → Type 0
+TellsFilled (Ok (list.All n)) number = (is_refused number ≡ false) × (number < refused_from)
+TellsFilled (Ok (list.More n)) number = (is_refused number ≡ false) × (more_from ≤ number) × (number < more_from + refused_from)
+TellsFilled (Err refusal) number = TellsRefused (number_of refusal) number
 
 -- A5, A7: for every call, whatever is asked and lent
 pub record AnswersDistinct : Type 0 where
-  pub year-to-weekday : (minute : ℕ) (part : DatePart) → Tells (by_refusal (date_of minute).refusal) (date_part minute part)
+  pub year-to-weekday : (minute : ℕ) (part : DatePart) → Tells (by_result (date_of minute)) (date_part minute part)
   pub minute-of-date : (year month day hour minute : ℕ)
-      → Tells (by_refusal (minute_of year month day hour minute).refusal) (date_minute year month day hour minute)
-  pub date : (minute : ℕ) (run : List ℕ) → Tells (by_refusal (date_refusal minute run)) (date_answer minute run)
-  pub check : (rules : Rules) (table : List ℕ) → Tells (by_refusal (table_of rules table).refusal) (check_number (table_of rules table))
-  pub fault-line : (rules : Rules) (table : List ℕ) → Tells granted (table_of rules table).line
-  pub fault-column : (rules : Rules) (table : List ℕ) → Tells granted (table_of rules table).column
-  pub due : (rules : Rules) (table : List ℕ) (i minute : ℕ) → let a = due_in (table_of rules table) i minute in Tells (by_due a) (due_number a)
-  pub next : (rules : Rules) (table : List ℕ) (i minute : ℕ) → let a = next_in (table_of rules table) i minute in Tells (by_next a) (next_number a)
+      → Tells (by_result (minute_of year month day hour minute)) (date_minute year month day hour minute)
+  pub date : (minute : ℕ) (run : List ℕ) → Tells (by_result (date_written minute run)) (date_answer minute run)
+  pub check : (rules : Rules) (table : List ℕ) → Tells (by_refusal (refusal_in (table_of rules table))) (check_number (table_of rules table))
+  pub fault-line : (rules : Rules) (table : List ℕ) → Tells granted (line_in (table_of rules table))
+  pub fault-column : (rules : Rules) (table : List ℕ) → Tells granted (column_in (table_of rules table))
+  pub due : (rules : Rules) (table : List ℕ) (i minute : ℕ) → let a = due_in (table_of rules table) i minute in Tells (by_result a) (due_number a)
+  pub next : (rules : Rules) (table : List ℕ) (i minute : ℕ) → let a = next_in (table_of rules table) i minute in Tells (by_result a) (next_number a)
   pub line-to-command : (rules : Rules) (table : List ℕ) (i : ℕ) (what : Place)
-      → let a = entry_in (table_of rules table) i in Tells (by_entry a) (place_number a what)
+      → let a = entry_in (table_of rules table) i in Tells (by_result a) (place_number a what)
   pub setting : (rules : Rules) (table : List ℕ) (line : ℕ) (what : Shown)
-      → let a = setting_in (items_of rules table) line in Tells (by_refusal a.refusal) (setting_number a what)
-  pub next-setting : (rules : Rules) (table : List ℕ) (line : ℕ) → let a = next_line_in (items_of rules table) line in Tells (by_line a) (line_number a)
+      → let a = setting_in (items_of rules table) line in Tells (by_result a) (setting_number a what)
+  pub next-setting : (rules : Rules) (table : List ℕ) (line : ℕ) → let a = next_line_in (items_of rules table) line in Tells (by_result a) (line_number a)
   pub owner : (rules : Rules) (table : List ℕ) (i : ℕ) (what : Owned)
-      → let a = owner_in rules table i in Tells (by_refusal a.refusal) (owner_number a what)
+      → let a = owner_in rules table i in Tells (by_result a) (owner_number a what)
   pub split-command : (rules : Rules) (table : List ℕ) (i : ℕ) (shell input : List ℕ)
-      → let a = (split_of rules table i shell input).answer in Tells (by_split a) (split_number a)
-  pub stdin-length : (rules : Rules) (table : List ℕ) (i : ℕ) → Tells (by_entry (entry_in (table_of rules table) i)) (stdin_length rules table i)
-  pub normal-form : (d : Dialect) (table text : List ℕ) → let a = (normal_form d table text).answer in Tells (by_form a) (normal_number a)
-  pub compile : (d : Dialect) (table records : List ℕ) → let a = (compiled d table records).answer in Tells (by_form a) (normal_number a)
-  pub decompile : (records text : List ℕ) → let a = (decompiled records text).answer in Tells (by_form a) (normal_number a)
+      → let a = (split_of rules table i shell input).answer in Tells (by_result a) (split_number a)
+  pub stdin-length : (rules : Rules) (table : List ℕ) (i : ℕ) → Tells (by_result (entry_in (table_of rules table) i)) (stdin_length rules table i)
+  pub normal-form : (d : Dialect) (table text : List ℕ) → let a = (normal_form d table text).answer in Tells (by_result a) (normal_number a)
+  pub compile : (d : Dialect) (table records : List ℕ) → let a = (compiled d table records).answer in Tells (by_result a) (normal_number a)
+  pub decompile : (records text : List ℕ) → let a = (decompiled records text).answer in Tells (by_result a) (normal_number a)
   -- of bytes that a number of 32 bits can count
   pub record-fault : (records : List ℕ) → length records ≤ refused_from → Tells granted (record_fault records)
-  pub queue-init : (rules : Rules) (table room : List ℕ) → let a = (init_table (table_of rules table) room).answer in Tells (by_tick a) (tick_number a)
-  pub queue-reload : (rules : Rules) (old new room : List ℕ) → let a = (reload_tables rules old new room).answer in Tells (by_tick a) (tick_number a)
-  pub queue-tick : (rules : Rules) (table room : List ℕ) (minute : ℕ) → let a = (tick_table (table_of rules table) minute room).answer in Tells (by_tick a) (tick_number a)
-  pub queue-pop : (rules : Rules) (table room : List ℕ) → let a = (pop_table (table_of rules table) room).answer in Tells (by_pop a) (pop_number a)
-  pub queue-entry : (rules : Rules) (table room : List ℕ) (place : ℕ) → let a = entry_table (table_of rules table) place room in Tells (by_pop a) (pop_number a)
+  pub queue-init : (rules : Rules) (table room : List ℕ) → let a = (init_table (table_of rules table) room).answer in Tells (by_result a) (tick_number a)
+  pub queue-reload : (rules : Rules) (old new room : List ℕ) → let a = (reload_tables rules old new room).answer in Tells (by_result a) (tick_number a)
+  pub queue-tick : (rules : Rules) (table room : List ℕ) (minute : ℕ) → let a = (tick_table (table_of rules table) minute room).answer in Tells (by_result a) (tick_number a)
+  pub queue-pop : (rules : Rules) (table room : List ℕ) → let a = (pop_table (table_of rules table) room).answer in Tells (by_result a) (pop_number a)
+  pub queue-entry : (rules : Rules) (table room : List ℕ) (place : ℕ) → let a = entry_table (table_of rules table) place room in Tells (by_result a) (pop_number a)
   pub firings : (rules : Rules) (table : List ℕ) (i a b : ℕ) (run : List ℕ)
       → let r = (firings_in (table_of rules table) i a b run).answer in TellsFilled r (filled_number r)
   pub merged-firings : (rules : Rules) (table : List ℕ) (a b : ℕ) (minutes entries : List ℕ)
@@ -167,16 +115,16 @@ Stays (refused n) before after = after ≡ before
 
 -- R40, A13: for every call that is lent bytes or numbers to write on
 pub record RefusedStays : Type 0 where
-  pub date : (minute : ℕ) (run : List ℕ) → Stays (by_refusal (date_refusal minute run)) run (date_run minute run)
+  pub date : (minute : ℕ) (run : List ℕ) → Stays (by_result (date_written minute run)) run (date_run minute run)
   pub split-command : (rules : Rules) (table : List ℕ) (i : ℕ) (shell input : List ℕ)
-      → let s = split_of rules table i shell input in Stays (by_split s.answer) shell s.shell × Stays (by_split s.answer) input s.input
-  pub normal-form : (d : Dialect) (table text : List ℕ) → let f = normal_form d table text in Stays (by_form f.answer) text f.buffer
-  pub compile : (d : Dialect) (table records : List ℕ) → let f = compiled d table records in Stays (by_form f.answer) records f.buffer
-  pub decompile : (records text : List ℕ) → let f = decompiled records text in Stays (by_form f.answer) text f.buffer
-  pub queue-init : (rules : Rules) (table room : List ℕ) → let s = init_table (table_of rules table) room in Stays (by_tick s.answer) room s.room
-  pub queue-reload : (rules : Rules) (old new room : List ℕ) → let s = reload_tables rules old new room in Stays (by_tick s.answer) room s.room
-  pub queue-tick : (rules : Rules) (table room : List ℕ) (minute : ℕ) → let s = tick_table (table_of rules table) minute room in Stays (by_tick s.answer) room s.room
-  pub queue-pop : (rules : Rules) (table room : List ℕ) → let s = pop_table (table_of rules table) room in Stays (by_pop s.answer) room s.room
+      → let s = split_of rules table i shell input in Stays (by_result s.answer) shell s.shell × Stays (by_result s.answer) input s.input
+  pub normal-form : (d : Dialect) (table text : List ℕ) → let f = normal_form d table text in Stays (by_result f.answer) text f.buffer
+  pub compile : (d : Dialect) (table records : List ℕ) → let f = compiled d table records in Stays (by_result f.answer) records f.buffer
+  pub decompile : (records text : List ℕ) → let f = decompiled records text in Stays (by_result f.answer) text f.buffer
+  pub queue-init : (rules : Rules) (table room : List ℕ) → let s = init_table (table_of rules table) room in Stays (by_result s.answer) room s.room
+  pub queue-reload : (rules : Rules) (old new room : List ℕ) → let s = reload_tables rules old new room in Stays (by_result s.answer) room s.room
+  pub queue-tick : (rules : Rules) (table room : List ℕ) (minute : ℕ) → let s = tick_table (table_of rules table) minute room in Stays (by_result s.answer) room s.room
+  pub queue-pop : (rules : Rules) (table room : List ℕ) → let s = pop_table (table_of rules table) room in Stays (by_result s.answer) room s.room
   pub firings : (rules : Rules) (table : List ℕ) (i a b : ℕ) (run : List ℕ)
       → let s = firings_in (table_of rules table) i a b run in Kept s.answer run s.run
   pub merged-firings : (rules : Rules) (table : List ℕ) (a b : ℕ) (minutes entries : List ℕ)
@@ -190,9 +138,9 @@ not-told :
     × (Tells (refused 14) 4294967311 → ⊥)
     × (Tells (refused 0) 4294967296 → ⊥)
     × (Tells (refused 256) 4294967552 → ⊥)
-    × (TellsFilled (list.All 7) 8589934599 → ⊥)
-    × (TellsFilled (list.More 7) 7 → ⊥)
-    × (TellsFilled (list.More 7) 12884901888 → ⊥)
+    × (TellsFilled (Ok (list.All 7)) 8589934599 → ⊥)
+    × (TellsFilled (Ok (list.More 7)) 7 → ⊥)
+    × (TellsFilled (Ok (list.More 7)) 12884901888 → ⊥)
 not-told = (
   (λ t. omega (arith, t.1)),
   (λ t. omega (arith, t.1)),

@@ -1,7 +1,7 @@
 -- What C callers get: each composed definition by table bytes, as rows of what is asked and what
 -- comes back. 4294967296 and n is refusal n.
 -- Assumes nothing.
-use Rattle.std.specs.Prelude.{◌≡◌, refl, List, [], ◌∷◌, ◌++◌, true, false, ℕ, zero, suc, ◌+◌, ◌-◌, replicate}
+use Rattle.std.specs.Prelude.{◌≡◌, refl, List, [], ◌∷◌, ◌++◌, true, false, ℕ, zero, suc, ◌+◌, ◌-◌, replicate, Ok}
 use Rattle.octets.specs.Texts.{text}
 use Rattle.octets.specs.Rows.{Hold}
 use Rattle.crontab.specs.Limits.{max_table}
@@ -382,10 +382,10 @@ unfolding boots answering
 great-counts = refl
 
 great-lists : Hold filled_number
-    ((All 65536, 65536)
-    ∷ (All 4294967295, 4294967295)
-    ∷ (More 65536, 8590000128)
-    ∷ (More 4294967295, 12884901887)
+    ((Ok (All 65536), 65536)
+    ∷ (Ok (All 4294967295), 4294967295)
+    ∷ (Ok (More 65536), 8590000128)
+    ∷ (Ok (More 4294967295), 12884901887)
     ∷ [])
 unfolding filled_number
 great-lists = refl

@@ -3,9 +3,9 @@ ghost use Rattle.std.specs.Prelude.{◌≡◌, ◌≤◌, length};
 ghost use Rattle.octets.specs.OverFront.{over_front};
 ghost use Rattle.eremothyn.specs.Dates.{part_in, date_part, date_minute, Small, parts_of, date_answer, date_run};
 
-use crate::answer::{REFUSED, answer};
+use crate::answer::answer;
 use calendar::Date;
-use command::TOO_SHORT;
+use refusal::Refusal;
 
 // How many numbers a date has.
 const DATE_PARTS: usize = 6;
@@ -20,10 +20,10 @@ pub extern "C" fn eremothyn_minute_of_date(
 ) -> u64
     ensures { result ≡ date_minute year month day hour minute }
 {
-    let found = calendar::minute_of(year, month, day, hour, minute);
-    answer(found.refusal, found.minute)
+    answer(calendar::minute_of(year, month, day, hour, minute))
 }
 
+// Parts by name and no closure: `AnswersDistinct` says of each of them that its answer is no refusal.
 #[derive(Clone, Copy)]
 enum DatePart {
     Year,
@@ -50,9 +50,10 @@ fn part_in(date: Date, part: DatePart) -> u64
 fn date_part(minute: u64, part: DatePart) -> u64
     ensures { result ≡ date_part minute part }
 {
-    let found = calendar::date_of(minute);
-    let date = found.date;
-    answer(found.refusal, part_in(date, part))
+    match calendar::date_of(minute) {
+        Ok(date) => part_in(date, part),
+        Err(refusal) => answer(Err(refusal)),
+    }
 }
 
 #[unsafe(no_mangle)]
@@ -115,15 +116,13 @@ pub extern "C" fn eremothyn_date(minute: u64, run: &mut [u16]) -> u64
     ensures answer { result ≡ date_answer minute run.old }
     ensures run { run.new ≡ date_run minute run.old }
 {
-    let found = calendar::date_of(minute);
-    let refusal = found.refusal;
-    if refusal != 0 {
-        return REFUSED + refusal as u64;
-    }
+    let date = match calendar::date_of(minute) {
+        Ok(date) => date,
+        Err(refusal) => return answer(Err(refusal)),
+    };
     if run.len() < DATE_PARTS {
-        return REFUSED + TOO_SHORT as u64;
+        return answer(Err(Refusal::TooShort));
     }
-    let date = found.date;
     put(date, run);
     DATE_PARTS as u64
 }

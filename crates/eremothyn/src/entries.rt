@@ -5,12 +5,11 @@ ghost use Rattle.eremothyn.specs.Rules.{rules_of};
 ghost use Rattle.eremothyn.specs.Entries.{place_in, place_number};
 ghost use Rattle.eremothyn.specs.Calls.{due_call, next_call, entry_line_call, command_offset_call, command_length_call};
 
-use crate::answer::REFUSED;
+use crate::answer::answer;
 use crate::rules::rules_of;
 use crontab::entry::Entry;
 use crontab::firing;
-use crontab::firing::{DueAnswer, NextAnswer};
-use crontab::table::{EntryAnswer, find_entry};
+use crontab::table::find_entry;
 
 #[unsafe(no_mangle)]
 pub extern "C" fn eremothyn_due(
@@ -23,9 +22,9 @@ pub extern "C" fn eremothyn_due(
     ensures { result ≡ due_call table.now kind dialect entry minute }
 {
     match firing::due(table, rules_of(kind, dialect), entry, minute) {
-        DueAnswer::Yes => 1,
-        DueAnswer::No => 0,
-        DueAnswer::Refused(number) => REFUSED + number as u64,
+        Ok(true) => 1,
+        Ok(false) => 0,
+        Err(refusal) => answer(Err(refusal)),
     }
 }
 
@@ -39,13 +38,11 @@ pub extern "C" fn eremothyn_next(
 ) -> u64
     ensures { result ≡ next_call table.now kind dialect entry minute }
 {
-    match firing::next(table, rules_of(kind, dialect), entry, minute) {
-        NextAnswer::At(m) => m,
-        NextAnswer::Refused(number) => REFUSED + number as u64,
-    }
+    answer(firing::next(table, rules_of(kind, dialect), entry, minute))
 }
 
 // What is asked of where an entry stands.
+// By name and no closure, as in dates.
 #[derive(Clone, Copy)]
 enum Place {
     Line,
@@ -68,8 +65,8 @@ fn place_number(table: &[u8], kind: u64, dialect: u64, entry: u64, what: Place) 
     ensures { result ≡ place_number (entry_in (table_of (rules_of kind dialect) table.now) entry) what }
 {
     match find_entry(table, rules_of(kind, dialect), entry) {
-        EntryAnswer::Found(found) => place_in(found, what),
-        EntryAnswer::Refused(number) => REFUSED + number as u64,
+        Ok(found) => place_in(found, what),
+        Err(refusal) => answer(Err(refusal)),
     }
 }
 

@@ -4,22 +4,24 @@ ghost use Rattle.firings.specs.Rising.{Few};
 ghost use Rattle.eremothyn.specs.Lists.{filled_number};
 ghost use Rattle.eremothyn.specs.Calls.{firings_call, firings_run, merged_firings_call, merged_firings_minutes, merged_firings_entries};
 
-use crate::answer::REFUSED;
+use crate::answer::answer;
 use crate::rules::rules_of;
 use firings::Filled;
+use refusal::Refusal;
 
 // Added to a count where more remain.
 const MORE: u64 = 8_589_934_592;
 
 // How many were filled and whether more remain, or the refusal.
-fn filled_number(filled: Filled) -> u64
+#[tactic(auto, unfolding(crate::specs::Lists::filled_number, crate::specs::Answer::answer_of))]
+fn filled_number(filled: Result<Filled, Refusal>) -> u64
     requires { Few filled }
     ensures { result ≡ filled_number filled }
 {
     match filled {
-        Filled::All(n) => n as u64,
-        Filled::More(n) => MORE + n as u64,
-        Filled::Refused(refusal) => REFUSED + refusal as u64,
+        Ok(Filled::All(n)) => n as u64,
+        Ok(Filled::More(n)) => MORE + n as u64,
+        Err(refusal) => answer(Err(refusal)),
     }
 }
 

@@ -3,17 +3,18 @@ ghost use Rattle.std.specs.Prelude.{◌≡◌};
 ghost use Rattle.eremothyn.specs.NormalForms.{normal_number};
 ghost use Rattle.eremothyn.specs.Calls.{normal_form_call, normal_form_text};
 
-use crate::answer::REFUSED;
+use crate::answer::answer;
 use crate::rules::dialect_of;
-use normal::NormalAnswer;
+use refusal::Refusal;
 
 // The length of the text, or the refusal.
-pub(crate) fn normal_number(answer: NormalAnswer) -> u64
-    ensures { result ≡ normal_number answer }
+#[tactic(auto, unfolding(crate::specs::NormalForms::normal_number, crate::specs::Answer::answer_of))]
+pub(crate) fn normal_number(written: Result<usize, Refusal>) -> u64
+    ensures { result ≡ normal_number written }
 {
-    match answer {
-        NormalAnswer::Written { size } => size as u64,
-        NormalAnswer::Refused { number } => REFUSED + number as u64,
+    match written {
+        Ok(size) => size as u64,
+        Err(refusal) => answer(Err(refusal)),
     }
 }
 

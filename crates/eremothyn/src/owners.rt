@@ -11,6 +11,7 @@ use crontab::owner;
 use line::user::Owner;
 
 // What is asked of an owner.
+// By name and no closure, as in dates.
 #[derive(Clone, Copy)]
 enum Owned {
     UserOffset,
@@ -41,9 +42,10 @@ fn owned_in(owner: Owner, what: Owned) -> u64
 fn owner_number(table: &[u8], kind: u64, dialect: u64, entry: u64, what: Owned) -> u64
     ensures { result ≡ owner_number (owner_in (rules_of kind dialect) table.now entry) what }
 {
-    let found = owner::read(table, rules_of(kind, dialect), entry);
-    let owner = found.owner;
-    answer(found.refusal, owned_in(owner, what))
+    match owner::read(table, rules_of(kind, dialect), entry) {
+        Ok(found) => owned_in(found, what),
+        Err(refusal) => answer(Err(refusal)),
+    }
 }
 
 #[unsafe(no_mangle)]

@@ -3,28 +3,30 @@ ghost use Rattle.std.specs.Prelude.{◌≡◌};
 ghost use Rattle.eremothyn.specs.Queue.{tick_number, pop_number};
 ghost use Rattle.eremothyn.specs.Calls.{queue_init_call, queue_init_room, queue_tick_call, queue_tick_room, queue_pop_call, queue_pop_room, queue_entry_call, queue_reload_call, queue_reload_room};
 
-use crate::answer::REFUSED;
+use crate::answer::{REFUSED, answer};
 use crate::rules::rules_of;
-use fifo::{CountAnswer, FrontAnswer};
+use refusal::Refusal;
 
 // How many joined, or the refusal.
-fn ticked_number(ticked: CountAnswer) -> u64
+#[tactic(auto, unfolding(crate::specs::Queue::tick_number, crate::specs::Answer::answer_of))]
+fn ticked_number(ticked: Result<usize, Refusal>) -> u64
     ensures { result ≡ tick_number ticked }
 {
     match ticked {
-        CountAnswer::Joined(n) => n as u64,
-        CountAnswer::Refused(refusal) => REFUSED + refusal as u64,
+        Ok(n) => n as u64,
+        Err(refusal) => answer(Err(refusal)),
     }
 }
 
 // The entry, "nothing waits", or the refusal.
-fn popped_number(popped: FrontAnswer) -> u64
+#[tactic(auto, unfolding(crate::specs::Queue::pop_number, crate::specs::Answer::answer_of))]
+fn popped_number(popped: Result<Option<u16>, Refusal>) -> u64
     ensures { result ≡ pop_number popped }
 {
     match popped {
-        FrontAnswer::Entry(e) => e as u64,
-        FrontAnswer::Nothing => REFUSED,
-        FrontAnswer::Refused(refusal) => REFUSED + refusal as u64,
+        Ok(Some(e)) => e as u64,
+        Ok(None) => REFUSED,
+        Err(refusal) => answer(Err(refusal)),
     }
 }
 

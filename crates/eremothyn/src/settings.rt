@@ -6,12 +6,13 @@ ghost use Rattle.eremothyn.specs.Rules.{rules_of};
 ghost use Rattle.eremothyn.specs.Settings.{shown_in, setting_number};
 ghost use Rattle.eremothyn.specs.Calls.{setting_name_offset_call, setting_name_length_call, setting_value_offset_call, setting_value_length_call, next_setting_call};
 
-use crate::answer::{REFUSED, answer};
+use crate::answer::answer;
 use crate::rules::rules_of;
 use crontab::setting;
-use crontab::setting::{LineAnswer, SettingAnswer};
+use crontab::setting::Setting;
 
 // What is asked of a setting.
+// By name and no closure, as in dates.
 #[derive(Clone, Copy)]
 enum Shown {
     NameOffset,
@@ -20,7 +21,7 @@ enum Shown {
     ValueLength,
 }
 
-fn shown_in(found: SettingAnswer, what: Shown) -> u64
+fn shown_in(found: Setting, what: Shown) -> u64
     requires { (found.name.start ≤ found.name.end) × (found.value.start ≤ found.value.end) }
     ensures { result ≡ shown_in found what }
 {
@@ -37,8 +38,10 @@ fn shown_in(found: SettingAnswer, what: Shown) -> u64
 fn setting_number(table: &[u8], kind: u64, dialect: u64, line: u64, what: Shown) -> u64
     ensures { result ≡ setting_number (setting_in (items_of (rules_of kind dialect) table.now) line) what }
 {
-    let found = setting::read(table, rules_of(kind, dialect), line);
-    answer(found.refusal, shown_in(found, what))
+    match setting::read(table, rules_of(kind, dialect), line) {
+        Ok(found) => shown_in(found, what),
+        Err(refusal) => answer(Err(refusal)),
+    }
 }
 
 #[unsafe(no_mangle)]
@@ -93,8 +96,5 @@ pub extern "C" fn eremothyn_setting_value_length(
 pub extern "C" fn eremothyn_next_setting(table: &[u8], kind: u64, dialect: u64, line: u64) -> u64
     ensures { result ≡ next_setting_call table.now kind dialect line }
 {
-    match setting::next(table, rules_of(kind, dialect), line) {
-        LineAnswer::At(k) => k,
-        LineAnswer::Refused(number) => REFUSED + number as u64,
-    }
+    answer(setting::next(table, rules_of(kind, dialect), line))
 }

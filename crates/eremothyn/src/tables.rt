@@ -10,22 +10,28 @@ use crontab::table::check;
 pub extern "C" fn eremothyn_check(table: &[u8], kind: u64, dialect: u64) -> u64
     ensures { result ≡ check_call table.now kind dialect }
 {
-    let verdict = check(table, rules_of(kind, dialect));
-    answer(verdict.refusal, verdict.count as u64)
+    match check(table, rules_of(kind, dialect)) {
+        Ok(count) => count as u64,
+        Err(fault) => answer(Err(fault.refusal)),
+    }
 }
 
 #[unsafe(no_mangle)]
 pub extern "C" fn eremothyn_fault_line(table: &[u8], kind: u64, dialect: u64) -> u64
     ensures { result ≡ fault_line_call table.now kind dialect }
 {
-    let verdict = check(table, rules_of(kind, dialect));
-    verdict.line as u64
+    match check(table, rules_of(kind, dialect)) {
+        Ok(_) => 0,
+        Err(fault) => fault.line as u64,
+    }
 }
 
 #[unsafe(no_mangle)]
 pub extern "C" fn eremothyn_fault_column(table: &[u8], kind: u64, dialect: u64) -> u64
     ensures { result ≡ fault_column_call table.now kind dialect }
 {
-    let verdict = check(table, rules_of(kind, dialect));
-    verdict.column as u64
+    match check(table, rules_of(kind, dialect)) {
+        Ok(_) => 0,
+        Err(fault) => fault.column as u64,
+    }
 }

@@ -1,5 +1,6 @@
 -- A field that is answered with values: each of its elements lies within the limits, and the set is what they put into it.
 -- Assumes nothing.
+use Rattle.std.specs.Prelude.{Option, None, Some}
 use mathlib.Core.Path.{◌≡◌}
 use mathlib.Core.Bool.{Bool, false}
 use mathlib.Mathlib.Data.Bool.Basic.{or-eq-false-eq-eq-false-and-eq-false}
@@ -9,7 +10,6 @@ use lib.Dec.{ltb}
 use borrow.Author.Tests.{ltb-false}
 use Rattle.field.specs.declared.Limits.{Limits}
 use Rattle.field.specs.declared.element.Element.{Element}
-use Rattle.field.specs.declared.element.Element.TheVariants.{Range, Malformed}
 use Rattle.field.specs.Values.{range_of, including}
 use Rattle.field.specs.Judgement.{outside}
 
@@ -20,24 +20,24 @@ pub record Accepted (l : Limits) (low high step : ℕ) : Type 0 where
   pub to : high ≤ l.last
   pub steps : 0 < step
 
-abbrev pub Accepts : Limits → Element → Type 0
-Accepts l (Range low high step) = Accepted l low high step
-Accepts l Malformed = ⊥
+abbrev pub Accepts : Limits → Option Element → Type 0
+Accepts l (Some w) = Accepted l w.low w.high w.step
+Accepts l None = ⊥
 
-abbrev pub Each : Limits → List Element → Type 0
+abbrev pub Each : Limits → List (Option Element) → Type 0
 Each l [] = Unit {0}
 Each l (e ∷ es) = Accepts l e × Each l es
 
-abbrev pub with_element : Limits → ℕ → Element → ℕ
-with_element l set (Range low high step) = including l set (range_of l low high step)
-with_element l set Malformed = set
+abbrev pub with_element : Limits → ℕ → Option Element → ℕ
+with_element l set (Some w) = including l set (range_of l w.low w.high w.step)
+with_element l set None = set
 
-abbrev pub with_elements : Limits → ℕ → List Element → ℕ
+abbrev pub with_elements : Limits → ℕ → List (Option Element) → ℕ
 with_elements l set [] = set
 with_elements l set (e ∷ es) = with_elements l (with_element l set e) es
 
 -- from one set and flag to another by elements
-pub record AcceptedElements (l : Limits) (set : ℕ) (star : Bool) (es : List Element) (set' : ℕ) (star' : Bool) : Type 0 where
+pub record AcceptedElements (l : Limits) (set : ℕ) (star : Bool) (es : List (Option Element)) (set' : ℕ) (star' : Bool) : Type 0 where
   pub accepted : Each l es
   pub sets : set' ≡ with_elements l set es
   pub flag : star' ≡ star

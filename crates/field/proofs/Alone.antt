@@ -1,5 +1,6 @@
 -- Laws of a number that is a whole field: it is divided by no byte, is the only element of its list, and is judged as one value.
 -- Assumes nothing.
+use Rattle.std.specs.Prelude.{Some, None}
 use mathlib.Core.Path.{◌≡◌, refl, sym, ap, ◌∙◌}
 use mathlib.Core.Bool.{Bool, true, false, cond, ◌&&◌, and-eq-true_iff}
 use mathlib.Core.List.{List, [], ◌∷◌}
@@ -14,24 +15,21 @@ use Rattle.octets.specs.Classes.{of_class}
 use Rattle.octets.specs.Runs.{run}
 use Rattle.octets.specs.Sets.{put}
 use Rattle.field.specs.declared.Limits.{Limits}
-use Rattle.field.specs.declared.Answer.TheVariants.{Values, Refused}
-use Rattle.field.specs.declared.number.Number.TheVariants.{Value, Malformed}
-use Rattle.field.specs.declared.element.Element.TheVariants.{Range}
 use Rattle.field.specs.Parts.{contains, before, split}
 use Rattle.field.specs.Numbers.{is_digit, are_digits, value_from, number_of}
-use Rattle.field.specs.Elements.{is_element, ranging, number_or, end_of, element_of}
+use Rattle.field.specs.Elements.{from_to, is_element, ranging, number_or, end_of, element_of}
 use Rattle.field.specs.Refusals.{out_of_limits}
 use Rattle.field.specs.Values.{every_step, values_of, last_of, range_of, bit_of, including}
-use Rattle.field.specs.Judgement.{outside, judged}
+use Rattle.field.specs.Judgement.{refuses, means, outside, judged}
 use Rattle.field.specs.Fields.{are_elements, judged_all, list_field}
 use Rattle.field.proofs.Parts.{split-first}
 
 -- a number has digits only
-pub digits-only : (s : List ℕ) {n : ℕ} → number_of s ≡ Value n → are_digits s ≡ true
+pub digits-only : (s : List ℕ) {n : ℕ} → number_of s ≡ Some n → are_digits s ≡ true
 unfolding number_of
 digits-only s {n} e = go (leb 1 (length s) && leb (length s) 4) (are_digits s) e
   where
-    go : (a b : Bool) → cond (a && b) (Value (value_from 0 s)) Malformed ≡ Value n → b ≡ true
+    go : (a b : Bool) → cond (a && b) (Some (value_from 0 s)) None ≡ Some n → b ≡ true
     go a true e = refl
     go true false e = absurd (let z : ◌≡◌ {A = ℕ} 0 1 = cc in omega arith)
     go false false e = absurd (let z : ◌≡◌ {A = ℕ} 0 1 = cc in omega arith)
@@ -56,22 +54,22 @@ module _ (b : ℕ) (other : is_digit b ≡ false) where
     unfolding before
     digits-split = split-first b s ∙ rw (digits-whole, digits-run s digits, take_all (length s) s (omega arith))
 
-module _ (s : List ℕ) {n : ℕ} (number : number_of s ≡ Value n) where
-  pub alone-element : (l : Limits) → element_of l s ≡ Range n n 1
+module _ (s : List ℕ) {n : ℕ} (number : number_of s ≡ Some n) where
+  pub alone-element : (l : Limits) → element_of l s ≡ from_to n n 1
   unfolding element_of end_of number_or ranging is_digit
   alone-element l = rw (digits-whole 45 refl s (digits-only s number), number)
 
   -- a field that is a number is that value
-  pub number-alone : (l : Limits) (column : ℕ) → list_field l column s ≡ judged l column (Values 0 false) (Range n n 1)
+  pub number-alone : (l : Limits) (column : ℕ) → list_field l column s ≡ judged l column (means 0 false) (from_to n n 1)
   unfolding list_field are_elements judged_all is_element is_digit
   number-alone l column = rw (digits-split 44 refl s (digits-only s number), alone-element l)
 
 -- how it is judged
 module _ (l : Limits) (column n : ℕ) where
-  pub number-outside : outside l n ≡ true → judged l column (Values 0 false) (Range n n 1) ≡ Refused out_of_limits column
+  pub number-outside : outside l n ≡ true → judged l column (means 0 false) (from_to n n 1) ≡ refuses out_of_limits column
   unfolding judged
   number-outside e = rw e
 
-  pub number-inside : outside l n ≡ false → judged l column (Values 0 false) (Range n n 1) ≡ Values (put 0 (bit_of l n)) false
+  pub number-inside : outside l n ≡ false → judged l column (means 0 false) (from_to n n 1) ≡ means (put 0 (bit_of l n)) false
   unfolding judged range_of last_of values_of every_step including
   number-inside e = let none : n - n ≡ 0 = omega arith in rw (e, le-ltb n n (omega arith), none)

@@ -1,6 +1,7 @@
 -- A comma list is its elements, however many: what is read of `a,b` is what is read of a and of b. The set has the values of both; 5 of either
 -- is 5 of the whole field, whose form is judged first; otherwise the first refusal stands. A `*` stands alone in its field.
 -- Assumes nothing.
+use Rattle.std.specs.Prelude.{Option, Some, None, Ok, Err, Result}
 use mathlib.Core.Path.{◌≡◌, refl, sym, ap, ◌∙◌}
 use mathlib.Core.Bool.{Bool, true, false, cond, not, ◌&&◌, ◌||◌, and_assoc, and-false, or_assoc, false≢true, and-eq-true_iff}
 use mathlib.Core.List.{List, [], ◌∷◌, ◌++◌}
@@ -20,20 +21,19 @@ use Rattle.octets.proofs.Sets.{same_bits}
 use Rattle.octets.proofs.Together.{or-has}
 use Rattle.field.specs.declared.Limits.{Limits}
 use Rattle.field.specs.declared.Names.{Names}
-use Rattle.field.specs.declared.Names.TheVariants.{None, Months, Weekdays}
-use Rattle.field.specs.declared.Answer.{Answer}
-use Rattle.field.specs.declared.Answer.TheVariants.{Values, Refused}
+use Rattle.field.specs.declared.Names.TheVariants.{Months, Weekdays}
+use Rattle.field.specs.declared.Names.TheVariants as names
+use Rattle.field.specs.declared.Allowed.{Allowed}
+use Rattle.refusal.specs.Numbers as refusal
+use Rattle.field.specs.declared.Fault.{Fault}
 use Rattle.field.specs.declared.element.Element.{Element}
-use Rattle.field.specs.declared.element.Element.TheVariants.{Range, Malformed}
-use Rattle.field.specs.declared.number.Number.TheVariants.{Value}
-use Rattle.field.specs.declared.number.Number.TheVariants as number
 use Rattle.field.specs.Parts.{contains, before, after, after_each, split}
 use Rattle.field.specs.Numbers.{is_digit, are_digits, number_of}
 use Rattle.field.specs.Names.{lower, alike, month_names, weekday_names, named, name_of}
 use Rattle.field.specs.Elements.{ranging, is_element, number_or, end_of, upper_of, after_dash, element_of}
 use Rattle.field.specs.Values.{range_of, bit_of, including}
 use Rattle.field.specs.Refusals.{malformed, out_of_limits, reversed, step_zero}
-use Rattle.field.specs.Judgement.{outside, judged}
+use Rattle.field.specs.Judgement.{refuses, means, outside, judged}
 use Rattle.field.specs.Members.{is_star}
 use Rattle.field.specs.Fields.{comma, are_elements, judged_all, list_field, star_element, star_field, read_field}
 use Rattle.field.proofs.Views.{width, split-width}
@@ -74,50 +74,50 @@ including-joined l set (v ∷ vs) =
 
 -- ---- one answer and then another: the first refusal, or the values of both and the first one's flag
 
-abbrev pub followed : Answer → Answer → Answer
-followed (Refused number at) b = Refused number at
-followed (Values set star) (Refused number at) = Refused number at
-followed (Values set star) (Values more flag) = Values (bit_or set more) star
+abbrev pub followed : Result Allowed Fault → Result Allowed Fault → Result Allowed Fault
+followed (Err fault) b = Err fault
+followed (Ok v) (Err fault) = Err fault
+followed (Ok v) (Ok w) = means (bit_or v.set w.set) v.star
 
-followed-none : (a : Answer) → a ≡ followed a (Values 0 false)
-followed-none (Refused number at) = refl
-followed-none (Values set star) = ap (λ (x : ℕ). Values x star) (sym (or_zero_r set))
+followed-none : (a : Result Allowed Fault) → a ≡ followed a (means 0 false)
+followed-none (Err fault) = refl
+followed-none (Ok v) = ap (λ (x : ℕ). means x v.star) (sym (or_zero_r v.set))
 
-followed-joined : (a b c : Answer) → followed (followed a b) c ≡ followed a (followed b c)
-followed-joined (Refused number at) b c = refl
-followed-joined (Values set star) (Refused number at) c = refl
-followed-joined (Values set star) (Values more flag) (Refused number at) = refl
-followed-joined (Values set star) (Values more flag) (Values last other) = ap (λ (x : ℕ). Values x star) (or-joined set more last)
+followed-joined : (a b c : Result Allowed Fault) → followed (followed a b) c ≡ followed a (followed b c)
+followed-joined (Err fault) b c = refl
+followed-joined (Ok v) (Err fault) c = refl
+followed-joined (Ok v) (Ok w) (Err fault) = refl
+followed-joined (Ok v) (Ok w) (Ok y) = ap (λ (x : ℕ). means x v.star) (or-joined v.set w.set y.set)
 
 module _ (l : Limits) where
-  judged-followed : (column : ℕ) (a : Answer) (e : Element) → judged l column a e ≡ followed a (judged l column (Values 0 false) e)
+  judged-followed : (column : ℕ) (a : Result Allowed Fault) (e : Option Element) → judged l column a e ≡ followed a (judged l column (means 0 false) e)
   unfolding judged
-  judged-followed column (Refused number at) e = refl
-  judged-followed column (Values set star) Malformed = refl
-  judged-followed column (Values set star) (Range low high step) = go (outside l low || outside l high) (ltb high low && not l.wraps) (eqb step 0)
+  judged-followed column (Err fault) e = refl
+  judged-followed column (Ok v) None = refl
+  judged-followed column (Ok v) (Some w) = go (outside l w.low || outside l w.high) (ltb w.high w.low && not l.wraps) (eqb w.step 0)
     where
       go : (o r z : Bool)
-          → cond o (Refused out_of_limits column) (cond r (Refused reversed column) (cond z (Refused step_zero column) (Values (including l set (range_of l low high step)) star)))
-          ≡ followed (Values set star)
-          (cond o (Refused out_of_limits column) (cond r (Refused reversed column) (cond z (Refused step_zero column) (Values (including l 0 (range_of l low high step)) false))))
+          → cond o (refuses out_of_limits column) (cond r (refuses reversed column) (cond z (refuses step_zero column) (means (including l v.set (range_of l w.low w.high w.step)) v.star)))
+          ≡ followed (means v.set v.star)
+          (cond o (refuses out_of_limits column) (cond r (refuses reversed column) (cond z (refuses step_zero column) (means (including l 0 (range_of l w.low w.high w.step)) false))))
       go true r z = refl
       go false true z = refl
       go false false true = refl
-      go false false false = ap (λ (x : ℕ). Values x star) (including-joined l set (range_of l low high step))
+      go false false false = ap (λ (x : ℕ). means x v.star) (including-joined l v.set (range_of l w.low w.high w.step))
 
-  all-followed : (column : ℕ) (a : Answer) (ps : List (List ℕ)) → judged_all l column a ps ≡ followed a (judged_all l column (Values 0 false) ps)
+  all-followed : (column : ℕ) (a : Result Allowed Fault) (ps : List (List ℕ)) → judged_all l column a ps ≡ followed a (judged_all l column (means 0 false) ps)
   unfolding judged_all
   all-followed column a [] = followed-none a
   all-followed column a (p ∷ ps) =
       let next = column + length p + 1 in
-      let here = judged l column (Values 0 false) (element_of l p) in
-      let later = judged_all l next (Values 0 false) ps in
-      ap (λ (x : Answer). judged_all l next x ps) (judged-followed column a (element_of l p))
+      let here = judged l column (means 0 false) (element_of l p) in
+      let later = judged_all l next (means 0 false) ps in
+      ap (λ (x : Result Allowed Fault). judged_all l next x ps) (judged-followed column a (element_of l p))
       ∙ all-followed next (followed a here) ps
       ∙ followed-joined a here later
       ∙ ap (followed a) (sym (all-followed next here ps))
 
-  all-joined : (column : ℕ) (a : Answer) (ps qs : List (List ℕ)) → judged_all l column a (ps ++ qs) ≡ judged_all l (column + width ps) (judged_all l column a ps) qs
+  all-joined : (column : ℕ) (a : Result Allowed Fault) (ps qs : List (List ℕ)) → judged_all l column a (ps ++ qs) ≡ judged_all l (column + width ps) (judged_all l column a ps) qs
   unfolding judged_all width
   all-joined column a [] qs = rw (add-zero column) refl
   all-joined column a (p ∷ ps) qs =
@@ -160,33 +160,33 @@ module _ (b : List ℕ) where
 
 -- ---- two lists
 
-abbrev pub is_malformed : Answer → Bool
-is_malformed (Values set star) = false
-is_malformed (Refused number at) = eqb number malformed
+abbrev pub is_malformed : Result Allowed Fault → Bool
+is_malformed (Ok v) = false
+is_malformed (Err fault) = eqb (refusal.number_of fault.refusal) 5
 
 -- what is read of a, and then b, as one field that starts at the column
-abbrev pub together : ℕ → Answer → Answer → Answer
-together column a b = cond (is_malformed a || is_malformed b) (Refused malformed column) (followed a b)
+abbrev pub together : ℕ → Result Allowed Fault → Result Allowed Fault → Result Allowed Fault
+together column a b = cond (is_malformed a || is_malformed b) (refuses malformed column) (followed a b)
 
-pub judged-form : (l : Limits) (column set : ℕ) (star : Bool) (e : Element) → is_malformed (judged l column (Values set star) e) ≡ not (is_element e)
-unfolding judged is_element
-judged-form l column set star Malformed = refl
-judged-form l column set star (Range low high step) = go (outside l low || outside l high) (ltb high low && not l.wraps) (eqb step 0)
+pub judged-form : (l : Limits) (column set : ℕ) (star : Bool) (e : Option Element) → is_malformed (judged l column (means set star) e) ≡ not (is_element e)
+unfolding judged is_element refusal.number_of
+judged-form l column set star None = refl
+judged-form l column set star (Some w) = go (outside l w.low || outside l w.high) (ltb w.high w.low && not l.wraps) (eqb w.step 0)
   where
     go : (o r z : Bool)
-        → is_malformed (cond o (Refused out_of_limits column) (cond r (Refused reversed column) (cond z (Refused step_zero column) (Values (including l set (range_of l low high step)) star)))) ≡ false
+        → is_malformed (cond o (refuses out_of_limits column) (cond r (refuses reversed column) (cond z (refuses step_zero column) (means (including l set (range_of l w.low w.high w.step)) star)))) ≡ false
     go true r z = refl
     go false true z = refl
     go false false true = refl
     go false false false = refl
 
 module _ (l : Limits) where
-  judged-formed : (column : ℕ) (a : Answer) (e : Element) → is_element e ≡ true → is_malformed a ≡ false → is_malformed (judged l column a e) ≡ false
+  judged-formed : (column : ℕ) (a : Result Allowed Fault) (e : Option Element) → is_element e ≡ true → is_malformed a ≡ false → is_malformed (judged l column a e) ≡ false
   unfolding judged
-  judged-formed column (Refused number at) e h k = k
-  judged-formed column (Values set star) e h k = judged-form l column set star e ∙ ap not h
+  judged-formed column (Err fault) e h k = k
+  judged-formed column (Ok v) e h k = judged-form l column v.set v.star e ∙ ap not h
 
-  all-formed : (column : ℕ) (a : Answer) (ps : List (List ℕ)) → are_elements l ps ≡ true → is_malformed a ≡ false → is_malformed (judged_all l column a ps) ≡ false
+  all-formed : (column : ℕ) (a : Result Allowed Fault) (ps : List (List ℕ)) → are_elements l ps ≡ true → is_malformed a ≡ false → is_malformed (judged_all l column a ps) ≡ false
   unfolding are_elements judged_all
   all-formed column a [] h k = k
   all-formed column a (p ∷ ps) h k =
@@ -194,11 +194,11 @@ module _ (l : Limits) where
       all-formed (column + length p + 1) _ ps t.1 (judged-formed column a (element_of l p) t.0 k)
 
   pub list-form : (column : ℕ) (s : List ℕ) → is_malformed (list_field l column s) ≡ not (are_elements l (split 44 s))
-  unfolding list_field
+  unfolding list_field refusal.number_of
   list-form column s = go (are_elements l (split 44 s)) refl
     where
-      go : (t : Bool) → are_elements l (split 44 s) ≡ t → is_malformed (cond t (judged_all l column (Values 0 false) (split 44 s)) (Refused malformed column)) ≡ not t
-      go true e = all-formed column (Values 0 false) (split 44 s) e refl
+      go : (t : Bool) → are_elements l (split 44 s) ≡ t → is_malformed (cond t (judged_all l column (means 0 false) (split 44 s)) (refuses malformed column)) ≡ not t
+      go true e = all-formed column (means 0 false) (split 44 s) e refl
       go false e = refl
 
   module _ (column : ℕ) (a b : List ℕ) where
@@ -206,22 +206,22 @@ module _ (l : Limits) where
     next = column + length a + 1
 
     parts-joined : list_field l column (a ++ 44 ∷ b)
-        ≡ cond (not (are_elements l (split 44 a)) || not (are_elements l (split 44 b))) (Refused malformed column) (followed (list_field l column a) (list_field l next b))
+        ≡ cond (not (are_elements l (split 44 a)) || not (are_elements l (split 44 b))) (refuses malformed column) (followed (list_field l column a) (list_field l next b))
     unfolding list_field
     parts-joined = rw (split-joined b a, elements-joined l (split 44 a) (split 44 b)) (go (are_elements l (split 44 a)) (are_elements l (split 44 b)))
       where
-        front : Answer
-        front = judged_all l column (Values 0 false) (split 44 a)
+        front : Result Allowed Fault
+        front = judged_all l column (means 0 false) (split 44 a)
 
         go : (t u : Bool)
-            → cond (t && u) (judged_all l column (Values 0 false) (split 44 a ++ split 44 b)) (Refused malformed column)
-            ≡ cond (not t || not u) (Refused malformed column)
-            (followed (cond t front (Refused malformed column)) (cond u (judged_all l next (Values 0 false) (split 44 b)) (Refused malformed next)))
+            → cond (t && u) (judged_all l column (means 0 false) (split 44 a ++ split 44 b)) (refuses malformed column)
+            ≡ cond (not t || not u) (refuses malformed column)
+            (followed (cond t front (refuses malformed column)) (cond u (judged_all l next (means 0 false) (split 44 b)) (refuses malformed next)))
         go true true =
             let e : column + width (split 44 a) ≡ next = omega (arith, split-width 44 a) in
-            all-joined l column (Values 0 false) (split 44 a) (split 44 b)
+            all-joined l column (means 0 false) (split 44 a) (split 44 b)
             ∙ all-followed l (column + width (split 44 a)) front (split 44 b)
-            ∙ ap (λ (n : ℕ). followed front (judged_all l n (Values 0 false) (split 44 b))) e
+            ∙ ap (λ (n : ℕ). followed front (judged_all l n (means 0 false) (split 44 b))) e
         go true false = refl
         go false u = refl
 
@@ -231,26 +231,26 @@ module _ (l : Limits) where
 -- ---- two fields
 
 -- no name is empty or begins with `*`
-no_name : (names : Names) (s : List ℕ) → (name_of names [] ≡ number.Malformed) × (name_of names (42 ∷ s) ≡ number.Malformed)
+no_name : (names : Names) (s : List ℕ) → (name_of names [] ≡ None) × (name_of names (42 ∷ s) ≡ None)
 unfolding name_of named alike lower month_names weekday_names
-no_name None s = (refl, refl)
+no_name names.None s = (refl, refl)
 no_name Months s = (refl, refl)
 no_name Weekdays s = (refl, refl)
 
-star-number : (s : List ℕ) → number_of (42 ∷ s) ≡ number.Malformed
+star-number : (s : List ℕ) → number_of (42 ∷ s) ≡ None
 unfolding number_of are_digits is_digit
 star-number s = rw (and-false (leb 1 (length (42 ∷ s)) && leb (length (42 ∷ s)) 4)) refl
 
 module _ (l : Limits) where
-  none-element : element_of l [] ≡ Malformed
+  none-element : element_of l [] ≡ None
   unfolding element_of contains run end_of number_or number_of ranging
   none-element = rw (no_name l.names []).0 refl
 
-  star-end : (s : List ℕ) → end_of l.names (42 ∷ s) ≡ number.Malformed
+  star-end : (s : List ℕ) → end_of l.names (42 ∷ s) ≡ None
   unfolding end_of number_or
   star-end s = rw (star-number s, (no_name l.names s).1) refl
 
-  star-element : (s : List ℕ) → element_of l (42 ∷ s) ≡ Malformed
+  star-element : (s : List ℕ) → element_of l (42 ∷ s) ≡ None
   unfolding element_of after_dash ranging before run of_class
   star-element s = go (contains 45 (42 ∷ s)) (contains 47 (after 45 (42 ∷ s)))
     where
@@ -258,9 +258,9 @@ module _ (l : Limits) where
           → cond t
           (cond u
           (ranging (end_of l.names (42 ∷ take (run (Not 45) s) s)) (upper_of l (42 ∷ take (run (Not 45) s) s) (before 47 (after 45 (42 ∷ s)))) (number_of (after 47 (after 45 (42 ∷ s)))))
-          (ranging (end_of l.names (42 ∷ take (run (Not 45) s) s)) (upper_of l (42 ∷ take (run (Not 45) s) s) (after 45 (42 ∷ s))) (Value 1)))
-          (ranging (end_of l.names (42 ∷ s)) (end_of l.names (42 ∷ s)) (Value 1))
-          ≡ Malformed
+          (ranging (end_of l.names (42 ∷ take (run (Not 45) s) s)) (upper_of l (42 ∷ take (run (Not 45) s) s) (after 45 (42 ∷ s))) (Some 1)))
+          (ranging (end_of l.names (42 ∷ s)) (end_of l.names (42 ∷ s)) (Some 1))
+          ≡ None
       go true true = rw (star-end (take (run (Not 45) s) s)) refl
       go true false = rw (star-end (take (run (Not 45) s) s)) refl
       go false u = rw (star-end s) refl
@@ -289,35 +289,36 @@ module _ (l : Limits) where
   comma-digits [] b = refl
   comma-digits (x ∷ s) b = rw (comma-digits s b) (and-false (leb 48 x && leb x 57))
 
-  comma-number : (s b : List ℕ) → number_of (s ++ 44 ∷ b) ≡ number.Malformed
+  comma-number : (s b : List ℕ) → number_of (s ++ 44 ∷ b) ≡ None
   unfolding number_of
   comma-number s b = rw (comma-digits s b, and-false (leb 1 (length (s ++ 44 ∷ b)) && leb (length (s ++ 44 ∷ b)) 4)) refl
 
-  comma-star : (s b : List ℕ) → star_element l (s ++ 44 ∷ b) ≡ Malformed
+  comma-star : (s b : List ℕ) → star_element l (s ++ 44 ∷ b) ≡ None
   unfolding star_element ranging
   comma-star [] b = refl
   comma-star (x ∷ s) b = rw (comma-number s b) (go (eqb x 47))
     where
-      go : (t : Bool) → cond t Malformed Malformed ≡ Malformed
+      go : (t : Bool) → cond {A = Option Element} t None None ≡ None
       go true = refl
       go false = refl
 
-  pub star-first : (column : ℕ) (a b : List ℕ) → is_star a ≡ true → read_field l column (a ++ comma ∷ b) ≡ Refused malformed column
+  pub star-first : (column : ℕ) (a b : List ℕ) → is_star a ≡ true → read_field l column (a ++ comma ∷ b) ≡ refuses malformed column
   unfolding is_star read_field star_field judged
   star-first column [] b h = absurd (false≢true h)
   star-first column (x ∷ a) b h = rw (h, comma-star a b) refl
 
-  star-form : (column : ℕ) (b : List ℕ) → is_star b ≡ true → list_field l column b ≡ Refused malformed column
+  star-form : (column : ℕ) (b : List ℕ) → is_star b ≡ true → list_field l column b ≡ refuses malformed column
   unfolding is_star list_field are_elements is_element split before run of_class
   star-form column [] h = absurd (false≢true h)
   star-form column (x ∷ b) h = rw (eqb-true x 42 h, star-element (take (run (Not 44) b) b)) refl
 
-  pub star-later : (column : ℕ) (a b : List ℕ) → is_star a ≡ false → is_star b ≡ true → read_field l column (a ++ comma ∷ b) ≡ Refused malformed column
+  pub star-later : (column : ℕ) (a b : List ℕ) → is_star a ≡ false → is_star b ≡ true → read_field l column (a ++ comma ∷ b) ≡ refuses malformed column
+  unfolding refusal.number_of
   star-later column a b p q =
       read-list column (a ++ 44 ∷ b) (joined-star a b p)
       ∙ list-joined l column a b
       ∙ rw (star-form (column + length a + 1) b q) (go (is_malformed (list_field l column a)))
     where
-      go : (t : Bool) → cond (t || true) (Refused malformed column) (followed (list_field l column a) (Refused malformed (column + length a + 1))) ≡ Refused malformed column
+      go : (t : Bool) → cond (t || true) (refuses malformed column) (followed (list_field l column a) (refuses malformed (column + length a + 1))) ≡ refuses malformed column
       go true = refl
       go false = refl

@@ -16,7 +16,6 @@ use Rattle.octets.proofs.Sets.{none_has, same_bits}
 use Rattle.field.specs.declared.Dialect.{Dialect}
 use Rattle.field.specs.declared.Dialect.TheVariants.{Rising, Wrapping}
 use Rattle.field.specs.declared.Limits.{Limits}
-use Rattle.field.specs.declared.Answer.TheVariants.{Values}
 use Rattle.field.specs.Limits.{in_dialect}
 use Rattle.field.specs.Values.{values_of, range_of, bit_of, including}
 use Rattle.field.specs.Members.{is_in, distance, is_in_range, element_bits}
@@ -32,6 +31,7 @@ use Rattle.field.proofs.StarTexts.{star-back, star-read, step-least, step_gives}
 use Rattle.field.proofs.ListTexts.{Inside, members-inside, members-build, set-some}
 use Rattle.field.proofs.RoundTrip as plain
 use Rattle.field.proofs.RoundTrip.{listed}
+use Rattle.field.specs.Judgement.{means}
 
 -- ---- the set of a step, by its bits
 
@@ -96,11 +96,11 @@ module _ (l : Limits) (u : Usual l) where
   including-wraps set [] = refl
   including-wraps set (v ∷ vs) = including-wraps (put set (bit_of l v)) vs
 
-  build-wraps : (column : ℕ) (s : List ℕ) {set : ℕ} {star : Bool} → read_field there column s ≡ Values set star → including there 0 (members l set) ≡ set
+  build-wraps : (column : ℕ) (s : List ℕ) {set : ℕ} {star : Bool} → read_field there column s ≡ means set star → including there 0 (members l set) ≡ set
   unfolding members in_dialect
   build-wraps column s q = members-build there usual column s q
 
-  proper-wraps : (column : ℕ) (s : List ℕ) {set : ℕ} {star : Bool} → read_field there column s ≡ Values set star → is_field l set star ≡ true
+  proper-wraps : (column : ℕ) (s : List ℕ) {set : ℕ} {star : Bool} → read_field there column s ≡ means set star → is_field l set star ≡ true
   unfolding is_field
   proper-wraps column s {set} {star = true} q =
       let r = star-read there usual.order column s q in
@@ -108,22 +108,22 @@ module _ (l : Limits) (u : Usual l) where
   proper-wraps column s {set} {star = false} q =
       rw (ne_eqb set 0 (set-some there usual column s q)) (eq-eqb _ set (sym (including-wraps 0 (members l set)) ∙ build-wraps column s q))
 
-  listed-wraps : (column set : ℕ) (vs : List ℕ) → Inside l vs → including l 0 vs ≡ set → (set ≡ 0 → ⊥) → read_field there column (list_text vs) ≡ Values set false
+  listed-wraps : (column set : ℕ) (vs : List ℕ) → Inside l vs → including l 0 vs ≡ set → (set ≡ 0 → ⊥) → read_field there column (list_text vs) ≡ means set false
   unfolding in_dialect
   listed-wraps column set vs h e z = listed there usual column set vs h (including-wraps 0 vs ∙ e) z
 
-  back-wraps : (column set : ℕ) (star : Bool) → is_field l set star ≡ true → read_field there column (field_text l set star) ≡ Values set star
+  back-wraps : (column set : ℕ) (star : Bool) → is_field l set star ≡ true → read_field there column (field_text l set star) ≡ means set star
   unfolding is_field field_text gives
   back-wraps column set true e =
       let n = step-least l u.order set in
       star-back there usual.order column (step_of l set) n.low (omega (arith, n.high, u.word))
-      ∙ ap (λ (x : ℕ). Values x true) (star-wraps (step_of l set) n.low ∙ eqb-true (star_set l (step_of l set)) set e)
+      ∙ ap (λ (x : ℕ). means x true) (star-wraps (step_of l set) n.low ∙ eqb-true (star_set l (step_of l set)) set e)
   back-wraps column set false e =
       let t = (and-eq-true_iff (not (eqb set 0)) (eqb (including l 0 (members l set)) set)).0 e in
       listed-wraps column set (members l set) (members-inside l set) (eqb-true _ set t.1) (eqb-false set 0 (not-true (eqb set 0) t.0))
 
   -- what is read in either dialect may be written
-  pub field-proper : (d : Dialect) (column : ℕ) (s : List ℕ) {set : ℕ} {star : Bool} → read_field (in_dialect d l) column s ≡ Values set star
+  pub field-proper : (d : Dialect) (column : ℕ) (s : List ℕ) {set : ℕ} {star : Bool} → read_field (in_dialect d l) column s ≡ means set star
       → is_field l set star ≡ true
   unfolding in_dialect
   field-proper Rising column s q = plain.field-proper l u column s q
@@ -131,7 +131,7 @@ module _ (l : Limits) (u : Usual l) where
 
   -- and what may be written is read back in either
   pub field_back : (d : Dialect) (column set : ℕ) (star : Bool) → is_field l set star ≡ true
-      → read_field (in_dialect d l) column (field_text l set star) ≡ Values set star
+      → read_field (in_dialect d l) column (field_text l set star) ≡ means set star
   unfolding in_dialect
   field_back Rising column set star e = plain.field_back l u column set star e
   field_back Wrapping column set star e = back-wraps column set star e

@@ -1,6 +1,7 @@
 -- A field with no comma is one element, and an element is one of three texts: `n`, `n-m` and `n-m/step`, whatever the bytes of n, m and step;
 -- and the number that digits are.
 -- Assumes nothing.
+use Rattle.std.specs.Prelude.{Option, Some, None}
 use mathlib.Core.Path.{◌≡◌, refl, sym, ap, ◌∙◌}
 use mathlib.Core.Bool.{Bool, true, false, cond, not, ◌&&◌, and-false, and-eq-true_iff, true≢false}
 use mathlib.Core.List.{List, [], ◌∷◌, ◌++◌}
@@ -15,19 +16,16 @@ use Rattle.octets.specs.Classes.{of_class}
 use Rattle.octets.specs.Runs.{run, are_of}
 use Rattle.octets.specs.Digits.{digit}
 use Rattle.field.specs.declared.Limits.{Limits}
-use Rattle.field.specs.declared.Answer.TheVariants.{Values, Refused}
 use Rattle.field.specs.declared.element.Element.{Element}
-use Rattle.field.specs.declared.element.Element.TheVariants.{Range, Malformed}
-use Rattle.field.specs.declared.number.Number.TheVariants.{Value}
-use Rattle.field.specs.declared.number.Number.TheVariants as number
 use Rattle.field.specs.declared.Names.{Names}
-use Rattle.field.specs.declared.Names.TheVariants.{None, Months, Weekdays}
+use Rattle.field.specs.declared.Names.TheVariants.{Months, Weekdays}
+use Rattle.field.specs.declared.Names.TheVariants as names
 use Rattle.field.specs.Names.{lower, alike, is_sunday}
 use Rattle.field.specs.Parts.{contains, before, after, split}
 use Rattle.field.specs.Numbers.{is_digit, are_digits, value_from, number_of}
-use Rattle.field.specs.Elements.{dash, slash, ranging, is_element, number_or, end_of, upper_of, after_dash, element_of}
+use Rattle.field.specs.Elements.{from_to, dash, slash, ranging, is_element, number_or, end_of, upper_of, after_dash, element_of}
 use Rattle.field.specs.Refusals.{malformed}
-use Rattle.field.specs.Judgement.{judged}
+use Rattle.field.specs.Judgement.{refuses, means, judged}
 use Rattle.field.specs.Members.{is_star}
 use Rattle.field.specs.Fields.{comma, are_elements, judged_all, list_field, read_field}
 use Rattle.field.proofs.Parts.{split-first}
@@ -77,13 +75,13 @@ module _ (c : ℕ) where
 
 module _ (l : Limits) where
   -- `n`
-  pub element-single : (s : List ℕ) → are_of (Not dash) s ≡ true → element_of l s ≡ ranging (end_of l.names s) (end_of l.names s) (Value 1)
+  pub element-single : (s : List ℕ) → are_of (Not dash) s ≡ true → element_of l s ≡ ranging (end_of l.names s) (end_of l.names s) (Some 1)
   unfolding element_of
   element-single s e = rw (whole_part 45 s e) refl
 
   -- `n-m`
   pub element-range : (low high : List ℕ) → are_of (Not dash) low ≡ true → are_of (Not slash) high ≡ true
-      → element_of l (low ++ dash ∷ high) ≡ ranging (end_of l.names low) (upper_of l low high) (Value 1)
+      → element_of l (low ++ dash ∷ high) ≡ ranging (end_of l.names low) (upper_of l low high) (Some 1)
   unfolding element_of after_dash
   element-range low high p q = rw (part-found 45 high low p, part-before 45 high low p, part-after 45 high low p, whole_part 47 high q) refl
 
@@ -102,20 +100,20 @@ module _ (l : Limits) where
   alone-split : (s : List ℕ) → are_of (Not comma) s ≡ true → split 44 s ≡ s ∷ []
   alone-split s e = split-first 44 s ∙ rw (whole_part 44 s e, alone-before s e) refl
 
-  list-alone : (column : ℕ) (s : List ℕ) → split 44 s ≡ s ∷ [] → list_field l column s ≡ judged l column (Values 0 false) (element_of l s)
+  list-alone : (column : ℕ) (s : List ℕ) → split 44 s ≡ s ∷ [] → list_field l column s ≡ judged l column (means 0 false) (element_of l s)
   unfolding list_field are_elements judged_all is_element judged
   list-alone column s e = rw e (go (element_of l s))
     where
-      go : (x : Element) → cond (is_element x && true) (judged l column (Values 0 false) x) (Refused malformed column) ≡ judged l column (Values 0 false) x
-      go (Range low high step) = refl
-      go Malformed = refl
+      go : (x : Option Element) → cond (is_element x && true) (judged l column (means 0 false) x) (refuses malformed column) ≡ judged l column (means 0 false) x
+      go (Some w) = refl
+      go None = refl
 
   -- a field with no comma and no `*` in front is one element, judged at the field's first byte
   pub field-element : (column : ℕ) (s : List ℕ) → is_star s ≡ false → are_of (Not comma) s ≡ true
-      → read_field l column s ≡ judged l column (Values 0 false) (element_of l s)
+      → read_field l column s ≡ judged l column (means 0 false) (element_of l s)
   field-element column s h e = read-list l column s h ∙ listed
     where
-      listed : list_field l column s ≡ judged l column (Values 0 false) (element_of l s)
+      listed : list_field l column s ≡ judged l column (means 0 false) (element_of l s)
       listed = list-alone column s (alone-split s e)
 
 -- ---- numbers
@@ -133,28 +131,28 @@ is_digit_lem d h = rw (le-leb 48 (48 + d) (omega arith), le-leb (48 + d) 57 (ome
 
 module _ (a b c d : ℕ) (p : a ≤ 9) (q : b ≤ 9) (r : c ≤ 9) (s : d ≤ 9) where
   pub number_digits :
-      (number_of (digit a ∷ []) ≡ Value a)
-      × (number_of (digit a ∷ digit b ∷ []) ≡ Value (10 * a + b))
-      × (number_of (digit a ∷ digit b ∷ digit c ∷ []) ≡ Value (100 * a + 10 * b + c))
-      × (number_of (digit a ∷ digit b ∷ digit c ∷ digit d ∷ []) ≡ Value (1000 * a + 100 * b + 10 * c + d))
+      (number_of (digit a ∷ []) ≡ Some a)
+      × (number_of (digit a ∷ digit b ∷ []) ≡ Some (10 * a + b))
+      × (number_of (digit a ∷ digit b ∷ digit c ∷ []) ≡ Some (100 * a + 10 * b + c))
+      × (number_of (digit a ∷ digit b ∷ digit c ∷ digit d ∷ []) ≡ Some (1000 * a + 100 * b + 10 * c + d))
   unfolding number_of are_digits value_from
   number_digits = (
-    rw (is_digit_lem a p) (ap Value (omega arith)),
-    rw (is_digit_lem a p, is_digit_lem b q) (ap Value (omega arith)),
-    rw (is_digit_lem a p, is_digit_lem b q, is_digit_lem c r) (ap Value (omega arith)),
-    rw (is_digit_lem a p, is_digit_lem b q, is_digit_lem c r, is_digit_lem d s) (ap Value (omega arith)),
+    rw (is_digit_lem a p) (ap Some (omega arith)),
+    rw (is_digit_lem a p, is_digit_lem b q) (ap Some (omega arith)),
+    rw (is_digit_lem a p, is_digit_lem b q, is_digit_lem c r) (ap Some (omega arith)),
+    rw (is_digit_lem a p, is_digit_lem b q, is_digit_lem c r, is_digit_lem d s) (ap Some (omega arith)),
   )
 
 -- nothing else is a number: no byte, five bytes or more, or a byte that is no digit
-pub number-none : number_of [] ≡ number.Malformed
+pub number-none : number_of [] ≡ None
 unfolding number_of
 number-none = refl
 
-pub number-long : (s : List ℕ) → 5 ≤ length s → number_of s ≡ number.Malformed
+pub number-long : (s : List ℕ) → 5 ≤ length s → number_of s ≡ None
 unfolding number_of
 number-long s h = rw (lt-leb (length s) 4 (omega arith)) (go (leb 1 (length s)) (are_digits s))
   where
-    go : (t u : Bool) → cond (t && false && u) (Value (value_from 0 s)) number.Malformed ≡ number.Malformed
+    go : (t u : Bool) → cond (t && false && u) (Some (value_from 0 s)) None ≡ None
     go true u = refl
     go false u = refl
 
@@ -163,7 +161,7 @@ unfolding are_digits
 other-digits [] t x e = rw e refl
 other-digits (y ∷ s) t x e = rw (other-digits s t x e) (and-false (is_digit y))
 
-pub number-other : (s t : List ℕ) (x : ℕ) → is_digit x ≡ false → number_of (s ++ x ∷ t) ≡ number.Malformed
+pub number-other : (s t : List ℕ) (x : ℕ) → is_digit x ≡ false → number_of (s ++ x ∷ t) ≡ None
 unfolding number_of
 number-other s t x e = rw (other-digits s t x e, and-false (leb 1 (length (s ++ x ∷ t)) && leb (length (s ++ x ∷ t)) 4)) refl
 
@@ -176,7 +174,7 @@ digits-free c other (x ∷ s) e =
     let t = (and-eq-true_iff (is_digit x) (are_digits s)).0 e in
     rw (ne_eqb x c (λ q. true≢false (sym t.0 ∙ ap is_digit q ∙ other)), digits-free c other s t.1) refl
 
-module _ (s : List ℕ) {n : ℕ} (is : number_of s ≡ Value n) where
+module _ (s : List ℕ) {n : ℕ} (is : number_of s ≡ Some n) where
   abbrev digits : are_digits s ≡ true
   digits = digits-only s is
 
@@ -188,7 +186,7 @@ module _ (s : List ℕ) {n : ℕ} (is : number_of s ≡ Value n) where
   number-some = go s refl
     where
       go : (t : List ℕ) → s ≡ t → 1 ≤ length s
-      go [] e = let z : number.Malformed ≡ Value n = sym number-none ∙ ap number_of (sym e) ∙ is in let y : ◌≡◌ {A = ℕ} 0 1 = cc in absurd (omega arith)
+      go [] e = let z : None ≡ Some n = sym number-none ∙ ap number_of (sym e) ∙ is in let y : ◌≡◌ {A = ℕ} 0 1 = cc in absurd (omega arith)
       go (x ∷ t) e = rw e (omega arith)
 
 low-digits : (x : ℕ) (s : List ℕ) → are_digits (x ∷ s) ≡ true → (48 ≤ x) × (x ≤ 57) × (are_digits s ≡ true)
@@ -212,18 +210,18 @@ digits-first (x ∷ s) t e h = ne_eqb x 42 (λ q. omega (arith, q, (low-digits x
 
 digits-sunday : (names : Names) (s : List ℕ) → are_digits s ≡ true → is_sunday names s ≡ false
 unfolding is_sunday alike lower
-digits-sunday None s e = refl
+digits-sunday names.None s e = refl
 digits-sunday Months s e = refl
 digits-sunday Weekdays [] e = refl
 digits-sunday Weekdays (x ∷ s) e =
     let d = low-digits x s e in
     rw (lt-leb 65 x (omega (arith, d.1)), ne_eqb x 115 (λ q. omega (arith, q, d.1))) refl
 
-number-end : (names : Names) (s : List ℕ) {n : ℕ} → number_of s ≡ Value n → end_of names s ≡ Value n
+number-end : (names : Names) (s : List ℕ) {n : ℕ} → number_of s ≡ Some n → end_of names s ≡ Some n
 unfolding end_of number_or
 number-end names s e = rw e refl
 
-number-upper : (l : Limits) (low high : List ℕ) {n : ℕ} → number_of high ≡ Value n → upper_of l low high ≡ Value n
+number-upper : (l : Limits) (low high : List ℕ) {n : ℕ} → number_of high ≡ Some n → upper_of l low high ≡ Some n
 unfolding upper_of
 number-upper l low high e = rw (digits-sunday l.names high (digits-only high e)) (number-end l.names high e)
 
@@ -236,8 +234,8 @@ unfolding are_of of_class
 no-comma low high step p q r = digits-plain low p (45 ∷ (high ++ 47 ∷ step)) (digits-plain high q (47 ∷ step) r)
 
 -- `n-m/step` in any numbers: one range from n to m, judged at the field's first byte
-pub range-text : (l : Limits) (column : ℕ) (low high step : List ℕ) {n m k : ℕ} → number_of low ≡ Value n → number_of high ≡ Value m → number_of step ≡ Value k
-    → read_field l column (low ++ dash ∷ (high ++ slash ∷ step)) ≡ judged l column (Values 0 false) (Range n m k)
+pub range-text : (l : Limits) (column : ℕ) (low high step : List ℕ) {n m k : ℕ} → number_of low ≡ Some n → number_of high ≡ Some m → number_of step ≡ Some k
+    → read_field l column (low ++ dash ∷ (high ++ slash ∷ step)) ≡ judged l column (means 0 false) (from_to n m k)
 unfolding ranging
 range-text l column low high step p q r =
     let s = low ++ 45 ∷ (high ++ 47 ∷ step) in

@@ -1,6 +1,8 @@
 -- The theorems of fields, each used where it says most: every field, the second dialect, Sunday, the last step; both directions. A theorem that
 -- said less would not give these. And what doesn't meet the words that they are made of.
 -- Assumes nothing.
+use Rattle.refusal.specs.Numbers.{number_of}
+use Rattle.refusal.specs.declared.Refusal.TheVariants.{TooFewFields, Malformed, OutOfLimits, Reversed, NoCommand}
 use mathlib.Core.Path.{◌≡◌, refl, sym, ap, ◌∙◌}
 use mathlib.Core.Bool.{Bool, true, false, true≢false}
 use mathlib.Core.Logic.{⊎_elim}
@@ -14,9 +16,7 @@ use Rattle.octets.specs.Sets.{has_bit}
 use Rattle.field.specs.declared.Dialect.{Dialect}
 use Rattle.field.specs.declared.Limits.{Limits}
 use Rattle.field.specs.declared.Dialect.TheVariants.{Rising, Wrapping}
-use Rattle.field.specs.declared.Answer.TheVariants.{Values, Refused}
-use Rattle.field.specs.declared.Names.TheVariants.{None}
-use Rattle.field.specs.declared.element.Element.TheVariants.{Range}
+use Rattle.field.specs.declared.Names.TheVariants as names
 use Rattle.field.specs.Limits.{minute_limits, hour_limits, day_limits, month_limits, weekday_limits, in_dialect}
 use Rattle.field.specs.Fields.{read_field}
 use Rattle.field.specs.FirstDialect.{first_field}
@@ -26,16 +26,18 @@ use Rattle.field.specs.Written.{star_set, field_text, is_field}
 use Rattle.field.specs.Computing.{writing}
 use Rattle.field.proofs.UsualLimits.{bit-value}
 use Rattle.field.proofs.Theorems.{Accepted, values-members, set-fits, Within, set-within, RefusedIn, field-wraps, Usual, minute-usual, hour-usual, day-usual, month-usual, weekday-usual, dialect-usual, Shortest, shortest-step, plain-star, field-proper, field_back, Plain, first-dialect-same, minute-plain, hour-plain, day-plain, month-plain, weekday-plain, FieldByte, Begins, is_malformed, field-joined, RisesBelow, EachBelow, form-in-both, same-in-both, minute-sunday, hour-sunday, day-sunday, month-sunday, weekday-sunday}
+use Rattle.field.specs.Elements.{from_to}
+use Rattle.field.specs.Judgement.{refuses, means}
 
 -- ---- the second dialect, in each field
 
 -- field-wraps: no 7
 pub wraps-used : (column : ℕ) (s : List ℕ) {at : ℕ}
-    → (read_field (in_dialect Wrapping minute_limits) column s ≡ Refused 7 at → ⊥)
-    × (read_field (in_dialect Wrapping hour_limits) column s ≡ Refused 7 at → ⊥)
-    × (read_field (in_dialect Wrapping day_limits) column s ≡ Refused 7 at → ⊥)
-    × (read_field (in_dialect Wrapping month_limits) column s ≡ Refused 7 at → ⊥)
-    × (read_field (in_dialect Wrapping weekday_limits) column s ≡ Refused 7 at → ⊥)
+    → (read_field (in_dialect Wrapping minute_limits) column s ≡ refuses Reversed at → ⊥)
+    × (read_field (in_dialect Wrapping hour_limits) column s ≡ refuses Reversed at → ⊥)
+    × (read_field (in_dialect Wrapping day_limits) column s ≡ refuses Reversed at → ⊥)
+    × (read_field (in_dialect Wrapping month_limits) column s ≡ refuses Reversed at → ⊥)
+    × (read_field (in_dialect Wrapping weekday_limits) column s ≡ refuses Reversed at → ⊥)
 unfolding in_dialect
 wraps-used column s = (
   field-wraps (in_dialect Wrapping minute_limits) refl column s,
@@ -46,8 +48,8 @@ wraps-used column s = (
 )
 
 -- field-proper, field_back: what the second reads is written, and its text is read to the same in the first; any set and flag
-pub back-used : (column : ℕ) (s : List ℕ) {set : ℕ} {star : Bool} → read_field (in_dialect Wrapping weekday_limits) column s ≡ Values set star
-    → read_field weekday_limits 1 (field_text weekday_limits set star) ≡ Values set star
+pub back-used : (column : ℕ) (s : List ℕ) {set : ℕ} {star : Bool} → read_field (in_dialect Wrapping weekday_limits) column s ≡ means set star
+    → read_field weekday_limits 1 (field_text weekday_limits set star) ≡ means set star
 unfolding in_dialect
 back-used column s {set} {star} e = field_back weekday_limits weekday-usual Rising 1 set star (field-proper weekday_limits weekday-usual Wrapping column s e)
 
@@ -69,13 +71,13 @@ first-used column s = (
 -- ---- sets
 
 -- set-within, set-fits: Sunday is bit 0 in both dialects, so a weekday has no bit 7
-pub sunday-used : (d : Dialect) (column : ℕ) (s : List ℕ) {set : ℕ} {star : Bool} → read_field (in_dialect d weekday_limits) column s ≡ Values set star → set < 128
+pub sunday-used : (d : Dialect) (column : ℕ) (s : List ℕ) {set : ℕ} {star : Bool} → read_field (in_dialect d weekday_limits) column s ≡ means set star → set < 128
 unfolding in_dialect
 sunday-used Rising column s e = omega (arith, set-fits weekday_limits weekday-usual column s e)
 sunday-used Wrapping column s e = omega (arith, set-fits (in_dialect Wrapping weekday_limits) (dialect-usual weekday_limits weekday-usual Wrapping) column s e)
 
 -- set-within: no day 0, and no month 0
-no_zero : (l : Limits) → Usual l → 1 ≤ l.first → (column : ℕ) (s : List ℕ) {set : ℕ} {star : Bool} → read_field l column s ≡ Values set star → has_bit set 0 ≡ false
+no_zero : (l : Limits) → Usual l → 1 ≤ l.first → (column : ℕ) (s : List ℕ) {set : ℕ} {star : Bool} → read_field l column s ≡ means set star → has_bit set 0 ≡ false
 no_zero l u from column s {set} e = go (has_bit set 0) refl
   where
     go : (b : Bool) → has_bit set 0 ≡ b → b ≡ false
@@ -86,10 +88,10 @@ no_zero l u from column s {set} e = go (has_bit set 0) refl
     go false p = refl
 
 pub zero-used : (column : ℕ) (s : List ℕ) {set : ℕ} {star : Bool}
-    → (read_field day_limits column s ≡ Values set star → has_bit set 0 ≡ false)
-    × (read_field (in_dialect Wrapping day_limits) column s ≡ Values set star → has_bit set 0 ≡ false)
-    × (read_field month_limits column s ≡ Values set star → has_bit set 0 ≡ false)
-    × (read_field (in_dialect Wrapping month_limits) column s ≡ Values set star → has_bit set 0 ≡ false)
+    → (read_field day_limits column s ≡ means set star → has_bit set 0 ≡ false)
+    × (read_field (in_dialect Wrapping day_limits) column s ≡ means set star → has_bit set 0 ≡ false)
+    × (read_field month_limits column s ≡ means set star → has_bit set 0 ≡ false)
+    × (read_field (in_dialect Wrapping month_limits) column s ≡ means set star → has_bit set 0 ≡ false)
 unfolding in_dialect
 zero-used column s = (
   (λ e. no_zero day_limits day-usual (omega arith) column s e),
@@ -100,7 +102,7 @@ zero-used column s = (
 
 -- values-members: `23-0/9999` in the second dialect, for each hour
 pub members-used : (v : ℕ) → v < 24
-    → is_in v (element_bits (in_dialect Wrapping hour_limits) (Range 23 0 9999)) ≡ is_in_range (in_dialect Wrapping hour_limits) 23 0 9999 v
+    → is_in v (element_bits (in_dialect Wrapping hour_limits) (from_to 23 0 9999)) ≡ is_in_range (in_dialect Wrapping hour_limits) 23 0 9999 v
 unfolding in_dialect
 members-used v h =
     values-members (in_dialect Wrapping hour_limits) (dialect-usual hour_limits hour-usual Wrapping)
@@ -146,22 +148,23 @@ again-star (suc n) (x ∷ a) h = h
 
 -- field-joined: a list of any number of elements that are accepted is accepted, and gives the same set; one that is refused is refused at the first
 module _ (l : Limits) (a : List ℕ) (list : is_star a ≡ false) where
-  again-read : {set : ℕ} → ((column : ℕ) → read_field l column a ≡ Values set false) → (n column : ℕ) → read_field l column (again n a) ≡ Values set false
+  again-read : {set : ℕ} → ((column : ℕ) → read_field l column a ≡ means set false) → (n column : ℕ) → read_field l column (again n a) ≡ means set false
   again-read e zero column = e column
   again-read {set} e (suc n) column =
       field-joined l column a (again n a) list (again-star n a list)
-      ∙ rw (e column, again-read e n (column + length a + 1)) (ap (λ (x : ℕ). Values x false) (or_self set))
+      ∙ rw (e column, again-read e n (column + length a + 1)) (ap (λ (x : ℕ). means x false) (or_self set))
 
-  again-malformed : ((column : ℕ) → read_field l column a ≡ Refused 5 column) → (n column : ℕ) → read_field l column (again n a) ≡ Refused 5 column
+  again-malformed : ((column : ℕ) → read_field l column a ≡ refuses Malformed column) → (n column : ℕ) → read_field l column (again n a) ≡ refuses Malformed column
+  unfolding number_of
   again-malformed e zero column = e column
   again-malformed e (suc n) column = field-joined l column a (again n a) list (again-star n a list) ∙ rw (e column) refl
 
 -- in each dialect: hours over midnight, and weekdays by names
 pub again-used : (n column : ℕ)
-    → (read_field (in_dialect Wrapping hour_limits) column (again n (text "22-1")) ≡ Values 12582915 false)
-    × (read_field weekday_limits column (again n (text "Fri-sUN")) ≡ Values 97 false)
-    × (read_field (in_dialect Wrapping weekday_limits) column (again n (text "Fri-sUN")) ≡ Values 97 false)
-    × (read_field (in_dialect Wrapping minute_limits) column (again n (text "+")) ≡ Refused 5 column)
+    → (read_field (in_dialect Wrapping hour_limits) column (again n (text "22-1")) ≡ means 12582915 false)
+    × (read_field weekday_limits column (again n (text "Fri-sUN")) ≡ means 97 false)
+    × (read_field (in_dialect Wrapping weekday_limits) column (again n (text "Fri-sUN")) ≡ means 97 false)
+    × (read_field (in_dialect Wrapping minute_limits) column (again n (text "+")) ≡ refuses Malformed column)
 unfolding writing is_star
 again-used n column = (
   again-read (in_dialect Wrapping hour_limits) (text "22-1") refl (λ c. refl) n column,
@@ -171,17 +174,18 @@ again-used n column = (
 )
 
 -- the first refusal stands: after any number of good elements, at its column
-pub refused-used : (column : ℕ) (a : List ℕ) {set : ℕ} → is_star a ≡ false → read_field (in_dialect Wrapping hour_limits) column a ≡ Values set false
-    → read_field (in_dialect Wrapping hour_limits) column (a ++ 44 ∷ text "24,1/2") ≡ Refused 5 column
-unfolding writing is_star
+pub refused-used : (column : ℕ) (a : List ℕ) {set : ℕ} → is_star a ≡ false → read_field (in_dialect Wrapping hour_limits) column a ≡ means set false
+    → read_field (in_dialect Wrapping hour_limits) column (a ++ 44 ∷ text "24,1/2") ≡ refuses Malformed column
+unfolding writing is_star number_of
 refused-used column a h e = field-joined (in_dialect Wrapping hour_limits) column a (text "24,1/2") h refl ∙ rw e refl
 
-late : (is_star (text "24,1-2/0") ≡ false) × ((c : ℕ) → read_field (in_dialect Wrapping hour_limits) c (text "24,1-2/0") ≡ Refused 6 c)
+late : (is_star (text "24,1-2/0") ≡ false) × ((c : ℕ) → read_field (in_dialect Wrapping hour_limits) c (text "24,1-2/0") ≡ refuses OutOfLimits c)
 unfolding writing is_star
 late = (refl, λ c. refl)
 
-pub sixth-used : (column : ℕ) (a : List ℕ) {set : ℕ} → is_star a ≡ false → read_field (in_dialect Wrapping hour_limits) column a ≡ Values set false
-    → read_field (in_dialect Wrapping hour_limits) column (a ++ 44 ∷ text "24,1-2/0") ≡ Refused 6 (column + length a + 1)
+pub sixth-used : (column : ℕ) (a : List ℕ) {set : ℕ} → is_star a ≡ false → read_field (in_dialect Wrapping hour_limits) column a ≡ means set false
+    → read_field (in_dialect Wrapping hour_limits) column (a ++ 44 ∷ text "24,1-2/0") ≡ refuses OutOfLimits (column + length a + 1)
+unfolding number_of
 sixth-used column a h e =
     field-joined (in_dialect Wrapping hour_limits) column a (text "24,1-2/0") h late.0 ∙ rw (e, late.1 (column + length a + 1)) refl
 
@@ -209,7 +213,7 @@ both_used column s = (
 )
 
 -- what rises and stays below: the last value; not a range that falls, nor 7
-below-is : EachBelow hour_limits (split 44 (text "0-23/9,23")) × (RisesBelow hour_limits (Range 23 0 1) → ⊥) × (RisesBelow weekday_limits (Range 5 7 1) → ⊥) × (RisesBelow hour_limits (Range 24 24 1) → ⊥)
+below-is : EachBelow hour_limits (split 44 (text "0-23/9,23")) × (RisesBelow hour_limits (from_to 23 0 1) → ⊥) × (RisesBelow weekday_limits (from_to 5 7 1) → ⊥) × (RisesBelow hour_limits (from_to 24 24 1) → ⊥)
 unfolding writing
 below-is = (
   ((omega arith, omega arith), ((omega arith, omega arith), tt)),
@@ -238,10 +242,11 @@ not_within = (
 
 -- a refusal below the first number and above the last, past the last column, and 7 where ranges wrap
 not-refused :
-    (RefusedIn 5 8 (Unit {0}) 10 4 1 → ⊥)
-    × (RefusedIn 5 8 (Unit {0}) 10 9 1 → ⊥)
-    × (RefusedIn 5 8 (Unit {0}) 10 5 11 → ⊥)
-    × (RefusedIn 5 8 ⊥ 10 7 1 → ⊥)
+    (RefusedIn 5 8 (Unit {0}) 10 TooFewFields 1 → ⊥)
+    × (RefusedIn 5 8 (Unit {0}) 10 NoCommand 1 → ⊥)
+    × (RefusedIn 5 8 (Unit {0}) 10 Malformed 11 → ⊥)
+    × (RefusedIn 5 8 ⊥ 10 Reversed 1 → ⊥)
+unfolding number_of
 not-refused = ((λ r. omega (arith, r.from)), (λ r. omega (arith, r.to)), (λ r. omega (arith, r.inside)), (λ r. r.rising refl))
 
 -- a step that gives another set, and one that isn't the least
@@ -250,7 +255,7 @@ unfolding writing
 not-shortest = ((λ h. omega (arith, h.same)), (λ h. h.none 7 (omega arith) (omega arith) refl), (λ h. omega (arith, h.some)))
 
 -- limits past a word, and ranges that wrap in the first dialect
-not-usual : Usual (record { first = 0; last = 64; bits = 64; names = None; wraps = false }) → ⊥
+not-usual : Usual (record { first = 0; last = 64; bits = 64; names = names.None; wraps = false }) → ⊥
 not-usual u = omega (arith, u.word)
 
 not_plain : Plain (in_dialect Wrapping hour_limits) → ⊥

@@ -1,5 +1,6 @@
 -- In the first dialect a field is read as it was before there was a second.
 -- Assumes nothing.
+use Rattle.std.specs.Prelude.{Option, Some, None, Ok, Err, Result}
 use mathlib.Core.Path.{◌≡◌, refl, sym, ap, ◌∙◌}
 use mathlib.Core.Bool.{Bool, true, false, cond, not, ◌&&◌, ◌||◌, and-true, or-true}
 use mathlib.Core.List.{List, [], ◌∷◌}
@@ -13,18 +14,16 @@ use mathlib.Mathlib.Data.Bool.Basic.{or-eq-false-eq-eq-false-and-eq-false}
 use Rattle.octets.specs.Sets.{put}
 use Rattle.field.specs.declared.Dialect.TheVariants.{Rising}
 use Rattle.field.specs.declared.Limits.{Limits}
-use Rattle.field.specs.declared.Answer.{Answer}
-use Rattle.field.specs.declared.Answer.TheVariants.{Values, Refused}
+use Rattle.field.specs.declared.Allowed.{Allowed}
+use Rattle.field.specs.declared.Fault.{Fault}
 use Rattle.field.specs.declared.element.Element.{Element}
-use Rattle.field.specs.declared.element.Element.TheVariants.{Range, Malformed}
 use Rattle.field.specs.Limits.{minute_limits, hour_limits, day_limits, month_limits, weekday_limits, in_dialect}
 use Rattle.field.specs.Parts.{before, after, split}
-use Rattle.field.specs.declared.number.Number.TheVariants.{Value}
 use Rattle.field.specs.Names.{is_sunday}
 use Rattle.field.specs.Elements.{end_of, upper_of, after_dash, element_of}
 use Rattle.field.specs.Values.{values_of, range_of, bit_of, including}
 use Rattle.field.specs.Refusals.{out_of_limits, reversed, step_zero}
-use Rattle.field.specs.Judgement.{outside, judged}
+use Rattle.field.specs.Judgement.{refuses, means, outside, judged}
 use Rattle.field.specs.Fields.{are_elements, judged_all, list_field, star_element, star_field, read_field}
 use Rattle.field.specs.Members.{is_in}
 use Rattle.field.specs.FirstDialect.{first_bit, first_including, first_upper, first_after_dash, first_element, first_judged, are_first, first_judged_all, first_list, first_field}
@@ -61,8 +60,8 @@ module _ (l : Limits) (p : Plain l) where
   upper_first : (low high : List ℕ) → upper_of l low high ≡ first_upper l.names low high
   unfolding upper_of first_upper
   upper_first low high =
-      ap (λ (w : Bool). cond ((is_sunday l.names high && not (is_sunday l.names low)) && not w) (Value 7) (end_of l.names high)) p.rises
-      ∙ ap (λ (t : Bool). cond t (Value 7) (end_of l.names high)) (and-true (is_sunday l.names high && not (is_sunday l.names low)))
+      ap (λ (w : Bool). cond ((is_sunday l.names high && not (is_sunday l.names low)) && not w) (Some 7) (end_of l.names high)) p.rises
+      ∙ ap (λ (t : Bool). cond t (Some 7) (end_of l.names high)) (and-true (is_sunday l.names high && not (is_sunday l.names low)))
 
   dash-first : (low s : List ℕ) → after_dash l low s ≡ first_after_dash l.names low s
   unfolding after_dash first_after_dash
@@ -72,34 +71,34 @@ module _ (l : Limits) (p : Plain l) where
   unfolding element_of first_element
   element-first s = rw (dash-first (before 45 s) (after 45 s))
 
-  judged-first : (column : ℕ) (a : Answer) (e : Element) → judged l column a e ≡ first_judged l column a e
+  judged-first : (column : ℕ) (a : Result Allowed Fault) (e : Option Element) → judged l column a e ≡ first_judged l column a e
   unfolding judged first_judged range_of
-  judged-first column (Refused number at) e = refl
-  judged-first column (Values set star) Malformed = refl
-  judged-first column (Values set star) (Range low high step) =
-      go (outside l low || outside l high) (ltb high low) (eqb step 0) refl refl refl
+  judged-first column (Err fault) e = refl
+  judged-first column (Ok v) None = refl
+  judged-first column (Ok y) (Some w) =
+      go (outside l w.low || outside l w.high) (ltb w.high w.low) (eqb w.step 0) refl refl refl
     where
-      off : (other : Answer) → cond (not l.wraps) (Refused reversed column) other ≡ Refused reversed column
-      off other = ap (λ (w : Bool). cond (not w) (Refused reversed column) other) p.rises
+      off : (other : Result Allowed Fault) → cond (not l.wraps) (refuses reversed column) other ≡ refuses reversed column
+      off other = ap (λ (w : Bool). cond (not w) (refuses reversed column) other) p.rises
 
-      here : outside l high ≡ false → ltb high low ≡ false → eqb step 0 ≡ false
-          → including l set (range_of l low high step) ≡ first_including l set (values_of low high step)
+      here : outside l w.high ≡ false → ltb w.high w.low ≡ false → eqb w.step 0 ≡ false
+          → including l y.set (range_of l w.low w.high w.step) ≡ first_including l y.set (values_of w.low w.high w.step)
       here o r z =
-          let order = ltb-false high low r in
-          ap (λ (last : ℕ). including l set (values_of low last step)) (last-rising l low high order)
-          ∙ including-first set (values_of low high step)
+          let order = ltb-false w.high w.low r in
+          ap (λ (last : ℕ). including l y.set (values_of w.low last w.step)) (last-rising l w.low w.high order)
+          ∙ including-first y.set (values_of w.low w.high w.step)
           (λ v e.
-          let q = in-range low high step v (sym (steps-members low high step v order (let n = eqb-false step 0 z in omega (arith, n))) ∙ e) in
-          omega (arith, q.1, (inside l high o).1))
+          let q = in-range w.low w.high w.step v (sym (steps-members w.low w.high w.step v order (let n = eqb-false w.step 0 z in omega (arith, n))) ∙ e) in
+          omega (arith, q.1, (inside l w.high o).1))
 
-      go : (o r z : Bool) → (outside l low || outside l high) ≡ o → ltb high low ≡ r → eqb step 0 ≡ z
-          → cond o (Refused out_of_limits column) (cond (r && not l.wraps) (Refused reversed column) (cond z (Refused step_zero column) (Values (including l set (range_of l low high step)) star)))
-          ≡ cond o (Refused out_of_limits column) (cond r (Refused reversed column) (cond z (Refused step_zero column) (Values (first_including l set (values_of low high step)) star)))
+      go : (o r z : Bool) → (outside l w.low || outside l w.high) ≡ o → ltb w.high w.low ≡ r → eqb w.step 0 ≡ z
+          → cond o (refuses out_of_limits column) (cond (r && not l.wraps) (refuses reversed column) (cond z (refuses step_zero column) (means (including l y.set (range_of l w.low w.high w.step)) y.star)))
+          ≡ cond o (refuses out_of_limits column) (cond r (refuses reversed column) (cond z (refuses step_zero column) (means (first_including l y.set (values_of w.low w.high w.step)) y.star)))
       go true r z a b c = refl
-      go false true z a b c = off (cond z (Refused step_zero column) (Values (including l set (range_of l low high step)) star))
+      go false true z a b c = off (cond z (refuses step_zero column) (means (including l y.set (range_of l w.low w.high w.step)) y.star))
       go false false true a b c = refl
       go false false false a b c =
-          ap (λ (x : ℕ). Values x star) (here ((or-eq-false-eq-eq-false-and-eq-false (outside l low) (outside l high)).0 a).1 b c)
+          ap (λ (x : ℕ). means x y.star) (here ((or-eq-false-eq-eq-false-and-eq-false (outside l w.low) (outside l w.high)).0 a).1 b c)
 
   -- ---- a field
 
@@ -108,21 +107,21 @@ module _ (l : Limits) (p : Plain l) where
   are-first [] = refl
   are-first (s ∷ ps) = rw (element-first s, are-first ps)
 
-  all_first : (column : ℕ) (a : Answer) (ps : List (List ℕ)) → judged_all l column a ps ≡ first_judged_all l column a ps
+  all_first : (column : ℕ) (a : Result Allowed Fault) (ps : List (List ℕ)) → judged_all l column a ps ≡ first_judged_all l column a ps
   unfolding judged_all first_judged_all
   all_first column a [] = refl
   all_first column a (s ∷ ps) =
-      ap (λ (b : Answer). judged_all l (column + length s + 1) b ps) (ap (judged l column a) (element-first s) ∙ judged-first column a (first_element l.names s))
+      ap (λ (b : Result Allowed Fault). judged_all l (column + length s + 1) b ps) (ap (judged l column a) (element-first s) ∙ judged-first column a (first_element l.names s))
       ∙ all_first (column + length s + 1) (first_judged l column a (first_element l.names s)) ps
 
   list-first : (column : ℕ) (s : List ℕ) → list_field l column s ≡ first_list l column s
   unfolding list_field first_list
-  list-first column s = rw (are-first (split 44 s), all_first column (Values 0 false) (split 44 s))
+  list-first column s = rw (are-first (split 44 s), all_first column (means 0 false) (split 44 s))
 
   plain-first : (column : ℕ) (s : List ℕ) → read_field l column s ≡ first_field l column s
   unfolding read_field star_field first_field
   plain-first column [] = refl
-  plain-first column (b ∷ s) = rw (judged-first column (Values 0 true) (star_element l s), list-first column (b ∷ s))
+  plain-first column (b ∷ s) = rw (judged-first column (means 0 true) (star_element l s), list-first column (b ∷ s))
 
   -- a field in the first dialect
   pub first-dialect-same : (column : ℕ) (s : List ℕ) → read_field (in_dialect Rising l) column s ≡ first_field l column s

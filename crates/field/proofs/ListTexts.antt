@@ -1,5 +1,6 @@
 -- Fields that aren't flagged: the text of values is read as the set that they build, and a set that was read is built by its values.
 -- Assumes nothing.
+use Rattle.std.specs.Prelude.{Option, None, Some}
 use mathlib.Core.Path.{◌≡◌, refl, sym, ap, ◌∙◌}
 use mathlib.Core.Bool.{Bool, true, false, cond, ◌&&◌, ◌||◌, false≢true, and-false, or-false, or-true}
 use mathlib.Core.List.{List, [], ◌∷◌, ◌++◌, map}
@@ -17,13 +18,11 @@ use Rattle.octets.proofs.Each.{Each, each-so}
 use Rattle.octets.proofs.Digits.{number-bytes, number-some}
 use Rattle.octets.proofs.Sets.{none_has, same_bits}
 use Rattle.field.specs.declared.Limits.{Limits}
-use Rattle.field.specs.declared.Answer.TheVariants.{Values}
 use Rattle.field.specs.declared.element.Element.{Element}
-use Rattle.field.specs.declared.element.Element.TheVariants.{Range, Malformed}
 use Rattle.field.specs.Parts.{split}
-use Rattle.field.specs.Elements.{is_element, element_of}
+use Rattle.field.specs.Elements.{from_to, is_element, element_of}
 use Rattle.field.specs.Values.{every_step, values_of, last_of, range_of, bit_of, including}
-use Rattle.field.specs.Judgement.{outside, judged}
+use Rattle.field.specs.Judgement.{means, outside, judged}
 use Rattle.field.specs.Fields.{are_elements, judged_all, list_field, star_element, read_field}
 use Rattle.field.specs.Members.{is_in, elements_of, element_bits, bits_of}
 use Rattle.field.specs.Written.{having, members, after_commas, list_text}
@@ -97,17 +96,17 @@ module _ (l : Limits) (u : Usual l) where
   small : (vs : List ℕ) → Inside l vs → Each (λ (v : ℕ). v < 100) vs
   small vs h = each-so _ _ (λ v i. omega (arith, i.1, u.word, u.within)) vs h
 
-  judged-one : (column set v : ℕ) → l.first ≤ v → v < l.bits → judged l column (Values set false) (Range v v 1) ≡ Values (put set (bit_of l v)) false
+  judged-one : (column set v : ℕ) → l.first ≤ v → v < l.bits → judged l column (means set false) (from_to v v 1) ≡ means (put set (bit_of l v)) false
   unfolding judged outside last_of values_of every_step including range_of
   judged-one column set v h k =
       rw (le-ltb v l.first h, le-ltb l.last v (omega (arith, u.within)), le-ltb v v (omega arith), sub_self v)
 
-  judged-list : (column set : ℕ) (vs : List ℕ) → Inside l vs → judged_all l column (Values set false) (map number_text vs) ≡ Values (including l set vs) false
+  judged-list : (column set : ℕ) (vs : List ℕ) → Inside l vs → judged_all l column (means set false) (map number_text vs) ≡ means (including l set vs) false
   unfolding judged_all including
   judged-list column set [] h = refl
   judged-list column set (v ∷ vs) h =
       ap (λ (a : _). judged_all l (column + length (number_text v) + 1) a (map number_text vs))
-      (ap (judged l column (Values set false)) (element-back l v (omega (arith, h.0.1, u.word, u.within))) ∙ judged-one column set v h.0.0 h.0.1)
+      (ap (judged l column (means set false)) (element-back l v (omega (arith, h.0.1, u.word, u.within))) ∙ judged-one column set v h.0.0 h.0.1)
       ∙ judged-list (column + length (number_text v) + 1) (put set (bit_of l v)) vs h.1
 
   are-elements : (vs : List ℕ) → Inside l vs → are_elements l (map number_text vs) ≡ true
@@ -126,7 +125,7 @@ module _ (l : Limits) (u : Usual l) where
     unfolding list_text
     list-begins = from-digit column (number_text v) (after_commas vs) (number-some v) (number-bytes v (small (v ∷ vs) h).0)
 
-    pub list_back : read_field l column (list_text (v ∷ vs)) ≡ Values (including l 0 (v ∷ vs)) false
+    pub list_back : read_field l column (list_text (v ∷ vs)) ≡ means (including l 0 (v ∷ vs)) false
     unfolding list_field
     list_back =
         list-begins ∙ rw (list-parts v vs (small (v ∷ vs) h), are-elements (v ∷ vs) h) (judged-list column 0 (v ∷ vs) h)
@@ -134,14 +133,14 @@ module _ (l : Limits) (u : Usual l) where
   -- ---- a set that was read
 
   -- the first value of the first element
-  occupied : (es : List Element) → 1 ≤ length es → accepted.Each l es → (v : ℕ) × (l.first ≤ v) × (v ≤ l.last) × (is_in (bit_of l v) (bits_of l es) ≡ true)
+  occupied : (es : List (Option Element)) → 1 ≤ length es → accepted.Each l es → (v : ℕ) × (l.first ≤ v) × (v ≤ l.last) × (is_in (bit_of l v) (bits_of l es) ≡ true)
   unfolding bits_of element_bits values_of every_step is_in range_of
   occupied [] h k = absurd (omega arith)
-  occupied (Malformed ∷ es) h k = absurd k.0
-  occupied (Range low high step ∷ es) h k =
-      (low, k.0.from, k.0.below, rw (eq-eqb (bit_of l low) (bit_of l low) refl))
+  occupied (None ∷ es) h k = absurd k.0
+  occupied (Some w ∷ es) h k =
+      (w.low, k.0.from, k.0.below, rw (eq-eqb (bit_of l w.low) (bit_of l w.low) refl))
 
-  elements-some : (column : ℕ) (s : List ℕ) {set : ℕ} {star : Bool} → read_field l column s ≡ Values set star → 1 ≤ length (elements_of l s)
+  elements-some : (column : ℕ) (s : List ℕ) {set : ℕ} {star : Bool} → read_field l column s ≡ means set star → 1 ≤ length (elements_of l s)
   unfolding elements_of read_field split
   elements-some column [] e = absurd (let z : ◌≡◌ {A = ℕ} 0 1 = cc in omega arith)
   elements-some column (b ∷ s) e = go (eqb b 42)
@@ -150,7 +149,7 @@ module _ (l : Limits) (u : Usual l) where
       go true = omega arith
       go false = omega arith
 
-  module _ (column : ℕ) (s : List ℕ) {set : ℕ} {star : Bool} (q : read_field l column s ≡ Values set star) where
+  module _ (column : ℕ) (s : List ℕ) {set : ℕ} {star : Bool} (q : read_field l column s ≡ means set star) where
     bit_kept : (n : ℕ) → n < l.bits → has_bit (including l 0 (members l set)) n ≡ has_bit set n
     unfolding members
     bit_kept n h =

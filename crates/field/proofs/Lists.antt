@@ -1,5 +1,6 @@
 -- Laws of a comma list, element by element: what is left to read always gives the same answer.
 -- Assumes nothing.
+use Rattle.std.specs.Prelude.{Result}
 use mathlib.Core.Path.{◌≡◌, refl, ◌∙◌}
 use mathlib.Core.Bool.{true, false, cond}
 use mathlib.Core.List.{List, [], ◌∷◌}
@@ -12,43 +13,43 @@ use borrow.Author.Tests.{lt-ltb, le-ltb}
 use Rattle.octets.specs.declared.class.Class.TheVariants.{Not}
 use Rattle.octets.specs.Runs.{run, skipped}
 use Rattle.field.specs.declared.Limits.{Limits}
-use Rattle.field.specs.declared.Answer.{Answer}
-use Rattle.field.specs.declared.Answer.TheVariants.{Values, Refused}
+use Rattle.field.specs.declared.Allowed.{Allowed}
+use Rattle.field.specs.declared.Fault.{Fault}
 use Rattle.field.specs.Parts.{contains, before, after, split}
 use Rattle.field.specs.Elements.{is_element, element_of}
 use Rattle.field.specs.Refusals.{malformed}
-use Rattle.field.specs.Judgement.{judged}
+use Rattle.field.specs.Judgement.{refuses, means, judged}
 use Rattle.field.specs.Fields.{are_elements, judged_all, list_field}
 use Rattle.field.proofs.Parts.{split-first}
 
 -- the answer once every part is known to be an element, and otherwise
-whole : Limits → ℕ → Answer → List (List ℕ) → Answer → Answer
+whole : Limits → ℕ → Result Allowed Fault → List (List ℕ) → Result Allowed Fault → Result Allowed Fault
 whole l column answer parts other = cond (are_elements l parts) (judged_all l column answer parts) other
 
-whole-next : (l : Limits) (column : ℕ) (answer : Answer) (p : List ℕ) (ps : List (List ℕ)) (other : Answer) → is_element (element_of l p) ≡ true
+whole-next : (l : Limits) (column : ℕ) (answer : Result Allowed Fault) (p : List ℕ) (ps : List (List ℕ)) (other : Result Allowed Fault) → is_element (element_of l p) ≡ true
     → whole l column answer (p ∷ ps) other ≡ whole l (column + length p + 1) (judged l column answer (element_of l p)) ps other
 unfolding whole are_elements judged_all
 whole-next l column answer p ps other e = rw e
 
-whole-other : (l : Limits) (column : ℕ) (answer : Answer) (p : List ℕ) (ps : List (List ℕ)) (other : Answer) → is_element (element_of l p) ≡ false
+whole-other : (l : Limits) (column : ℕ) (answer : Result Allowed Fault) (p : List ℕ) (ps : List (List ℕ)) (other : Result Allowed Fault) → is_element (element_of l p) ≡ false
     → whole l column answer (p ∷ ps) other ≡ other
 unfolding whole are_elements
 whole-other l column answer p ps other e = rw e
 
-whole-none : (l : Limits) (column : ℕ) (answer other : Answer) → whole l column answer [] other ≡ answer
+whole-none : (l : Limits) (column : ℕ) (answer other : Result Allowed Fault) → whole l column answer [] other ≡ answer
 unfolding whole are_elements judged_all
 whole-none l column answer other = refl
 
 module _ (l : Limits) (column : ℕ) (s : List ℕ) where
   -- the list from `at` on, with the answer so far
-  pub reading : ℕ → Answer → Answer
-  reading at answer = whole l (column + at) answer (split 44 (drop at s)) (Refused malformed column)
+  pub reading : ℕ → Result Allowed Fault → Result Allowed Fault
+  reading at answer = whole l (column + at) answer (split 44 (drop at s)) (refuses malformed column)
 
-  pub reading-starts : reading 0 (Values 0 false) ≡ list_field l column s
+  pub reading-starts : reading 0 (means 0 false) ≡ list_field l column s
   unfolding reading whole list_field
   reading-starts = rw (add-zero column)
 
-  module _ (at end : ℕ) (answer : Answer) (found : end ≡ skipped (Not 44) s at) where
+  module _ (at end : ℕ) (answer : Result Allowed Fault) (found : end ≡ skipped (Not 44) s at) where
     abbrev part : List ℕ
     part = take (end - at) (drop at s)
 
@@ -63,7 +64,7 @@ module _ (l : Limits) (column : ℕ) (s : List ℕ) where
     parts : split 44 (drop at s) ≡ part ∷ cond (contains 44 (drop at s)) (split 44 (after 44 (drop at s))) []
     parts = split-first 44 (drop at s) ∙ rw here
 
-    pub reading-other : is_element (element_of l part) ≡ false → reading at answer ≡ Refused malformed column
+    pub reading-other : is_element (element_of l part) ≡ false → reading at answer ≡ refuses malformed column
     unfolding reading
     reading-other e = rw parts (whole-other _ _ _ _ _ _ e)
 

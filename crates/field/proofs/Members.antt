@@ -1,6 +1,7 @@
 -- What a field's set has. `set-members`: a bit is set exactly if it is the bit of a value of one of the field's elements.
 -- `steps-members`: the values from low to high are those that are a multiple of the step after low.
 -- Assumes nothing.
+use Rattle.std.specs.Prelude.{Option, None, Some}
 use mathlib.Core.Path.{◌≡◌, refl, sym, ap, ◌∙◌}
 use mathlib.Core.Bool.{Bool, true, false, cond, ◌||◌, false≢true, and-false, or-false, or-true, or_assoc}
 use mathlib.Core.List.{List, [], ◌∷◌, ◌++◌, map}
@@ -13,15 +14,14 @@ use borrow.Author.Tests.{ltb-false, le-leb, lt-leb, eq-eqb, ne_eqb, eqb-true, eq
 use Rattle.octets.specs.Sets.{has_bit, with_bit, put}
 use Rattle.octets.proofs.Sets.{none_has, with-has, with-keeps}
 use Rattle.field.specs.declared.Limits.{Limits}
-use Rattle.field.specs.declared.Answer.TheVariants.{Values}
 use Rattle.field.specs.declared.element.Element.{Element}
-use Rattle.field.specs.declared.element.Element.TheVariants.{Range, Malformed}
 use Rattle.field.specs.Values.{values_of, range_of, bit_of, including}
 use Rattle.field.specs.Fields.{read_field}
 use Rattle.field.specs.Members.{is_in, is_step, elements_of, element_bits, bits_of}
 use Rattle.field.proofs.Steps.{remaining, remaining-first, remaining-next, remaining-end}
 use Rattle.field.proofs.Accepted.{with_element, with_elements}
 use Rattle.field.proofs.Views.{read-values}
+use Rattle.field.specs.Judgement.{means}
 
 or_swap : (a b c : Bool) → (a || (b || c)) ≡ (b || (a || c))
 or_swap true true c = refl
@@ -113,12 +113,12 @@ module _ (n : ℕ) (h : n < 64) where
   in-append [] b = refl
   in-append (x ∷ a) b = rw (in-append a b) (sym (or_assoc (eqb x n) (is_in n a) (is_in n b)))
 
-  element-has : (l : Limits) (set : ℕ) (e : Element) → has_bit (with_element l set e) n ≡ (is_in n (element_bits l e) || has_bit set n)
+  element-has : (l : Limits) (set : ℕ) (e : Option Element) → has_bit (with_element l set e) n ≡ (is_in n (element_bits l e) || has_bit set n)
   unfolding element_bits is_in
-  element-has l set (Range low high step) = including-has l set (range_of l low high step)
-  element-has l set Malformed = refl
+  element-has l set (Some w) = including-has l set (range_of l w.low w.high w.step)
+  element-has l set None = refl
 
-  elements-have : (l : Limits) (set : ℕ) (es : List Element) → has_bit (with_elements l set es) n ≡ (is_in n (bits_of l es) || has_bit set n)
+  elements-have : (l : Limits) (set : ℕ) (es : List (Option Element)) → has_bit (with_elements l set es) n ≡ (is_in n (bits_of l es) || has_bit set n)
   unfolding bits_of is_in
   elements-have l set [] = refl
   elements-have l set (e ∷ es) =
@@ -127,7 +127,7 @@ module _ (n : ℕ) (h : n < 64) where
       (or_swap (is_in n (bits_of l es)) (is_in n (element_bits l e)) (has_bit set n)
       ∙ sym (or_assoc (is_in n (element_bits l e)) (is_in n (bits_of l es)) (has_bit set n)))
 
-  pub set-members : (l : Limits) (column : ℕ) (s : List ℕ) {set : ℕ} {star : Bool} → read_field l column s ≡ Values set star
+  pub set-members : (l : Limits) (column : ℕ) (s : List ℕ) {set : ℕ} {star : Bool} → read_field l column s ≡ means set star
       → has_bit set n ≡ is_in n (bits_of l (elements_of l s))
   set-members l column s q =
       ap (λ (x : ℕ). has_bit x n) (read-values l column s q).sets

@@ -1,5 +1,6 @@
 -- The two ends of a range, whatever their bytes: a number where it is one, and else a name; `sun` is 7 only above another day, and only where ranges don't wrap.
 -- Assumes nothing.
+use Rattle.std.specs.Prelude.{Some, None}
 use mathlib.Core.Path.{◌≡◌, refl}
 use mathlib.Core.Bool.{true, false, not, ◌&&◌, and-false}
 use mathlib.Core.List.{List, map}
@@ -9,8 +10,6 @@ use Rattle.octets.specs.Texts.{text}
 use Rattle.field.specs.declared.Limits.{Limits}
 use Rattle.field.specs.declared.Names.{Names}
 use Rattle.field.specs.declared.Names.TheVariants.{Weekdays}
-use Rattle.field.specs.declared.number.Number.TheVariants.{Value}
-use Rattle.field.specs.declared.number.Number.TheVariants as number
 use Rattle.field.specs.Numbers.{number_of}
 use Rattle.field.specs.Names.{lower, name_of, is_sunday}
 use Rattle.field.specs.Elements.{number_or, end_of, upper_of}
@@ -24,11 +23,11 @@ sunday-exact s = alike-exact s (text "sun")
 -- ---- an end
 
 module _ (names : Names) (s : List ℕ) where
-  pub end-named : number_of s ≡ number.Malformed → end_of names s ≡ name_of names s
+  pub end-named : number_of s ≡ None → end_of names s ≡ name_of names s
   unfolding end_of number_or
   end-named e = rw e refl
 
-  pub end-numbered : (n : ℕ) → number_of s ≡ Value n → end_of names s ≡ Value n
+  pub end-numbered : (n : ℕ) → number_of s ≡ Some n → end_of names s ≡ Some n
   unfolding end_of number_or
   end-numbered n e = rw e refl
 
@@ -41,7 +40,7 @@ module _ (l : Limits) (low high : List ℕ) where
   upper-wraps e = rw (e, and-false (is_sunday l.names high && not (is_sunday l.names low))) refl
 
   -- `sun` above another day
-  pub upper-week : l.wraps ≡ false → is_sunday l.names high ≡ true → is_sunday l.names low ≡ false → upper_of l low high ≡ Value 7
+  pub upper-week : l.wraps ≡ false → is_sunday l.names high ≡ true → is_sunday l.names low ≡ false → upper_of l low high ≡ Some 7
   unfolding upper_of
   upper-week e p q = rw (e, p, q) refl
 

@@ -1,5 +1,6 @@
 -- A name in any letter case, and no other bytes: what is read as a name is, in lower case, the name in that place of the row of names.
 -- Assumes nothing.
+use Rattle.std.specs.Prelude.{Some}
 use mathlib.Core.Path.{◌≡◌, refl}
 use mathlib.Core.Bool.{Bool, true, false, cond, ◌&&◌, and-eq-true_iff, false≢true}
 use mathlib.Core.List.{List, [], ◌∷◌, map}
@@ -9,8 +10,8 @@ use lib.Dec.{eqb, leb}
 use lib.ListN.{length, get_or}
 use borrow.Author.Tests.{eqb-true, eq-eqb, le-leb, lt-leb, leb-true}
 use Rattle.field.specs.declared.Names.{Names}
-use Rattle.field.specs.declared.Names.TheVariants.{None, Months, Weekdays}
-use Rattle.field.specs.declared.number.Number.TheVariants.{Value}
+use Rattle.field.specs.declared.Names.TheVariants.{Months, Weekdays}
+use Rattle.field.specs.declared.Names.TheVariants as names
 use Rattle.field.specs.Names.{lower, alike, month_names, weekday_names, named, name_of, is_sunday}
 
 -- the same in lower case
@@ -58,7 +59,7 @@ named-lower n (name ∷ names) s = rw (alike-lower s name, named-lower (suc n) n
 -- letter case doesn't matter, whatever the bytes
 pub name-any-case : (names : Names) (s : List ℕ) → (name_of names (map lower s) ≡ name_of names s) × (is_sunday names (map lower s) ≡ is_sunday names s)
 unfolding name_of is_sunday
-name-any-case None s = (refl, refl)
+name-any-case names.None s = (refl, refl)
 name-any-case Months s = (named-lower 1 month_names s, refl)
 name-any-case Weekdays s = (named-lower 0 weekday_names s, alike-lower s _)
 
@@ -69,21 +70,21 @@ pub record Named (first : ℕ) (names : List (List ℕ)) (s : List ℕ) (n : ℕ
   pub number : n ≡ first + place
   pub bytes : map lower s ≡ get_or names place []
 
-named-exact : (first : ℕ) (names : List (List ℕ)) (s : List ℕ) (n : ℕ) → named first names s ≡ Value n → Named first names s n
+named-exact : (first : ℕ) (names : List (List ℕ)) (s : List ℕ) (n : ℕ) → named first names s ≡ Some n → Named first names s n
 unfolding named
 named-exact first [] s n e = let z : ◌≡◌ {A = ℕ} 0 1 = cc in absurd (omega arith)
 named-exact first (name ∷ names) s n e = go (alike s name) refl e (named-exact (suc first) names s n)
   where
-    go : (t : Bool) → alike s name ≡ t → cond t (Value first) (named (suc first) names s) ≡ Value n → (named (suc first) names s ≡ Value n → Named (suc first) names s n)
+    go : (t : Bool) → alike s name ≡ t → cond t (Some first) (named (suc first) names s) ≡ Some n → (named (suc first) names s ≡ Some n → Named (suc first) names s n)
         → Named first (name ∷ names) s n
     go true p q later = let z : first ≡ n = cc in record { place = 0; within = omega arith; number = omega arith; bytes = (alike-exact s name).0 p }
     go false p q later = let r = later q in record { place = suc r.place; within = omega (arith, r.within); number = omega (arith, r.number); bytes = r.bytes }
 
 -- no other bytes are a name
-pub month-exact : (s : List ℕ) {n : ℕ} → name_of Months s ≡ Value n → Named 1 month_names s n
+pub month-exact : (s : List ℕ) {n : ℕ} → name_of Months s ≡ Some n → Named 1 month_names s n
 unfolding name_of
 month-exact s {n} e = named-exact 1 month_names s n e
 
-pub weekday-exact : (s : List ℕ) {n : ℕ} → name_of Weekdays s ≡ Value n → Named 0 weekday_names s n
+pub weekday-exact : (s : List ℕ) {n : ℕ} → name_of Weekdays s ≡ Some n → Named 0 weekday_names s n
 unfolding name_of
 weekday-exact s {n} e = named-exact 0 weekday_names s n e

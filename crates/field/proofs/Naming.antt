@@ -1,58 +1,63 @@
--- Laws of names.
+-- Laws of names: a name is the same bytes once both are in lower case, and a row of names is searched from its first.
 -- Assumes nothing.
-use mathlib.Core.Path.{◌≡◌, refl, sym, ap, ◌∙◌}
-use mathlib.Core.Bool.{true, false, cond, ◌&&◌, and-eq-true_iff, and-false}
-use mathlib.Core.List.{List, [], ◌∷◌}
-use Prim.Native.Nat.{ℕ, suc, ◌+◌, ◌≤◌, ◌<◌}
+use Rattle.std.specs.Prelude.{Some, None, IsTrue, ◌↔◌}
+use Rattle.std.proofs.lemmas.Bool.Decides.{nat_tests}
+use Rattle.std.specs.Char.{to_ascii_lowercase}
+use mathlib.Core.Path.{◌≡◌, refl, sym, ◌∙◌}
+use mathlib.Core.Bool.{Bool, true, false}
+use mathlib.Core.List.{List, [], ◌∷◌, map}
+use Prim.Native.Nat.{ℕ, zero, suc, ◌+◌, ◌<◌}
 use native.Mathlib.Omega.{arith}
 use native.Mathlib.Numerals.{add-one}
 use lib.ListN.{length, drop, get_or}
 use lib.Seq.{drop-cons, drop-length}
-use lib.Dec.{eqb, leb}
-use borrow.Author.Tests.{eq-eqb, ne_eqb, leb-true}
-use Rattle.field.specs.declared.number.Number.{Number}
-use Rattle.field.specs.declared.number.Number.TheVariants.{Value, Malformed}
 use Rattle.field.specs.Names.{lower, alike, named}
+use Rattle.field.specs.Inner.{InLower}
+use Rattle.field.proofs.NameTexts.{alike-exact}
 
--- a capital letter
-pub upper-le : (b : ℕ) → (leb 65 b && leb b 90) ≡ true → b ≤ 90
-upper-le b e = leb-true _ _ ((and-eq-true_iff (leb 65 b) (leb b 90)).0 e).1
+-- ---- std's test
 
-drop-none : (s : List ℕ) (i : ℕ) → i ≡ length s → drop i s ≡ []
-drop-none s i e = rw e (drop-length s)
+lower-same : (b : ℕ) → to_ascii_lowercase b ≡ lower b
+unfolding lower
+lower-same b = grind (arith, nat_tests)
 
--- a run of another length is no such name
-pub alike-other : (s name : List ℕ) → (length s ≡ length name → ⊥) → false ≡ alike s name
-unfolding alike
-alike-other [] [] h = absurd (h refl)
-alike-other (b ∷ s) (x ∷ name) h = rw (← alike-other s name (λ e. h (ap suc e))) (sym (and-false (eqb (lower b) x)))
-alike-other [] (x ∷ name) h = refl
-alike-other (b ∷ s) [] h = refl
+all-lower : (s : List ℕ) → map to_ascii_lowercase s ≡ map lower s
+all-lower [] = refl
+all-lower (b ∷ s) = rw (lower-same b, all-lower s)
 
--- letter by letter
-module _ (s name : List ℕ) (same : length s ≡ length name) where
-  pub alike-first : (i : ℕ) → i < length s → lower (get_or s i 0) ≡ get_or name i 0 → alike (drop i s) (drop i name) ≡ alike (drop (i + 1) s) (drop (i + 1) name)
-  unfolding alike
-  alike-first i h e =
-      let k : i < length name = omega arith in
-      rw (drop-cons s i 0 h, drop-cons name i 0 k, eq-eqb (lower (get_or s i 0)) (get_or name i 0) e, add-one i)
+pub matched : (s name : List ℕ) (r : Bool) → map lower name ≡ name → IsTrue r ↔ (map to_ascii_lowercase s ≡ map to_ascii_lowercase name)
+    → r ≡ alike s name
+matched s name r low h = go r (alike s name) h (alike-exact s name)
+  where
+    same : map lower s ≡ name → map to_ascii_lowercase s ≡ map to_ascii_lowercase name
+    same e = all-lower s ∙ e ∙ sym low ∙ sym (all-lower name)
 
-  pub alike-not : (i : ℕ) → i < length s → (lower (get_or s i 0) ≡ get_or name i 0 → ⊥) → alike (drop i s) (drop i name) ≡ false
-  unfolding alike
-  alike-not i h e =
-      let k : i < length name = omega arith in
-      rw (drop-cons s i 0 h, drop-cons name i 0 k, ne_eqb (lower (get_or s i 0)) (get_or name i 0) e)
+    back : map to_ascii_lowercase s ≡ map to_ascii_lowercase name → map lower s ≡ name
+    back e = sym (all-lower s) ∙ e ∙ all-lower name ∙ low
 
-  pub alike_end : (i : ℕ) → i ≡ length s → alike (drop i s) (drop i name) ≡ true
-  unfolding alike
-  alike_end i e = let k : i ≡ length name = omega arith in rw (drop-none s i e, drop-none name i k)
+    go : (r t : Bool) → IsTrue r ↔ (map to_ascii_lowercase s ≡ map to_ascii_lowercase name)
+        → (t ≡ true → map lower s ≡ name) × (map lower s ≡ name → t ≡ true) → r ≡ t
+    go true t h k = sym (k.1 (back (h.0 refl)))
+    go false false h k = refl
+    go false true h k = h.1 (same (k.0 refl))
 
--- a row of names, from its last to its first
-pub named_none : (s : List ℕ) (n : ℕ) → Malformed ≡ named n [] s
-unfolding named
-named_none s n = refl
+-- ---- a row of names
 
-pub named-next : (s : List ℕ) (n : ℕ) (name : List ℕ) (names : List (List ℕ)) {r other : Number} → r ≡ cond (alike s name) (Value n) other
-    → other ≡ named (suc n) names s → r ≡ named n (name ∷ names) s
-unfolding named
-named-next s n name names e f = e ∙ rw f
+pub in_lower : (names : List (List ℕ)) → InLower names → (i : ℕ) → i < length names → map lower (get_or names i []) ≡ get_or names i []
+in_lower [] h i k = absurd (omega arith)
+in_lower (name ∷ names) h zero k = cc
+in_lower (name ∷ names) h (suc i) k = in_lower names (cc) i (omega arith)
+
+module _ (first : ℕ) (names : List (List ℕ)) (s : List ℕ) (i : ℕ) where
+  pub named-hit : i < length names → alike s (get_or names i []) ≡ true → named (first + i) (drop i names) s ≡ Some (first + i)
+  unfolding named
+  named-hit h e = rw (drop-cons names i [] h, e)
+
+  pub named-miss : i < length names → alike s (get_or names i []) ≡ false
+      → named (first + i) (drop i names) s ≡ named (first + (i + 1)) (drop (i + 1) names) s
+  unfolding named
+  named-miss h e = let next : suc (first + i) ≡ first + suc i = omega arith in rw (drop-cons names i [] h, e, add-one i, next)
+
+  pub named-past : i ≡ length names → named (first + i) (drop i names) s ≡ None
+  unfolding named
+  named-past e = rw (e, drop-length names)

@@ -1,5 +1,6 @@
 -- A number's text is read as that number: alone, as an element, and in a comma list.
 -- Assumes nothing.
+use Rattle.std.specs.Prelude.{Some}
 use mathlib.Core.Path.{◌≡◌, refl, ap, ◌∙◌}
 use mathlib.Core.Bool.{Bool, true, false, cond}
 use mathlib.Core.List.{List, [], ◌∷◌, ◌++◌, map, append-nil}
@@ -15,25 +16,23 @@ use Rattle.octets.specs.Digits.{digit, number_text}
 use Rattle.octets.proofs.Each.{Each, each-so}
 use Rattle.octets.proofs.Digits.{number-bytes}
 use Rattle.field.specs.declared.Limits.{Limits}
-use Rattle.field.specs.declared.number.Number.TheVariants.{Value}
-use Rattle.field.specs.declared.element.Element.TheVariants.{Range}
 use Rattle.field.specs.Parts.{contains, before, after_each, split}
 use Rattle.field.specs.Numbers.{is_digit, are_digits, value_from, number_of}
-use Rattle.field.specs.Elements.{ranging, number_or, end_of, element_of}
+use Rattle.field.specs.Elements.{from_to, ranging, number_or, end_of, element_of}
 use Rattle.field.specs.Written.{after_commas, list_text}
 
-pub number-back : (n : ℕ) → n < 100 → number_of (number_text n) ≡ Value n
+pub number-back : (n : ℕ) → n < 100 → number_of (number_text n) ≡ Some n
 unfolding number_text number_of are_digits is_digit value_from
 number-back n h = go (ltb n 10) refl
   where
-    go : (t : Bool) → ltb n 10 ≡ t → number_of (cond t (digit n ∷ []) (digit (n / 10) ∷ digit (n % 10) ∷ [])) ≡ Value n
+    go : (t : Bool) → ltb n 10 ≡ t → number_of (cond t (digit n ∷ []) (digit (n / 10) ∷ digit (n % 10) ∷ [])) ≡ Some n
     go true e =
         let k = ltb-true n 10 e in
-        rw (le-leb 48 (48 + n) (omega arith), le-leb (48 + n) 57 (omega arith)) (ap Value (omega arith))
+        rw (le-leb 48 (48 + n) (omega arith), le-leb (48 + n) 57 (omega arith)) (ap Some (omega arith))
     go false e =
         rw
         (le-leb 48 (48 + n / 10) (omega arith), le-leb (48 + n / 10) 57 (omega arith), le-leb 48 (48 + n % 10) (omega arith), le-leb (48 + n % 10) 57 (omega arith))
-        (ap Value (omega arith))
+        (ap Some (omega arith))
 
 -- ---- bytes other than b
 
@@ -62,7 +61,7 @@ number-free b n k h = each-so _ _ (λ x d e. omega (arith, d.0, e)) (number_text
 
 -- ---- an element
 
-pub element-back : (l : Limits) (n : ℕ) → n < 100 → element_of l (number_text n) ≡ Range n n 1
+pub element-back : (l : Limits) (n : ℕ) → n < 100 → element_of l (number_text n) ≡ from_to n n 1
 unfolding element_of contains end_of number_or ranging
 element-back l n h =
     rw (le-ltb (run (Not 45) (number_text n)) (length (number_text n)) (omega (arith, free-run 45 (number_text n) (number-free 45 n (omega arith) h))), number-back n h)

@@ -1,17 +1,17 @@
 -- Laws of numbers read digit by digit: after each digit what is left says the same.
 -- Assumes nothing.
+use Rattle.std.specs.Prelude.{Some, None}
 use mathlib.Core.Path.{◌≡◌, refl}
 use mathlib.Core.Bool.{true, false, and-eq-true_iff}
 use mathlib.Core.List.{List}
 use Prim.Native.Nat.{ℕ, ◌+◌, ◌-◌, ◌*◌, ◌^◌, ◌≤◌, ◌<◌}
-use native.Mathlib.Nat.{pow-succ', pow-le-pow_right}
+use native.Mathlib.Nat.{pow-succ'}
 use native.Mathlib.Numerals.{add-one}
 use native.Mathlib.Omega.{arith}
 use lib.ListN.{length, drop, get_or}
 use lib.Seq.{drop-cons, drop-length}
 use lib.Dec.{leb}
 use borrow.Author.Tests.{leb-true, le-leb, lt-leb}
-use Rattle.field.specs.declared.number.Number.TheVariants.{Value, Malformed}
 use Rattle.field.specs.Numbers.{is_digit, are_digits, value_from, number_of}
 
 -- the reading of s so far: of s the bytes before `at` are digits, and their value is v
@@ -39,11 +39,6 @@ module _ (s : List ℕ) where
       record { within = omega arith; short = k; some = h; digits = refl; value = refl; small = omega arith }
 
   module _ (v at : ℕ) (r : Reading s v at) where
-    -- before the last digit
-    pub reading-room : at < length s → v < 1000
-    reading-room h =
-        omega (arith, r.small, pow-le-pow_right {n = 10} (omega arith) {i = at} {j = 3} (omega (arith, r.short)))
-
     pub reading-digit : at < length s → is_digit (get_or s at 0) ≡ true → Reading s (v * 10 + (get_or s at 0 - 48)) (at + 1)
     unfolding are_digits value_from
     reading-digit h e =
@@ -57,20 +52,20 @@ module _ (s : List ℕ) where
           small = rw (add-one at, pow-succ' 10 at) (omega (arith, r.small, d.from, d.to));
         }
 
-    pub reading-other : at < length s → is_digit (get_or s at 0) ≡ false → number_of s ≡ Malformed
+    pub reading-other : at < length s → is_digit (get_or s at 0) ≡ false → number_of s ≡ None
     unfolding are_digits number_of
     reading-other h e =
         rw (← r.digits, drop-cons s at 0 h, e, le-leb 1 (length s) r.some, le-leb (length s) 4 r.short)
 
-    pub reading-ends : at ≡ length s → number_of s ≡ Value v
+    pub reading-ends : at ≡ length s → number_of s ≡ Some v
     unfolding are_digits value_from number_of
     reading-ends e =
         rw (← r.digits, ← r.value, e, drop-length s, le-leb 1 (length s) r.some, le-leb (length s) 4 r.short)
 
-  pub no-number-empty : length s ≡ 0 → number_of s ≡ Malformed
+  pub no-number-empty : length s ≡ 0 → number_of s ≡ None
   unfolding number_of
   no-number-empty e = rw e
 
-  pub no-number-long : 4 < length s → number_of s ≡ Malformed
+  pub no-number-long : 4 < length s → number_of s ≡ None
   unfolding number_of
   no-number-long h = rw (lt-leb (length s) 4 h, le-leb 1 (length s) (omega arith))

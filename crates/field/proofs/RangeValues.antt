@@ -1,6 +1,7 @@
 -- The values of a field that is one range, by bits alone, in either dialect: it is accepted where both ends lie within the limits and the step isn't 0,
 -- and then has just the values that are a multiple of the step after its begin and no further than its end.
 -- Assumes nothing.
+use Rattle.std.specs.Prelude.{Some}
 use mathlib.Core.Path.{◌≡◌, refl, ap, ◌∙◌}
 use mathlib.Core.Bool.{Bool, true, false, cond, not, ◌&&◌, ◌||◌, or-false}
 use mathlib.Core.List.{List, ◌∷◌, ◌++◌, map}
@@ -15,13 +16,10 @@ use Rattle.octets.specs.Runs.{are_of}
 use Rattle.octets.specs.Sets.{has_bit}
 use Rattle.octets.proofs.Sets.{none_has}
 use Rattle.field.specs.declared.Limits.{Limits}
-use Rattle.field.specs.declared.Answer.TheVariants.{Values}
-use Rattle.field.specs.declared.element.Element.TheVariants.{Range}
 use Rattle.field.specs.Values.{range_of, bit_of, including}
-use Rattle.field.specs.declared.number.Number.TheVariants.{Value}
 use Rattle.field.specs.Numbers.{number_of}
-use Rattle.field.specs.Elements.{dash, slash, element_of}
-use Rattle.field.specs.Judgement.{outside, judged}
+use Rattle.field.specs.Elements.{from_to, dash, slash, element_of}
+use Rattle.field.specs.Judgement.{means, outside, judged}
 use Rattle.field.specs.Members.{is_in, is_step, distance, is_in_range, element_bits, is_star}
 use Rattle.field.specs.Fields.{comma, read_field}
 use Rattle.field.proofs.UsualLimits.{Usual}
@@ -85,7 +83,7 @@ module _ (l : Limits) (u : Usual l) {low high step : ℕ} (a : Accepted l low hi
     unfolding outside
     inside n h k = rw (le-ltb n l.first h, le-ltb l.last n k) refl
 
-    range-judged : (column : ℕ) → judged l column (Values 0 false) (Range low high step) ≡ Values (including l 0 (range_of l low high step)) false
+    range-judged : (column : ℕ) → judged l column (means 0 false) (from_to low high step) ≡ means (including l 0 (range_of l low high step)) false
     unfolding judged
     range-judged column =
         rw (inside low a.from a.below, inside high a.above a.to, not-reversed, ne_eqb step 0 (λ e. omega (arith, e, a.steps))) refl
@@ -99,14 +97,14 @@ module _ (l : Limits) (u : Usual l) {low high step : ℕ} (a : Accepted l low hi
         ∙ values-members l u a v h k
 
     -- a field that is such a range is accepted, and has exactly these values
-    pub range-values : (column : ℕ) (s : List ℕ) → is_star s ≡ false → are_of (Not comma) s ≡ true → element_of l s ≡ Range low high step
-        → (set : ℕ) × (read_field l column s ≡ Values set false) × ((v : ℕ) → l.first ≤ v → v < l.bits → has_bit set v ≡ is_in_range l low high step v)
+    pub range-values : (column : ℕ) (s : List ℕ) → is_star s ≡ false → are_of (Not comma) s ≡ true → element_of l s ≡ from_to low high step
+        → (set : ℕ) × (read_field l column s ≡ means set false) × ((v : ℕ) → l.first ≤ v → v < l.bits → has_bit set v ≡ is_in_range l low high step v)
     range-values column s p q e =
         (including l 0 (range_of l low high step), field-element l column s p q ∙ rw e (range-judged column), range-has)
 
     -- in any numbers
-    pub range-exact : (column : ℕ) (n m k : List ℕ) → number_of n ≡ Value low → number_of m ≡ Value high → number_of k ≡ Value step
-        → (set : ℕ) × (read_field l column (n ++ dash ∷ (m ++ slash ∷ k)) ≡ Values set false)
+    pub range-exact : (column : ℕ) (n m k : List ℕ) → number_of n ≡ Some low → number_of m ≡ Some high → number_of k ≡ Some step
+        → (set : ℕ) × (read_field l column (n ++ dash ∷ (m ++ slash ∷ k)) ≡ means set false)
         × ((v : ℕ) → l.first ≤ v → v < l.bits → has_bit set v ≡ is_in_range l low high step v)
     range-exact column n m k p q r =
         (including l 0 (range_of l low high step), range-text l column n m k p q r ∙ range-judged column, range-has)

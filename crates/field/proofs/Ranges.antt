@@ -11,13 +11,13 @@ use native.Mathlib.Omega.{arith}
 use lib.Dec.{ltb, leb, eqb}
 use borrow.Author.Tests.{ltb-true, ltb-false, lt-ltb, le-ltb, le-leb, lt-leb, eq-eqb, ne_eqb}
 use Rattle.field.specs.declared.Limits.{Limits}
-use Rattle.field.specs.declared.element.Element.TheVariants.{Range}
 use Rattle.field.specs.Values.{values_of, last_of, range_of, bit_of}
 use Rattle.field.specs.Members.{is_in, is_step, distance, is_in_range, element_bits}
 use Rattle.field.proofs.UsualLimits.{Usual}
 use Rattle.field.proofs.Accepted.{Accepted}
 use Rattle.field.proofs.Members.{steps-members}
 use Rattle.field.proofs.Steps.{last-rising, last-wrapping}
+use Rattle.field.specs.Elements.{from_to}
 
 -- ---- bits
 
@@ -107,7 +107,7 @@ module _ (l : Limits) (u : Usual l) {low high step : ℕ} (a : Accepted l low hi
             let h : low ≤ around l v = omega (arith, a.below, u.enough, u.some) in
             rw (around-far k, last-distance, lt-leb low v k, le-leb low (around l v) h, leb-from low (around l v) last h last-bounds.0)
 
-    pub values-members : is_in v (element_bits l (Range low high step)) ≡ is_in_range l low high step v
+    pub values-members : is_in v (element_bits l (from_to low high step)) ≡ is_in_range l low high step v
     unfolding element_bits range_of
     values-members =
         bits_in l v from own (values_of low last step)

@@ -1,5 +1,6 @@
 -- Which bits the set of a field may have: those of its width, and of values of the limits.
 -- Assumes nothing.
+use Rattle.std.specs.Prelude.{Option, None, Some}
 use mathlib.Core.Path.{◌≡◌, refl, sym, ◌∙◌}
 use mathlib.Core.Logic.{◌⊎◌, inl, inr, ⊎_elim}
 use mathlib.Core.Bool.{Bool, true, false, cond, ◌&&◌, ◌||◌, false≢true, and-eq-true_iff, or-true}
@@ -12,9 +13,7 @@ use borrow.Author.Tests.{leb-true, eq-eqb, eqb-true}
 use Rattle.octets.specs.Sets.{has_bit, with_bit, put}
 use Rattle.octets.proofs.Sets.{with-fits}
 use Rattle.field.specs.declared.Limits.{Limits}
-use Rattle.field.specs.declared.Answer.TheVariants.{Values}
 use Rattle.field.specs.declared.element.Element.{Element}
-use Rattle.field.specs.declared.element.Element.TheVariants.{Range, Malformed}
 use Rattle.field.specs.Values.{last_of, range_of, bit_of, including}
 use Rattle.field.specs.Fields.{read_field}
 use Rattle.field.specs.Members.{is_in, is_step, elements_of, element_bits, bits_of}
@@ -24,6 +23,7 @@ use Rattle.field.proofs.UsualLimits.{Usual, bit-value}
 use Rattle.field.proofs.Steps.{own-bit}
 use Rattle.field.proofs.Members.{steps-members, set-members, in-append}
 use Rattle.field.proofs.Ranges.{last-bounds}
+use Rattle.field.specs.Judgement.{means}
 
 or_cases : (a b : Bool) → (a || b) ≡ true → (a ≡ true) ⊎ (b ≡ true)
 or_cases true b e = inl refl
@@ -65,15 +65,15 @@ module _ (l : Limits) where
       including-fits (put set (bit_of l v)) vs (put-fits set v h (k v (rw (eq-eqb v v refl)))) (λ u e. k u (rw e (or-true (eqb v u))))
 
 module _ (l : Limits) (u : Usual l) where
-  elements-fit : (set : ℕ) (es : List Element) → set < 2 ^ l.bits → Each l es → with_elements l set es < 2 ^ l.bits
+  elements-fit : (set : ℕ) (es : List (Option Element)) → set < 2 ^ l.bits → Each l es → with_elements l set es < 2 ^ l.bits
   elements-fit set [] h k = h
-  elements-fit set (Range low high step ∷ es) h k =
-      elements-fit (including l set (range_of l low high step)) es
-      (including-fits l set (range_of l low high step) h (range-reached l u k.0))
+  elements-fit set (Some w ∷ es) h k =
+      elements-fit (including l set (range_of l w.low w.high w.step)) es
+      (including-fits l set (range_of l w.low w.high w.step) h (range-reached l u k.0))
       k.1
-  elements-fit set (Malformed ∷ es) h k = absurd k.0
+  elements-fit set (None ∷ es) h k = absurd k.0
 
-  pub set-fits : (column : ℕ) (s : List ℕ) {set : ℕ} {star : Bool} → read_field l column s ≡ Values set star → set < 2 ^ l.bits
+  pub set-fits : (column : ℕ) (s : List ℕ) {set : ℕ} {star : Bool} → read_field l column s ≡ means set star → set < 2 ^ l.bits
   set-fits column s q = let g = read-values l column s q in rw g.sets (elements-fit 0 (elements_of l s) (pow_pos l.bits) g.accepted)
 
 -- ---- only values of the limits
@@ -101,16 +101,16 @@ module _ (l : Limits) (u : Usual l) (n : ℕ) (word : n < 64) where
           let own : n < l.bits = omega (arith, b.1, q) in
           record { value = n; from = omega (arith, b.0, q); to = omega (arith, own, u.within); bit = own-bit l n own }
 
-  elements-within : (es : List Element) → Each l es → is_in n (bits_of l es) ≡ true → Within l n
+  elements-within : (es : List (Option Element)) → Each l es → is_in n (bits_of l es) ≡ true → Within l n
   unfolding is_in bits_of element_bits
   elements-within [] k e = absurd (false≢true e)
-  elements-within (Malformed ∷ es) k e = absurd k.0
-  elements-within (Range low high step ∷ es) k e =
+  elements-within (None ∷ es) k e = absurd k.0
+  elements-within (Some w ∷ es) k e =
       ⊎_elim
-      (λ t. values-within (range_of l low high step) (range-reached l u k.0) t)
+      (λ t. values-within (range_of l w.low w.high w.step) (range-reached l u k.0) t)
       (λ t. elements-within es k.1 t)
-      (or_cases _ _ (sym (in-append n word (map (bit_of l) (range_of l low high step)) (bits_of l es)) ∙ e))
+      (or_cases _ _ (sym (in-append n word (map (bit_of l) (range_of l w.low w.high w.step)) (bits_of l es)) ∙ e))
 
-  pub set-within : (column : ℕ) (s : List ℕ) {set : ℕ} {star : Bool} → read_field l column s ≡ Values set star → has_bit set n ≡ true → Within l n
+  pub set-within : (column : ℕ) (s : List ℕ) {set : ℕ} {star : Bool} → read_field l column s ≡ means set star → has_bit set n ≡ true → Within l n
   set-within column s q e =
       elements-within (elements_of l s) (read-values l column s q).accepted (sym (set-members n word l column s q) ∙ e)

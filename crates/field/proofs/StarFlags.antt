@@ -6,15 +6,15 @@ use mathlib.Core.List.{List, [], ◌∷◌}
 use Prim.Native.Nat.{ℕ, ◌≤◌, ◌<◌}
 use Rattle.octets.specs.Sets.{has_bit}
 use Rattle.field.specs.declared.Limits.{Limits}
-use Rattle.field.specs.declared.Answer.TheVariants.{Values}
 use Rattle.field.specs.Fields.{read_field}
 use Rattle.field.specs.Members.{is_star}
 use Rattle.field.specs.Values.{bit_of}
 use Rattle.field.proofs.Theorems.{star-flag, star-full}
+use Rattle.field.specs.Judgement.{means}
 
 module _ (l : Limits) (column : ℕ) {set : ℕ} {star : Bool} where
-  pub flag-used : (s : List ℕ) → read_field l column s ≡ Values set star → star ≡ is_star s
+  pub flag-used : (s : List ℕ) → read_field l column s ≡ means set star → star ≡ is_star s
   flag-used s e = star-flag l column s e
 
-  pub full-used : read_field l column (42 ∷ []) ≡ Values set star → (v : ℕ) → l.first ≤ v → v ≤ l.last → bit_of l v < 64 → has_bit set (bit_of l v) ≡ true
+  pub full-used : read_field l column (42 ∷ []) ≡ means set star → (v : ℕ) → l.first ≤ v → v ≤ l.last → bit_of l v < 64 → has_bit set (bit_of l v) ≡ true
   full-used e v = star-full l column e v

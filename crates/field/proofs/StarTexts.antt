@@ -1,6 +1,7 @@
 -- Flagged fields: the text of a step is read as the set of that step, and the step that is written is the smallest that gives the
 -- set, which there is where a field was read.
 -- Assumes nothing.
+use Rattle.std.specs.Prelude.{Option, Some, None}
 use mathlib.Core.Path.{◌≡◌, refl, sym, ap, ◌∙◌}
 use mathlib.Core.Bool.{Bool, true, false, cond, true≢false}
 use mathlib.Core.List.{List, [], ◌∷◌}
@@ -13,16 +14,11 @@ use borrow.Author.Tests.{le-ltb, eq-eqb, ne_eqb, eqb-true, eqb-false}
 use Rattle.octets.specs.Digits.{number_text}
 use Rattle.octets.proofs.Search.{Least, from-least}
 use Rattle.field.specs.declared.Limits.{Limits}
-use Rattle.field.specs.declared.Answer.TheVariants.{Values}
-use Rattle.field.specs.declared.number.Number.{Number}
-use Rattle.field.specs.declared.number.Number.TheVariants.{Value}
-use Rattle.field.specs.declared.number.Number.TheVariants as number
 use Rattle.field.specs.declared.element.Element.{Element}
-use Rattle.field.specs.declared.element.Element.TheVariants.{Range, Malformed}
 use Rattle.field.specs.Numbers.{number_of}
-use Rattle.field.specs.Elements.{ranging}
+use Rattle.field.specs.Elements.{from_to, ranging}
 use Rattle.field.specs.Values.{every_step, values_of, range_of, including}
-use Rattle.field.specs.Judgement.{outside, judged}
+use Rattle.field.specs.Judgement.{means, outside, judged}
 use Rattle.field.specs.Fields.{star_element, star_field, read_field}
 use Rattle.field.specs.Members.{is_star, elements_of}
 use Rattle.field.specs.Written.{star_set, gives, step_of, star_text}
@@ -34,17 +30,17 @@ use Rattle.field.proofs.Steps.{last-rising}
 module _ (l : Limits) (order : l.first ≤ l.last) where
   -- ---- a step's text is read as its set
 
-  pub judged-star : (column n : ℕ) → 1 ≤ n → judged l column (Values 0 true) (Range l.first l.last n) ≡ Values (star_set l n) true
+  pub judged-star : (column n : ℕ) → 1 ≤ n → judged l column (means 0 true) (from_to l.first l.last n) ≡ means (star_set l n) true
   unfolding judged outside star_set range_of
   judged-star column n h =
       rw
       (le-ltb l.first l.first (omega arith), le-ltb l.last l.first order, le-ltb l.last l.last (omega arith), last-rising l l.first l.last order, ne_eqb n 0 (λ e. omega (arith, e)))
 
-  pub star-back : (column n : ℕ) → 1 ≤ n → n < 100 → read_field l column (star_text n) ≡ Values (star_set l n) true
+  pub star-back : (column n : ℕ) → 1 ≤ n → n < 100 → read_field l column (star_text n) ≡ means (star_set l n) true
   unfolding star_text read_field star_field star_element ranging
   star-back column n h k = go (eqb n 1) refl
     where
-      go : (t : Bool) → eqb n 1 ≡ t → judged l column (Values 0 true) (star_element l (cond t [] (47 ∷ number_text n))) ≡ Values (star_set l n) true
+      go : (t : Bool) → eqb n 1 ≡ t → judged l column (means 0 true) (star_element l (cond t [] (47 ∷ number_text n))) ≡ means (star_set l n) true
       go true e = rw (← eqb-true n 1 e) (judged-star column n h)
       go false e = rw (number-back n k) (judged-star column n h)
 
@@ -85,17 +81,17 @@ module _ (l : Limits) (order : l.first ≤ l.last) where
   star-step [] set a e = (1, omega arith, whole set 1 e)
   star-step (b ∷ s) set a e = go (eqb b 47) (number_of s) a e
     where
-      go : (t : Bool) (n : Number) → Each l (cond t (ranging (Value l.first) (Value l.last) n) Malformed ∷ [])
-          → set ≡ with_elements l 0 (cond t (ranging (Value l.first) (Value l.last) n) Malformed ∷ []) → (n : ℕ) × (1 ≤ n) × (star_set l n ≡ set)
-      go true (Value n) a e = (n, a.0.steps, whole set n e)
-      go true number.Malformed a e = absurd a.0
+      go : (t : Bool) (n : Option ℕ) → Each l (cond t (ranging (Some l.first) (Some l.last) n) None ∷ [])
+          → set ≡ with_elements l 0 (cond t (ranging (Some l.first) (Some l.last) n) None ∷ []) → (n : ℕ) × (1 ≤ n) × (star_set l n ≡ set)
+      go true (Some n) a e = (n, a.0.steps, whole set n e)
+      go true None a e = absurd a.0
       go false n a e = absurd a.0
 
-  pub star-read : (column : ℕ) (s : List ℕ) {set : ℕ} → read_field l column s ≡ Values set true → (n : ℕ) × (1 ≤ n) × (star_set l n ≡ set)
+  pub star-read : (column : ℕ) (s : List ℕ) {set : ℕ} → read_field l column s ≡ means set true → (n : ℕ) × (1 ≤ n) × (star_set l n ≡ set)
   unfolding is_star elements_of
   star-read column s {set} q = go s (read-values l column s q)
     where
-      flagged : (t : Bool) (s : List ℕ) (others : List Element) → AcceptedElements l 0 t (cond t (star_element l s ∷ []) others) set true
+      flagged : (t : Bool) (s : List ℕ) (others : List (Option Element)) → AcceptedElements l 0 t (cond t (star_element l s ∷ []) others) set true
           → (n : ℕ) × (1 ≤ n) × (star_set l n ≡ set)
       flagged true s others g = star-step s set g.accepted g.sets
       flagged false s others g = absurd (true≢false g.flag)

@@ -41,13 +41,13 @@ use native.Mathlib.Omega.{arith}
 use borrow.Author.Tests.{le-leb}
 use Rattle.octets.specs.Sets.{has_bit}
 use Rattle.field.specs.declared.Limits.{Limits}
-use Rattle.field.specs.declared.Answer.TheVariants.{Values}
 use Rattle.field.specs.Values.{values_of, range_of, bit_of}
 use Rattle.field.specs.Fields.{star_element, read_field}
 use Rattle.field.specs.Members.{is_in, is_step, is_star, elements_of, element_bits, bits_of}
 use Rattle.field.proofs.Views.{read-values}
 use Rattle.field.proofs.Members.{steps-members, map-in}
 use Rattle.field.proofs.Steps.{last-rising}
+use Rattle.field.specs.Judgement.{means}
 pub use Rattle.field.proofs.Members.{set-members}
 pub use Rattle.field.proofs.Accepted.{Accepted}
 pub use Rattle.field.proofs.Ranges.{values-members}
@@ -71,11 +71,11 @@ pub use Rattle.field.proofs.TextBytes.{FieldByte, field-bytes, field-solid, Begi
 
 module _ (l : Limits) (column : ℕ) where
   -- the flag says just that the field begins with `*`
-  pub star-flag : (s : List ℕ) {set : ℕ} {star : Bool} → read_field l column s ≡ Values set star → star ≡ is_star s
+  pub star-flag : (s : List ℕ) {set : ℕ} {star : Bool} → read_field l column s ≡ means set star → star ≡ is_star s
   star-flag s q = (read-values l column s q).flag
 
   -- a plain `*` has every value of the limits
-  pub star-full : {set : ℕ} {star : Bool} → read_field l column (42 ∷ []) ≡ Values set star
+  pub star-full : {set : ℕ} {star : Bool} → read_field l column (42 ∷ []) ≡ means set star
       → (v : ℕ) → l.first ≤ v → v ≤ l.last → bit_of l v < 64 → has_bit set (bit_of l v) ≡ true
   unfolding elements_of star_element bits_of element_bits is_step range_of
   star-full e v h k b =

@@ -2,49 +2,52 @@
 -- are almost of a field's form.
 -- In the comments `?` is the byte that is tried.
 -- Assumes nothing.
-use Rattle.std.specs.Prelude.{ℕ, ◌+◌, ◌-◌, ◌*◌, ◌/◌, ◌%◌, ◌≡◌, refl, Bool, true, false, List, [], ◌∷◌, ◌++◌, map, replicate}
+use Rattle.std.specs.Prelude.{ℕ, ◌+◌, ◌-◌, ◌*◌, ◌/◌, ◌%◌, ◌≡◌, refl, Bool, true, false, List, [], ◌∷◌, ◌++◌, map, replicate, Ok, Err, Result}
+use Rattle.refusal.specs.declared.Refusal.TheVariants.{Malformed, OutOfLimits, Reversed, StepZero}
+use Rattle.refusal.specs.Numbers.{number_of}
 use Rattle.octets.specs.Texts.{text}
 use Rattle.octets.specs.Rows.{Hold}
 use Rattle.octets.specs.AllBytes.{Lead, one, range, each, passing_at, trying}
 use Rattle.octets.specs.Sets.{set_of, up_to}
 use Rattle.field.specs.declared.Limits.{Limits}
-use Rattle.field.specs.declared.Answer.{Answer}
-use Rattle.field.specs.declared.Answer.TheVariants.{Values, Refused}
+use Rattle.field.specs.declared.Allowed.{Allowed}
+use Rattle.field.specs.declared.Fault.{Fault}
 use Rattle.field.specs.declared.Dialect.TheVariants.{Rising, Wrapping}
 use Rattle.field.specs.Limits.{minute_limits, hour_limits, day_limits, month_limits, weekday_limits, in_dialect}
 use Rattle.field.specs.Names.{month_names, weekday_names}
 use Rattle.field.specs.Refusals.{malformed, out_of_limits, reversed, step_zero}
 use Rattle.field.specs.Fields.{read_field}
 use Rattle.field.specs.Computing.{reading}
+use Rattle.field.specs.Judgement.{refuses, means}
 
-abbrev of : List ℕ → Answer
-of values = Values (set_of values) false
+abbrev of : List ℕ → Result Allowed Fault
+of values = means (set_of values) false
 
-abbrev starred : List ℕ → Answer
-starred values = Values (set_of values) true
+abbrev starred : List ℕ → Result Allowed Fault
+starred values = means (set_of values) true
 
 -- not of the form, and outside the limits, at the field's first byte
-abbrev bad : Answer
-bad = Refused 5 1
+abbrev bad : Result Allowed Fault
+bad = refuses Malformed 1
 
-abbrev outside : Answer
-outside = Refused 6 1
+abbrev outside : Result Allowed Fault
+outside = refuses OutOfLimits 1
 
 -- in both dialects
-abbrev both : Limits → List ℕ → List Answer
+abbrev both : Limits → List ℕ → List (Result Allowed Fault)
 both l s = read_field (in_dialect Rising l) 1 s ∷ read_field (in_dialect Wrapping l) 1 s ∷ []
 
-abbrev twice : Answer → List Answer
+abbrev twice : Result Allowed Fault → List (Result Allowed Fault)
 twice a = a ∷ a ∷ []
 
 -- minute, hour, day, month and weekday, in the first dialect and then in the second
-abbrev all : List ℕ → List Answer
+abbrev all : List ℕ → List (Result Allowed Fault)
 all s =
     map (λ l. read_field (in_dialect Rising l) 1 s) (minute_limits ∷ hour_limits ∷ day_limits ∷ month_limits ∷ weekday_limits ∷ [])
     ++ map (λ l. read_field (in_dialect Wrapping l) 1 s) (minute_limits ∷ hour_limits ∷ day_limits ∷ month_limits ∷ weekday_limits ∷ [])
 
 -- the same in each of the ten
-abbrev ten : Answer → List Answer
+abbrev ten : Result Allowed Fault → List (Result Allowed Fault)
 ten a = replicate 10 a
 
 -- ---- the first byte, alone: a digit is its value, `*` is first to last, and nothing else is a field
@@ -130,7 +133,7 @@ star-step = refl
 
 -- `*/?` as a month: step 0 is 8, and a step keeps the first value and each step-th after it
 after-slash : Lead (λ b. both month_limits (text "*/" ++ b ∷ []))
-    (one 48 (twice (Refused 8 1))
+    (one 48 (twice (refuses StepZero 1))
     ∷ one 49 (twice (starred (up_to 1 12)))
     ∷ one 50 (twice (starred (1 ∷ 3 ∷ 5 ∷ 7 ∷ 9 ∷ 11 ∷ [])))
     ∷ one 51 (twice (starred (1 ∷ 4 ∷ 7 ∷ 10 ∷ [])))
@@ -157,7 +160,7 @@ after-step-more = refl
 
 -- `1-?`: in the second dialect 0 is reached over the join
 after-dash : Lead (λ b. both hour_limits (text "1-" ++ b ∷ []))
-    (one 48 (Refused 7 1 ∷ of (up_to 1 23 ++ 0 ∷ []) ∷ []) ∷ each 49 57 (λ b. twice (of (up_to 1 (b - 48)))) ∷ [])
+    (one 48 (refuses Reversed 1 ∷ of (up_to 1 23 ++ 0 ∷ []) ∷ []) ∷ each 49 57 (λ b. twice (of (up_to 1 (b - 48)))) ∷ [])
     (λ b. twice bad)
 unfolding trying reading
 after-dash = refl
@@ -176,7 +179,7 @@ range-more = refl
 
 -- `1-2/?`
 range-step : Lead (λ b. all (text "1-2/" ++ b ∷ []))
-    (one 48 (ten (Refused 8 1)) ∷ one 49 (ten (of (1 ∷ 2 ∷ []))) ∷ range 50 57 (ten (of (1 ∷ []))) ∷ [])
+    (one 48 (ten (refuses StepZero 1)) ∷ one 49 (ten (of (1 ∷ 2 ∷ []))) ∷ range 50 57 (ten (of (1 ∷ []))) ∷ [])
     (λ b. ten bad)
 unfolding trying reading
 range-step = refl
@@ -254,14 +257,14 @@ abbrev two_digits : ℕ → List ℕ
 two_digits n = (48 + n / 10) ∷ (48 + n % 10) ∷ []
 
 -- what the numbers 0 to 99 give
-abbrev numbers : Limits → List (List Answer)
+abbrev numbers : Limits → List (List (Result Allowed Fault))
 numbers l = map (λ n. both l (two_digits n)) (up_to 0 99)
 
 -- each its own value from first to last
-abbrev values : ℕ → ℕ → List (List Answer)
+abbrev values : ℕ → ℕ → List (List (Result Allowed Fault))
 values first last = map (λ n. twice (of (n ∷ []))) (up_to first last)
 
-abbrev others : ℕ → List (List Answer)
+abbrev others : ℕ → List (List (Result Allowed Fault))
 others n = replicate n (twice outside)
 
 minutes : numbers minute_limits ≡ values 0 59 ++ others 40
@@ -296,9 +299,9 @@ weekday-list : weekday_names ≡ text "sun" ∷ text "mon" ∷ text "tue" ∷ te
 unfolding weekday_names
 weekday-list = refl
 
-abbrev is_read : Answer → Bool
-is_read (Values set star) = true
-is_read (Refused number column) = false
+abbrev is_read : Result Allowed Fault → Bool
+is_read (Ok v) = true
+is_read (Err fault) = false
 
 -- for each letter of a name, the bytes that make a field in its place
 abbrev letters : Limits → List ℕ → List (List ℕ)
@@ -366,5 +369,6 @@ almost-names = refl
 
 -- ---- the refusals of a field
 
-refusals : malformed ∷ out_of_limits ∷ reversed ∷ step_zero ∷ [] ≡ 5 ∷ 6 ∷ 7 ∷ 8 ∷ []
+refusals : map number_of (malformed ∷ out_of_limits ∷ reversed ∷ step_zero ∷ []) ≡ 5 ∷ 6 ∷ 7 ∷ 8 ∷ []
+unfolding number_of
 refusals = refl

@@ -1,29 +1,31 @@
 -- Fields, and what they are read to, computed from the definitions.
 -- Assumes nothing.
-use Rattle.std.specs.Prelude.{ℕ, refl, Bool, true, false, List, [], ◌∷◌, ◌++◌}
+use Rattle.std.specs.Prelude.{ℕ, refl, Bool, true, false, List, [], ◌∷◌, ◌++◌, Result}
+use Rattle.refusal.specs.declared.Refusal.TheVariants.{Malformed, OutOfLimits, Reversed, StepZero}
 use Rattle.octets.specs.Texts.{text}
 use Rattle.octets.specs.Rows.{Hold}
 use Rattle.octets.specs.Sets.{set_of, up_to}
 use Rattle.field.specs.declared.Limits.{Limits}
-use Rattle.field.specs.declared.Answer.{Answer}
-use Rattle.field.specs.declared.Answer.TheVariants.{Values, Refused}
+use Rattle.field.specs.declared.Allowed.{Allowed}
+use Rattle.field.specs.declared.Fault.{Fault}
 use Rattle.field.specs.declared.Dialect.TheVariants.{Rising, Wrapping}
 use Rattle.field.specs.declared.Names.TheVariants.{None, Months, Weekdays}
 use Rattle.field.specs.Limits.{minute_limits, hour_limits, day_limits, month_limits, weekday_limits, in_dialect}
 use Rattle.field.specs.Fields.{read_field}
 use Rattle.field.specs.Written.{field_text, is_field}
 use Rattle.field.specs.Computing.{reading, writing}
+use Rattle.field.specs.Judgement.{refuses, means}
 
 -- a field's bytes under its limits, at a line's first column
-abbrev read : Limits × List ℕ → Answer
+abbrev read : Limits × List ℕ → Result Allowed Fault
 read (limits, s) = read_field limits 1 s
 
 -- the values, with no star in front, and with one
-abbrev of : List ℕ → Answer
-of values = Values (set_of values) false
+abbrev of : List ℕ → Result Allowed Fault
+of values = means (set_of values) false
 
-abbrev starred : List ℕ → Answer
-starred values = Values (set_of values) true
+abbrev starred : List ℕ → Result Allowed Fault
+starred values = means (set_of values) true
 
 examples : Hold read
     -- it begins with a star
@@ -33,20 +35,20 @@ examples : Hold read
     -- 0 and 7, both Sunday
     ∷ ((weekday_limits, text "*/7"), starred (0 ∷ []))
     ∷ ((minute_limits, text "10-10"), of (10 ∷ []))
-    ∷ ((minute_limits, text "10-9"), Refused 7 1)
-    ∷ ((minute_limits, text "5/2"), Refused 5 1)
-    ∷ ((minute_limits, text "*,5"), Refused 5 1)
-    ∷ ((minute_limits, text "60"), Refused 6 1)
-    ∷ ((minute_limits, text "*/0"), Refused 8 1)
+    ∷ ((minute_limits, text "10-9"), refuses Reversed 1)
+    ∷ ((minute_limits, text "5/2"), refuses Malformed 1)
+    ∷ ((minute_limits, text "*,5"), refuses Malformed 1)
+    ∷ ((minute_limits, text "60"), refuses OutOfLimits 1)
+    ∷ ((minute_limits, text "*/0"), refuses StepZero 1)
     -- four digits are a number, five are none
     ∷ ((hour_limits, text "0000"), of (0 ∷ []))
-    ∷ ((hour_limits, text "00000"), Refused 5 1)
+    ∷ ((hour_limits, text "00000"), refuses Malformed 1)
     -- nor is a step of five, after a star or a range
-    ∷ ((hour_limits, text "*/00002"), Refused 5 1)
-    ∷ ((hour_limits, text "0-23/00002"), Refused 5 1)
+    ∷ ((hour_limits, text "*/00002"), refuses Malformed 1)
+    ∷ ((hour_limits, text "0-23/00002"), refuses Malformed 1)
     -- the second element is refused at its own first byte, and only where the whole field is of the form
-    ∷ ((minute_limits, text "1,70"), Refused 6 3)
-    ∷ ((minute_limits, text "1,70,"), Refused 5 1)
+    ∷ ((minute_limits, text "1,70"), refuses OutOfLimits 3)
+    ∷ ((minute_limits, text "1,70,"), refuses Malformed 1)
     -- first to last; each weekday once
     ∷ ((minute_limits, text "*"), starred (up_to 0 59))
     ∷ ((hour_limits, text "*"), starred (up_to 0 23))
@@ -54,24 +56,24 @@ examples : Hold read
     ∷ ((month_limits, text "*"), starred (up_to 1 12))
     ∷ ((weekday_limits, text "*"), starred (up_to 0 6))
     -- outside the limits
-    ∷ ((hour_limits, text "24"), Refused 6 1)
-    ∷ ((day_limits, text "0"), Refused 6 1)
-    ∷ ((day_limits, text "32"), Refused 6 1)
-    ∷ ((month_limits, text "13"), Refused 6 1)
-    ∷ ((weekday_limits, text "8"), Refused 6 1)
+    ∷ ((hour_limits, text "24"), refuses OutOfLimits 1)
+    ∷ ((day_limits, text "0"), refuses OutOfLimits 1)
+    ∷ ((day_limits, text "32"), refuses OutOfLimits 1)
+    ∷ ((month_limits, text "13"), refuses OutOfLimits 1)
+    ∷ ((weekday_limits, text "8"), refuses OutOfLimits 1)
     -- one whose low 8 bits are within
-    ∷ ((minute_limits, text "256"), Refused 6 1)
-    ∷ ((minute_limits, text "0-257"), Refused 6 1)
-    ∷ ((minute_limits, text "256-1"), Refused 6 1)
+    ∷ ((minute_limits, text "256"), refuses OutOfLimits 1)
+    ∷ ((minute_limits, text "0-257"), refuses OutOfLimits 1)
+    ∷ ((minute_limits, text "256-1"), refuses OutOfLimits 1)
     ∷ ((minute_limits, text "10-20/5"), of (10 ∷ 15 ∷ 20 ∷ []))
     -- in an element 6 comes before 7, and 7 before 8; the first bad element decides
-    ∷ ((minute_limits, text "61-60/0"), Refused 6 1)
-    ∷ ((minute_limits, text "10-9/0"), Refused 7 1)
-    ∷ ((minute_limits, text "70,10-9"), Refused 6 1)
+    ∷ ((minute_limits, text "61-60/0"), refuses OutOfLimits 1)
+    ∷ ((minute_limits, text "10-9/0"), refuses Reversed 1)
+    ∷ ((minute_limits, text "70,10-9"), refuses OutOfLimits 1)
     -- the third and the fifth element at their own first bytes too, after elements of every form
-    ∷ ((minute_limits, text "1,2,70"), Refused 6 5)
-    ∷ ((minute_limits, text "1,2-3,10-20/5,7-6,8"), Refused 7 15)
-    ∷ ((minute_limits, text "0,0,0,0,1-2/0"), Refused 8 9)
+    ∷ ((minute_limits, text "1,2,70"), refuses OutOfLimits 5)
+    ∷ ((minute_limits, text "1,2-3,10-20/5,7-6,8"), refuses Reversed 15)
+    ∷ ((minute_limits, text "0,0,0,0,1-2/0"), refuses StepZero 9)
     ∷ [])
 unfolding reading
 examples = refl
@@ -90,8 +92,8 @@ names : Hold read
     ∷ ((month_limits, text "MAY,NOV"), of (5 ∷ 11 ∷ []))
     ∷ ((month_limits, text "FEB,APR,JUL,AUG"), of (2 ∷ 4 ∷ 7 ∷ 8 ∷ []))
     -- from high to low, also in the second element
-    ∷ ((weekday_limits, text "fri-mon"), Refused 7 1)
-    ∷ ((weekday_limits, text "mon,sat-tue"), Refused 7 5)
+    ∷ ((weekday_limits, text "fri-mon"), refuses Reversed 1)
+    ∷ ((weekday_limits, text "mon,sat-tue"), refuses Reversed 5)
     -- mixed
     ∷ ((weekday_limits, text "1-fri"), of (up_to 1 5))
     ∷ ((weekday_limits, text "mon,3"), of (1 ∷ 3 ∷ []))
@@ -107,17 +109,17 @@ names : Hold read
     ∷ ((weekday_limits, text "sun-7"), of (up_to 0 6))
     ∷ ((weekday_limits, text "7-sun"), of (0 ∷ []))
     ∷ ((weekday_limits, text "sun-0"), of (0 ∷ []))
-    ∷ ((weekday_limits, text "mon-0"), Refused 7 1)
+    ∷ ((weekday_limits, text "mon-0"), refuses Reversed 1)
     -- no name as a step, and none of the other field
-    ∷ ((weekday_limits, text "mon/2"), Refused 5 1)
-    ∷ ((weekday_limits, text "*/mon"), Refused 5 1)
-    ∷ ((weekday_limits, text "1-5/mon"), Refused 5 1)
-    ∷ ((weekday_limits, text "jan"), Refused 5 1)
-    ∷ ((month_limits, text "1-sun"), Refused 5 1)
+    ∷ ((weekday_limits, text "mon/2"), refuses Malformed 1)
+    ∷ ((weekday_limits, text "*/mon"), refuses Malformed 1)
+    ∷ ((weekday_limits, text "1-5/mon"), refuses Malformed 1)
+    ∷ ((weekday_limits, text "jan"), refuses Malformed 1)
+    ∷ ((month_limits, text "1-sun"), refuses Malformed 1)
     -- a name has its three letters, no fewer and no more
-    ∷ ((weekday_limits, text "mo"), Refused 5 1)
-    ∷ ((weekday_limits, text "monday"), Refused 5 1)
-    ∷ ((month_limits, text "1-"), Refused 5 1)
+    ∷ ((weekday_limits, text "mo"), refuses Malformed 1)
+    ∷ ((weekday_limits, text "monday"), refuses Malformed 1)
+    ∷ ((month_limits, text "1-"), refuses Malformed 1)
     ∷ [])
 unfolding reading
 names = refl
@@ -166,18 +168,18 @@ unfolding in_dialect
 dialects = refl
 
 -- a field's bytes in both dialects, the first in front
-abbrev both : Limits × List ℕ → Answer × Answer
+abbrev both : Limits × List ℕ → Result Allowed Fault × Result Allowed Fault
 both (limits, s) = (read_field (in_dialect Rising limits) 1 s, read_field (in_dialect Wrapping limits) 1 s)
 
 -- the step counts on across the join
 wrapped-steps : Hold both
-    (((weekday_limits, text "sat-tue/2"), (Refused 7 1, of (6 ∷ 1 ∷ [])))
-    ∷ ((hour_limits, text "22-3/2"), (Refused 7 1, of (22 ∷ 0 ∷ 2 ∷ [])))
-    ∷ ((hour_limits, text "21-3/2"), (Refused 7 1, of (21 ∷ 23 ∷ 1 ∷ 3 ∷ [])))
-    ∷ ((hour_limits, text "22-3/5"), (Refused 7 1, of (22 ∷ 3 ∷ [])))
-    ∷ ((hour_limits, text "22-3/6"), (Refused 7 1, of (22 ∷ [])))
-    ∷ ((day_limits, text "30-2/2"), (Refused 7 1, of (30 ∷ 1 ∷ [])))
-    ∷ ((month_limits, text "11-3/3"), (Refused 7 1, of (11 ∷ 2 ∷ [])))
+    (((weekday_limits, text "sat-tue/2"), (refuses Reversed 1, of (6 ∷ 1 ∷ [])))
+    ∷ ((hour_limits, text "22-3/2"), (refuses Reversed 1, of (22 ∷ 0 ∷ 2 ∷ [])))
+    ∷ ((hour_limits, text "21-3/2"), (refuses Reversed 1, of (21 ∷ 23 ∷ 1 ∷ 3 ∷ [])))
+    ∷ ((hour_limits, text "22-3/5"), (refuses Reversed 1, of (22 ∷ 3 ∷ [])))
+    ∷ ((hour_limits, text "22-3/6"), (refuses Reversed 1, of (22 ∷ [])))
+    ∷ ((day_limits, text "30-2/2"), (refuses Reversed 1, of (30 ∷ 1 ∷ [])))
+    ∷ ((month_limits, text "11-3/3"), (refuses Reversed 1, of (11 ∷ 2 ∷ [])))
     ∷ ((weekday_limits, text "sat-sun/2"), (of (6 ∷ []), of (6 ∷ [])))
     ∷ ((weekday_limits, text "mon-sun/2"), (of (1 ∷ 3 ∷ 5 ∷ 0 ∷ []), of (1 ∷ 3 ∷ 5 ∷ 0 ∷ [])))
     ∷ [])
@@ -186,25 +188,25 @@ wrapped-steps = refl
 
 wrapped : Hold both
     -- over midnight
-    (((hour_limits, text "22-3"), (Refused 7 1, of (22 ∷ 23 ∷ 0 ∷ 1 ∷ 2 ∷ 3 ∷ [])))
+    (((hour_limits, text "22-3"), (refuses Reversed 1, of (22 ∷ 23 ∷ 0 ∷ 1 ∷ 2 ∷ 3 ∷ [])))
     -- source 001
-    ∷ ((hour_limits, text "8-18/3,19-7"), (Refused 7 8, of (8 ∷ 11 ∷ 14 ∷ 17 ∷ 19 ∷ 20 ∷ 21 ∷ 22 ∷ 23 ∷ 0 ∷ 1 ∷ 2 ∷ 3 ∷ 4 ∷ 5 ∷ 6 ∷ 7 ∷ [])))
+    ∷ ((hour_limits, text "8-18/3,19-7"), (refuses Reversed 8, of (8 ∷ 11 ∷ 14 ∷ 17 ∷ 19 ∷ 20 ∷ 21 ∷ 22 ∷ 23 ∷ 0 ∷ 1 ∷ 2 ∷ 3 ∷ 4 ∷ 5 ∷ 6 ∷ 7 ∷ [])))
     -- fields without 0
-    ∷ ((day_limits, text "31-1"), (Refused 7 1, of (31 ∷ 1 ∷ [])))
-    ∷ ((day_limits, text "31-0"), (Refused 6 1, Refused 6 1))
-    ∷ ((month_limits, text "12-2"), (Refused 7 1, of (12 ∷ 1 ∷ 2 ∷ [])))
-    ∷ ((month_limits, text "nov-feb"), (Refused 7 1, of (11 ∷ 12 ∷ 1 ∷ 2 ∷ [])))
+    ∷ ((day_limits, text "31-1"), (refuses Reversed 1, of (31 ∷ 1 ∷ [])))
+    ∷ ((day_limits, text "31-0"), (refuses OutOfLimits 1, refuses OutOfLimits 1))
+    ∷ ((month_limits, text "12-2"), (refuses Reversed 1, of (12 ∷ 1 ∷ 2 ∷ [])))
+    ∷ ((month_limits, text "nov-feb"), (refuses Reversed 1, of (11 ∷ 12 ∷ 1 ∷ 2 ∷ [])))
     -- Sunday is 0 alone, by number and by name
     ∷ ((weekday_limits, text "fri-sun"), (of (5 ∷ 6 ∷ 0 ∷ []), of (5 ∷ 6 ∷ 0 ∷ [])))
-    ∷ ((weekday_limits, text "fri-mon"), (Refused 7 1, of (5 ∷ 6 ∷ 0 ∷ 1 ∷ [])))
+    ∷ ((weekday_limits, text "fri-mon"), (refuses Reversed 1, of (5 ∷ 6 ∷ 0 ∷ 1 ∷ [])))
     ∷ ((weekday_limits, text "0-sun"), (of (up_to 0 6), of (0 ∷ [])))
     ∷ ((weekday_limits, text "sun-sun"), (of (0 ∷ []), of (0 ∷ [])))
     ∷ ((weekday_limits, text "sun-sat"), (of (up_to 0 6), of (up_to 0 6)))
-    ∷ ((weekday_limits, text "mon-0"), (Refused 7 1, of (1 ∷ 2 ∷ 3 ∷ 4 ∷ 5 ∷ 6 ∷ 0 ∷ [])))
-    ∷ ((weekday_limits, text "7"), (of (0 ∷ []), Refused 6 1))
-    ∷ ((weekday_limits, text "0-7"), (of (up_to 0 6), Refused 6 1))
-    ∷ ((weekday_limits, text "7-1"), (Refused 7 1, Refused 6 1))
-    ∷ ((weekday_limits, text "7-sun"), (of (0 ∷ []), Refused 6 1))
+    ∷ ((weekday_limits, text "mon-0"), (refuses Reversed 1, of (1 ∷ 2 ∷ 3 ∷ 4 ∷ 5 ∷ 6 ∷ 0 ∷ [])))
+    ∷ ((weekday_limits, text "7"), (of (0 ∷ []), refuses OutOfLimits 1))
+    ∷ ((weekday_limits, text "0-7"), (of (up_to 0 6), refuses OutOfLimits 1))
+    ∷ ((weekday_limits, text "7-1"), (refuses Reversed 1, refuses OutOfLimits 1))
+    ∷ ((weekday_limits, text "7-sun"), (of (0 ∷ []), refuses OutOfLimits 1))
     -- stars: the same sets
     ∷ ((weekday_limits, text "*"), (starred (up_to 0 6), starred (up_to 0 6)))
     ∷ ((weekday_limits, text "*/7"), (starred (0 ∷ []), starred (0 ∷ [])))
@@ -212,23 +214,23 @@ wrapped : Hold both
     ∷ ((weekday_limits, text "*/2"), (starred (0 ∷ 2 ∷ 4 ∷ 6 ∷ []), starred (0 ∷ 2 ∷ 4 ∷ 6 ∷ [])))
     ∷ ((day_limits, text "*/10"), (starred (1 ∷ 11 ∷ 21 ∷ 31 ∷ []), starred (1 ∷ 11 ∷ 21 ∷ 31 ∷ [])))
     -- the other refusals, in their order: 6 before 8
-    ∷ ((hour_limits, text "24-3/0"), (Refused 6 1, Refused 6 1))
-    ∷ ((hour_limits, text "22-3/0"), (Refused 7 1, Refused 8 1))
-    ∷ ((hour_limits, text "1,22-3,9/2"), (Refused 5 1, Refused 5 1))
+    ∷ ((hour_limits, text "24-3/0"), (refuses OutOfLimits 1, refuses OutOfLimits 1))
+    ∷ ((hour_limits, text "22-3/0"), (refuses Reversed 1, refuses StepZero 1))
+    ∷ ((hour_limits, text "1,22-3,9/2"), (refuses Malformed 1, refuses Malformed 1))
     -- a star may only be in front
-    ∷ ((hour_limits, text "5,*"), (Refused 5 1, Refused 5 1))
-    ∷ ((hour_limits, text "5,*/2"), (Refused 5 1, Refused 5 1))
+    ∷ ((hour_limits, text "5,*"), (refuses Malformed 1, refuses Malformed 1))
+    ∷ ((hour_limits, text "5,*/2"), (refuses Malformed 1, refuses Malformed 1))
     ∷ [])
 unfolding reading
 wrapped = refl
 
 -- the whole field, but not where it rises
 wrapped-whole : Hold both
-    (((minute_limits, text "5-4"), (Refused 7 1, of (up_to 5 59 ++ up_to 0 4)))
+    (((minute_limits, text "5-4"), (refuses Reversed 1, of (up_to 5 59 ++ up_to 0 4)))
     ∷ ((minute_limits, text "5-5"), (of (5 ∷ []), of (5 ∷ [])))
     ∷ ((minute_limits, text "0-59"), (of (up_to 0 59), of (up_to 0 59)))
-    ∷ ((minute_limits, text "59-0"), (Refused 7 1, of (59 ∷ 0 ∷ [])))
-    ∷ ((day_limits, text "2-1"), (Refused 7 1, of (up_to 2 31 ++ 1 ∷ [])))
+    ∷ ((minute_limits, text "59-0"), (refuses Reversed 1, of (59 ∷ 0 ∷ [])))
+    ∷ ((day_limits, text "2-1"), (refuses Reversed 1, of (up_to 2 31 ++ 1 ∷ [])))
     ∷ [])
 unfolding reading
 wrapped-whole = refl

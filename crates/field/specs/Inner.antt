@@ -1,7 +1,8 @@
 -- What the functions inside promise each other. What a reader must believe is in Values and Written.
 -- Assumes nothing.
-use Rattle.std.specs.Prelude.{ℕ, ◌-◌, ◌*◌, ◌≤◌, ◌<◌, min, Bool, true, false, cond, ◌&&◌, List, [], ◌∷◌, eqb, ltb}
+use Rattle.std.specs.Prelude.{map, ◌≡◌, ℕ, ◌-◌, ◌*◌, ◌≤◌, ◌<◌, min, Bool, true, false, cond, ◌&&◌, List, [], ◌∷◌, eqb, ltb}
 use Rattle.octets.specs.Sets.{has_bit}
+use Rattle.field.specs.Names.{lower}
 use Rattle.octets.specs.Passing.{count_below}
 use Rattle.field.specs.declared.Limits.{Limits}
 use Rattle.field.specs.Written.{after_commas, list_text}
@@ -26,3 +27,7 @@ member_text first v = list_rest first (v ∷ [])
 -- how many bytes the values below n have in a list, each with a comma: three, less one for each of one digit
 abbrev pub size_below : ℕ → ℕ → ℕ
 size_below set n = 3 * count_below (has_bit set) n - count_below (has_bit set) (min n 10)
+
+-- names that are in lower case
+abbrev pub InLower : List (List ℕ) → Type 0
+InLower names = map (map lower) names ≡ names

@@ -1,9 +1,8 @@
 -- What a field's set has, in other words than those that build it (F6, F7, F8, W1). The laws that say so are in `proofs.Theorems`.
 -- Assumes nothing.
-use Rattle.std.specs.Prelude.{ℕ, ◌+◌, ◌-◌, ◌%◌, Bool, false, cond, ◌&&◌, ◌||◌, List, [], ◌∷◌, ◌++◌, map, ltb, leb, eqb}
+use Rattle.std.specs.Prelude.{ℕ, ◌+◌, ◌-◌, ◌%◌, Bool, false, cond, ◌&&◌, ◌||◌, List, [], ◌∷◌, ◌++◌, map, ltb, leb, eqb, Option, Some, None}
 use Rattle.field.specs.declared.Limits.{Limits}
 use Rattle.field.specs.declared.element.Element.{Element}
-use Rattle.field.specs.declared.element.Element.TheVariants.{Range, Malformed}
 use Rattle.field.specs.Parts.{split}
 use Rattle.field.specs.Elements.{element_of}
 use Rattle.field.specs.Values.{range_of, bit_of}
@@ -32,16 +31,16 @@ is_star [] = false
 is_star (b ∷ s) = eqb b asterisk
 
 -- F2: the elements of a field, whatever its form
-unfoldable pub elements_of : Limits → List ℕ → List Element
+unfoldable pub elements_of : Limits → List ℕ → List (Option Element)
 elements_of l [] = []
 elements_of l (b ∷ s) = cond (eqb b asterisk) (star_element l s ∷ []) (map (element_of l) (split comma (b ∷ s)))
 
 -- F8: the bits of an element's values
-unfoldable pub element_bits : Limits → Element → List ℕ
-element_bits l (Range low high step) = map (bit_of l) (range_of l low high step)
-element_bits l Malformed = []
+unfoldable pub element_bits : Limits → Option Element → List ℕ
+element_bits l (Some e) = map (bit_of l) (range_of l e.low e.high e.step)
+element_bits l None = []
 
 -- F8: the bits of all elements' values
-unfoldable pub bits_of : Limits → List Element → List ℕ
+unfoldable pub bits_of : Limits → List (Option Element) → List ℕ
 bits_of l [] = []
 bits_of l (e ∷ es) = element_bits l e ++ bits_of l es

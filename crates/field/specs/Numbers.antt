@@ -1,8 +1,6 @@
 -- Numbers and steps (F3).
 -- Assumes nothing.
-use Rattle.std.specs.Prelude.{ℕ, ◌+◌, ◌-◌, ◌*◌, Bool, true, cond, ◌&&◌, List, [], ◌∷◌, length, leb}
-use Rattle.field.specs.declared.number.Number.{Number}
-use Rattle.field.specs.declared.number.Number.TheVariants.{Value, Malformed}
+use Rattle.std.specs.Prelude.{ℕ, ◌+◌, ◌-◌, ◌*◌, Bool, true, cond, ◌&&◌, List, [], ◌∷◌, length, leb, Option, Some, None}
 
 -- F3: a decimal digit
 unfoldable pub is_digit : ℕ → Bool
@@ -23,5 +21,5 @@ abbrev pub max_digits : ℕ
 max_digits = 4
 
 -- F3: any bytes as a number
-unfoldable pub number_of : List ℕ → Number
-number_of s = cond (leb 1 (length s) && leb (length s) max_digits && are_digits s) (Value (value_from 0 s)) Malformed
+unfoldable pub number_of : List ℕ → Option ℕ
+number_of s = cond (leb 1 (length s) && leb (length s) max_digits && are_digits s) (Some (value_from 0 s)) None

@@ -1,19 +1,20 @@
--- The numbers with which a field is refused (R5 to R8).
+-- The refusals of a field (R5 to R8).
 -- Assumes nothing.
-use Rattle.std.specs.Prelude.{ℕ}
+use Rattle.refusal.specs.declared.Refusal.{Refusal}
+use Rattle.refusal.specs.declared.Refusal.TheVariants.{Malformed, OutOfLimits, Reversed, StepZero}
 
 -- R5: not of the form
-abbrev pub malformed : ℕ
-malformed = 5
+abbrev pub malformed : Refusal
+malformed = Malformed
 
 -- R6: a number outside the field's limits
-abbrev pub out_of_limits : ℕ
-out_of_limits = 6
+abbrev pub out_of_limits : Refusal
+out_of_limits = OutOfLimits
 
 -- R7: a range from high to low
-abbrev pub reversed : ℕ
-reversed = 7
+abbrev pub reversed : Refusal
+reversed = Reversed
 
 -- R8: a step of 0
-abbrev pub step_zero : ℕ
-step_zero = 8
+abbrev pub step_zero : Refusal
+step_zero = StepZero

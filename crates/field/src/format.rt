@@ -7,7 +7,6 @@ ghost use Rattle.field.specs.Written.{gives, step_of, star_text, members, list_t
 
 use crate::Limits;
 use crate::values::{bit_of, with_values};
-use octets::size::lesser;
 use octets::{set, write};
 
 // Whether a step gives the set. Its second value is looked for before all of them are put together.
@@ -29,15 +28,13 @@ fn step_of(limits: Limits, set: u64) -> u8
     requires { InWord limits }
     ensures { result ≡ step_of limits set }
 {
-    let last = limits.last;
-    let mut n = 1;
-    while n <= last {
+    let past = limits.last + 1;
+    for n in 1..past {
         if is_step(limits, set, n) {
             return n;
         }
-        n += 1;
     }
-    n
+    past
 }
 
 fn write_star(n: u8, out: &mut [u8], at: usize) -> usize
@@ -67,7 +64,7 @@ fn size_below(set: u64, n: u64) -> u64
     requires { n ≤ 64 }
     ensures { result ≡ size_below set n }
 {
-    let short = lesser(n as usize, 10) as u64;
+    let short = n.min(10);
     3 * set::below(set, n) - set::below(set, short)
 }
 
@@ -103,7 +100,7 @@ fn write_values(limits: Limits, set: u64, out: &mut [u8], start: usize) -> usize
 
 // Whether there are two values or more, so that it is worth counting them.
 fn has_several(set: u64) -> bool {
-    u64::trailing_zeros(set) + u64::leading_zeros(set) < 63
+    1 < set.count_ones()
 }
 
 // The list. Where nothing fits, as where a text is only measured, its values are counted and not gone through.

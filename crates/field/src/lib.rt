@@ -9,21 +9,12 @@ mod name;
 mod number;
 mod values;
 
-ghost use Rattle.std.specs.Prelude.{◌≡◌, ◌-◌};
+ghost use Rattle.std.specs.Prelude.{◌≡◌};
 ghost use Rattle.field.specs.Limits.{in_dialect};
 ghost use Rattle.field.specs.Fields.{star_element, read_field};
 
 use element::Element;
-use number::Number;
-
-// The refusals, by their numbers (R5 to R8).
-pub const MALFORMED: u8 = 5;
-
-pub const OUT_OF_LIMITS: u8 = 6;
-
-pub const REVERSED: u8 = 7;
-
-pub const STEP_ZERO: u8 = 8;
+use refusal::Refusal;
 
 // Which names a field has, to stand for numbers.
 #[derive(Clone, Copy)]
@@ -53,12 +44,27 @@ pub struct Limits {
     pub wraps: bool,
 }
 
-// What a field means.
+// What a field allows: bit n of the set stands for the value n, and `star` says whether the field begins with `*`.
 #[derive(Clone, Copy)]
-pub enum Answer {
-    // Bit n of the set stands for the value n; `star` says whether the field begins with `*`.
-    Values { set: u64, star: bool },
-    Refused { number: u8, column: u64 },
+pub struct Allowed {
+    pub set: u64,
+    pub star: bool,
+}
+
+// Why a field or a line is refused. Columns count from 1.
+#[derive(Clone, Copy)]
+pub struct Fault {
+    pub refusal: Refusal,
+    pub column: usize,
+}
+
+// Why, without where.
+impl From<Fault> for Refusal {
+    ghost from_gives = { λ fault refusal. refusal ≡ fault.refusal };
+
+    fn from(fault: Fault) -> Refusal {
+        fault.refusal
+    }
 }
 
 // The five fields.
@@ -102,71 +108,59 @@ pub const WEEKDAY: Limits = Limits {
     wraps: false,
 };
 
-// The last of so many bits; 0 where there is none.
-fn last_bit(bits: u8) -> u8
-    ensures { result ≡ bits - 1 }
-{
-    if bits == 0 {
-        return 0;
-    }
-    bits - 1
-}
-
 // A field's limits in a dialect: in the second its values are those that have bits of their own, so there is no weekday 7.
 pub fn in_dialect(limits: Limits, dialect: Dialect) -> Limits
     ensures { result ≡ in_dialect dialect limits }
 {
-    let names = limits.names;
     match dialect {
         Dialect::Rising => limits,
         Dialect::Wrapping => Limits {
-            first: limits.first,
-            last: last_bit(limits.bits),
-            bits: limits.bits,
-            names,
+            last: limits.bits.saturating_sub(1),
             wraps: true,
+            ..limits
         },
     }
 }
 
 // A field that starts with an asterisk, by what follows it: nothing, or a slash and a step.
-fn after_star(s: &[u8], limits: Limits) -> Element
+fn after_star(s: &[u8], limits: Limits) -> Option<Element>
     ensures { result ≡ star_element limits s.now }
 {
     let first = limits.first as u16;
     let last = limits.last as u16;
     if s.len() == 0 {
-        return Element::Range {
+        return Some(Element {
             low: first,
             high: last,
             step: 1,
-        };
+        });
     }
     if s[0] == b'/' {
         let step = number::read(&s[1..]);
-        return element::range(Number::Value(first), Number::Value(last), step);
+        return element::range(Some(first), Some(last), step);
     }
-    Element::Malformed
+    None
 }
 
 // Any bytes as a field whose first byte stands at the column.
-pub fn read(s: &[u8], column: u32, limits: Limits) -> Answer
+pub fn read(s: &[u8], column: u32, limits: Limits) -> Result<Allowed, Fault>
     ensures { result ≡ read_field limits column s.now }
 {
-    let column = column as u64;
+    let column = column as usize;
+    let malformed = Fault {
+        refusal: Refusal::Malformed,
+        column,
+    };
     if s.len() == 0 {
-        return Answer::Refused {
-            number: MALFORMED,
-            column,
-        };
+        return Err(malformed);
     }
     if s[0] == b'*' {
-        let element = after_star(&s[1..], limits);
-        let start = Answer::Values { set: 0, star: true };
-        return values::judge(limits, column, start, element);
+        let element = after_star(&s[1..], limits).ok_or(malformed)?;
+        let start = Allowed { set: 0, star: true };
+        return values::judge(limits, column, Ok(start), element);
     }
     // Most fields are one number.
-    if let Number::Value(n) = number::read(s) {
+    if let Some(n) = number::read(s) {
         return values::judge_number(limits, column, n);
     }
     list::read(s, column, limits)

@@ -1,84 +1,42 @@
 // The three-letter English names of months and weekdays, in any letter case.
-ghost use Rattle.std.specs.Prelude.{◌≡◌, cond};
-ghost use Rattle.field.specs.Names.{lower, alike, named, month_names, weekday_names, name_of, is_sunday};
-ghost use Rattle.field.specs.declared.number.Number.TheVariants.{Value};
+ghost use Rattle.std.specs.Prelude.{◌≡◌, ◌+◌, ◌^◌, ◌<◌, length};
+ghost use Rattle.field.specs.Inner.{InLower};
+ghost use Rattle.field.specs.Names.{named, name_of, is_sunday};
 
 use crate::Names;
-use crate::number::Number;
 
-// A letter in lower case; any other byte as it is.
-fn lower(b: u8) -> u8
-    ensures { result ≡ lower b }
-{
-    if (b'A' <= b) & (b <= b'Z') { b + 32 } else { b }
-}
-
-// Whether s is a name, which is given in lower case.
-fn is_name(s: &[u8], name: &[u8]) -> bool
-    ensures { result ≡ alike s.now name.now }
-{
-    if s.len() == name.len() {
-        let mut at = 0;
-        while at < s.len() {
-            if lower(s[at]) != name[at] {
-                return false;
-            }
-            at += 1;
-        }
-        return true;
-    }
-    false
-}
-
-// The number of a name, if s is that name; otherwise what the other names gave.
-fn named_or(s: &[u8], name: &[u8; 3], value: u16, other: Number) -> Number
-    ensures { result ≡ cond (alike s.now name.now) (Value value) other }
-{
-    if is_name(s, name) {
-        return Number::Value(value);
-    }
-    other
-}
-
-// January is 1, and December, which is tried first, 12.
-fn month(s: &[u8]) -> Number
-    ensures { result ≡ named 1 month_names s.now }
-{
-    let n = named_or(s, b"dec", 12, Number::Malformed);
-    let n = named_or(s, b"nov", 11, n);
-    let n = named_or(s, b"oct", 10, n);
-    let n = named_or(s, b"sep", 9, n);
-    let n = named_or(s, b"aug", 8, n);
-    let n = named_or(s, b"jul", 7, n);
-    let n = named_or(s, b"jun", 6, n);
-    let n = named_or(s, b"may", 5, n);
-    let n = named_or(s, b"apr", 4, n);
-    let n = named_or(s, b"mar", 3, n);
-    let n = named_or(s, b"feb", 2, n);
-    named_or(s, b"jan", 1, n)
-}
+// January is 1.
+const MONTHS: [[u8; 3]; 12] = [
+    *b"jan", *b"feb", *b"mar", *b"apr", *b"may", *b"jun", *b"jul", *b"aug", *b"sep", *b"oct",
+    *b"nov", *b"dec",
+];
 
 // Sunday is 0.
-fn weekday(s: &[u8]) -> Number
-    ensures { result ≡ named 0 weekday_names s.now }
+const WEEKDAYS: [[u8; 3]; 7] = [
+    *b"sun", *b"mon", *b"tue", *b"wed", *b"thu", *b"fri", *b"sat",
+];
+
+// The number of a name among some in lower case, of which the first has the number given.
+fn named(s: &[u8], names: &[[u8; 3]], first: u16) -> Option<u16>
+    requires { InLower names.now × (first + length names.now < 2 ^ 16) }
+    ensures { result ≡ named first names.now s.now }
 {
-    let n = named_or(s, b"sat", 6, Number::Malformed);
-    let n = named_or(s, b"fri", 5, n);
-    let n = named_or(s, b"thu", 4, n);
-    let n = named_or(s, b"wed", 3, n);
-    let n = named_or(s, b"tue", 2, n);
-    let n = named_or(s, b"mon", 1, n);
-    named_or(s, b"sun", 0, n)
+    for i in 0..names.len() {
+        if s.eq_ignore_ascii_case(&names[i]) {
+            return Some(first + i as u16);
+        }
+    }
+    None
 }
 
 // The number that a name stands for in a field with such names.
-pub(crate) fn read(s: &[u8], names: Names) -> Number
+pub(crate) fn read(s: &[u8], names: Names) -> Option<u16>
     ensures { result ≡ name_of names s.now }
 {
     match names {
-        Names::None => Number::Malformed,
-        Names::Months => month(s),
-        Names::Weekdays => weekday(s),
+        Names::None => None,
+        Names::Months => named(s, &MONTHS, 1),
+        Names::Weekdays => named(s, &WEEKDAYS, 0),
     }
 }
 
@@ -89,6 +47,6 @@ pub(crate) fn is_sunday(s: &[u8], names: Names) -> bool
     match names {
         Names::None => false,
         Names::Months => false,
-        Names::Weekdays => is_name(s, b"sun"),
+        Names::Weekdays => s.eq_ignore_ascii_case(b"sun"),
     }
 }

@@ -1,13 +1,13 @@
 // The values of an element within a field's limits, put into the field's set.
-ghost use Rattle.std.specs.Prelude.{◌≡◌, ◌+◌, ◌-◌, ◌^◌, ◌≤◌, ◌<◌, false};
-ghost use Rattle.field.specs.declared.Answer.TheVariants.{Values};
-ghost use Rattle.field.specs.declared.element.Element.TheVariants.{Range};
+ghost use Rattle.std.specs.Prelude.{◌≡◌, ◌+◌, ◌-◌, ◌^◌, ◌≤◌, ◌<◌, false, Some};
+ghost use Rattle.field.specs.Elements.{from_to};
 ghost use Rattle.field.specs.Values.{bit_of, last_of, values_of, including};
 ghost use Rattle.field.specs.Inner.{last_new};
-ghost use Rattle.field.specs.Judgement.{outside, judged};
+ghost use Rattle.field.specs.Judgement.{means, outside, judged};
 
 use crate::element::Element;
-use crate::{Answer, Limits, MALFORMED, OUT_OF_LIMITS, REVERSED, STEP_ZERO};
+use crate::{Allowed, Fault, Limits};
+use refusal::Refusal;
 
 // The bit of a value: its own, or past the last bit counted on from the first. As a weekday, 7 is Sunday as 0 is.
 pub(crate) fn bit_of(limits: Limits, value: u64) -> u64
@@ -21,7 +21,7 @@ pub(crate) fn bit_of(limits: Limits, value: u64) -> u64
     limits.first as u64 + (value - bits)
 }
 
-// The set with low and each step-th value after it, up to high.
+// The set with low and each step-th value after it, up to high. Low counts even where it is past high, so no range says these values.
 fn with_range(set: u64, limits: Limits, low: u16, high: u16, step: u16) -> u64
     requires { 0 < step }
     ensures { result ≡ including limits set (values_of low high step) }
@@ -88,51 +88,49 @@ fn last_of(limits: Limits, low: u16, high: u16) -> u16
 }
 
 // The answer with one element more, whose first byte stands at the column. A refusal stands.
-pub(crate) fn judge(limits: Limits, column: u64, answer: Answer, element: Element) -> Answer
-    ensures { result ≡ judged limits column answer element }
+pub(crate) fn judge(
+    limits: Limits,
+    column: usize,
+    answer: Result<Allowed, Fault>,
+    element: Element,
+) -> Result<Allowed, Fault>
+    ensures { result ≡ judged limits column answer (Some element) }
 {
-    let Answer::Values { set, star } = answer else {
-        return answer;
-    };
-    let Element::Range { low, high, step } = element else {
-        return Answer::Refused {
-            number: MALFORMED,
-            column,
-        };
-    };
+    let Allowed { set, star } = answer?;
+    let Element { low, high, step } = element;
     if is_outside(limits, low) | is_outside(limits, high) {
-        return Answer::Refused {
-            number: OUT_OF_LIMITS,
+        return Err(Fault {
+            refusal: Refusal::OutOfLimits,
             column,
-        };
+        });
     }
     if (high < low) & !limits.wraps {
-        return Answer::Refused {
-            number: REVERSED,
+        return Err(Fault {
+            refusal: Refusal::Reversed,
             column,
-        };
+        });
     }
     if step == 0 {
-        return Answer::Refused {
-            number: STEP_ZERO,
+        return Err(Fault {
+            refusal: Refusal::StepZero,
             column,
-        };
+        });
     }
     let last = last_of(limits, low, high);
     let set = with_values(set, limits, low, last, step);
-    Answer::Values { set, star }
+    Ok(Allowed { set, star })
 }
 
 // The answer for a field that is one number, whose first byte stands at the column.
-pub(crate) fn judge_number(limits: Limits, column: u64, n: u16) -> Answer
-    ensures { result ≡ judged limits column (Values 0 false) (Range n n 1) }
+pub(crate) fn judge_number(limits: Limits, column: usize, n: u16) -> Result<Allowed, Fault>
+    ensures { result ≡ judged limits column (means 0 false) (from_to n n 1) }
 {
     if is_outside(limits, n) {
-        return Answer::Refused {
-            number: OUT_OF_LIMITS,
+        return Err(Fault {
+            refusal: Refusal::OutOfLimits,
             column,
-        };
+        });
     }
     let set = octets::set::with(0, bit_of(limits, n as u64));
-    Answer::Values { set, star: false }
+    Ok(Allowed { set, star: false })
 }

@@ -10,6 +10,8 @@ use native.Mathlib.Nat.{le_refl}
 use lib.Dec.{leb}
 use lib.Seq.{drop-append_seam}
 use borrow.Author.Tests.{leb-true}
+use Rattle.std.specs.Prelude.{Ok}
+use Rattle.refusal.specs.Numbers.{number_of}
 use Rattle.octets.specs.OverFront as front
 use Rattle.calendar.specs.Dates.{last_minute}
 use Rattle.schedule.proofs.Theorems.{mark-stays}
@@ -70,7 +72,7 @@ effect jobs l (pop room) = popped l
 -- what an unrefused request answers
 abbrev pub Answered : Jobs → Queue → Call → Type 0
 Answered jobs l (tick minute room) = Unit {0}
-Answered jobs l (pop room) = (pop_step jobs.count room).answer ≡ front l.waiting
+Answered jobs l (pop room) = (pop_step jobs.count room).answer ≡ Ok (front l.waiting)
 
 pub record Undone (jobs : Jobs) (c : Call) : Type 0 where
   pub was : is_refused jobs c ≡ true
@@ -88,7 +90,7 @@ pub record Done (jobs : Jobs) (l : Queue) (c : Call) : Type 0 where
 module _ (jobs : Jobs) (h : jobs.count < limit) (l : Queue) (e : proper jobs.count l ≡ true) where
   tick-outcome : (minute : ℕ) (room : List ℕ) → (roomy jobs.count room ≡ true → Holds l room)
       → Undone jobs (tick minute room) ⊎ Done jobs l (tick minute room)
-  unfolding is_refused refusal room_after room_of expected tick_step tick_refusal effect
+  unfolding is_refused refusal room_after room_of expected tick_step tick_refusal effect number_of
   tick-outcome minute room f = go (roomy jobs.count room) refl (leb minute last_minute) refl
     where
       go : (b : Bool) → roomy jobs.count room ≡ b → (d : Bool) → leb minute last_minute ≡ d
@@ -105,10 +107,10 @@ module _ (jobs : Jobs) (h : jobs.count < limit) (l : Queue) (e : proper jobs.cou
           inr (record { was = rw (i, q); why = rw (i, q, r); room = rw (i, q, k, room_after); answer = tt; leaves = ticked-proper jobs l minute (leb-true minute last_minute q) e })
 
   pop-outcome : (room : List ℕ) → (roomy jobs.count room ≡ true → Holds l room) → Undone jobs (pop room) ⊎ Done jobs l (pop room)
-  unfolding is_refused refusal room_after room_of expected pop_step pop_refusal front effect
+  unfolding is_refused refusal room_after room_of expected pop_step pop_refusal front effect number_of
   pop-outcome room f = go (roomy jobs.count room) refl
     where
-      front-is : (k : List ℕ) → pop_refusal (front k) ≡ 0
+      front-is : (k : List ℕ) → pop_refusal (Ok (front k)) ≡ 0
       front-is [] = refl
       front-is (x ∷ k) = refl
 

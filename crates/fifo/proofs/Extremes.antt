@@ -7,8 +7,7 @@ use mathlib.Core.List.{List, [], ◌∷◌}
 use Prim.Native.Nat.{ℕ, ◌+◌, ◌≤◌, ◌<◌}
 use native.Mathlib.Omega.{arith}
 use lib.ListN.{length}
-use Rattle.schedule.specs.declared.jump.Mark.{Mark}
-use Rattle.fifo.specs.declared.FrontAnswer.TheVariants.{Entry}
+use Rattle.std.specs.Prelude.{Option, Some, Ok}
 use Rattle.fifo.specs.Queues.{Queue, is_waiting, proper}
 use Rattle.fifo.specs.Layout.{roomy, is_queue}
 use Rattle.fifo.specs.Steps.{Jobs, fresh, calls, pop_step, standing, entry_step}
@@ -22,7 +21,7 @@ module _ (jobs : Jobs) (all : jobs.count ≡ 65535) where
   -- The last of 65,535 jobs, after an announcement and a request: if the minute after t calls it, whatever the mark, it is named by the first request
   -- after 1 + 65,535 - 1 minutes; with a request every two announcements, after 1 + 2 * 65,535 - 1.
   pub fair-65534 : (t : ℕ) (one two : List ℕ) (second : List Call)
-      → jobs.boot 65534 ≡ false → ((mark : Mark) → calls jobs mark (t + 1) 65534 ≡ true)
+      → jobs.boot 65534 ≡ false → ((mark : Option ℕ) → calls jobs mark (t + 1) 65534 ≡ true)
       → Follows jobs (fresh jobs) (tick 4223371679 one ∷ pop two ∷ second)
       → (ConsecutiveTicks (t + 1) 65535 true (unrefused jobs second) → Names jobs 65534 (up_to 65535 (unrefused jobs second)))
       × (ConsecutiveTicksEvery 2 (t + 1) 131070 0 (unrefused jobs second) → Names jobs 65534 (up_to 131070 (unrefused jobs second)))
@@ -38,7 +37,7 @@ module _ (jobs : Jobs) (all : jobs.count ≡ 65535) where
 
   -- at the last place: none of 65,534 requests names it, the next one does
   pub waits-65534 : (e : ℕ) (l : Queue) (cs : List Call)
-      → proper 65535 l ≡ true → standing 65534 l.waiting ≡ Entry e → Follows jobs l cs
+      → proper 65535 l ≡ true → standing 65534 l.waiting ≡ Some e → Follows jobs l cs
       → (Names jobs e (up_to_request 65534 (unrefused jobs cs)) → ⊥)
       × (65534 < requests (unrefused jobs cs) → Names jobs e (up_to_request 65535 (unrefused jobs cs)))
   waits-65534 e l cs good at follows = waits-exactly jobs e 65534 l cs (omega (arith, all)) (rw all good) at follows
@@ -56,8 +55,8 @@ module _ (jobs : Jobs) (all : jobs.count ≡ 65535) where
 
 -- who is at place 1 is named by the second request, and who is at place 65,534 moves on
 pub moves-65534 : (room : List ℕ) (e : ℕ) → is_queue 65535 room ≡ true
-    → (entry_step 65535 1 room ≡ Entry e → (pop_step 65535 (pop_step 65535 room).room).answer ≡ Entry e)
-    × (entry_step 65535 65534 room ≡ Entry e → entry_step 65535 65533 (pop_step 65535 room).room ≡ Entry e)
+    → (entry_step 65535 1 room ≡ Ok (Some e) → (pop_step 65535 (pop_step 65535 room).room).answer ≡ Ok (Some e))
+    × (entry_step 65535 65534 room ≡ Ok (Some e) → entry_step 65535 65533 (pop_step 65535 room).room ≡ Ok (Some e))
 moves-65534 room e queue = (
   (λ at. sym (front-waits 65535 (pop_step 65535 room).room) ∙ request-moves 65535 0 room (omega arith) queue ∙ at),
   (λ at. request-moves 65535 65533 room (omega arith) queue ∙ at),

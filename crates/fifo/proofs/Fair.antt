@@ -12,7 +12,7 @@ use native.Mathlib.Omega.{arith}
 use lib.Dec.{eqb}
 use lib.ListN.{length}
 use borrow.Author.Tests.{eqb-true, lt-ltb}
-use Rattle.schedule.specs.declared.jump.Mark.{Mark}
+use Rattle.std.specs.Prelude.{Option, Ok}
 use Rattle.schedule.specs.Jumps.{mark_after}
 use Rattle.fifo.specs.Queues.{Queue, is_waiting, entries_of, proper}
 use Rattle.fifo.specs.Layout.{limit}
@@ -51,7 +51,7 @@ at-waits e (x ∷ l) q = go (eqb x e) refl q (λ k. at-waits e l k)
 abbrev pub Runs : Jobs → Queue → List Call → Type 0
 Runs jobs l [] = Unit {0}
 Runs jobs l (tick minute room ∷ cs) = Runs jobs (ticked jobs minute l) cs
-Runs jobs l (pop room ∷ cs) = ((pop_step jobs.count room).answer ≡ front l.waiting) × Runs jobs (popped l) cs
+Runs jobs l (pop room ∷ cs) = ((pop_step jobs.count room).answer ≡ Ok (front l.waiting)) × Runs jobs (popped l) cs
 
 module _ (jobs : Jobs) (h : jobs.count < limit) where
   runs_done : (c : Call) (cs : List Call) (l : Queue) → Done jobs l c → Runs jobs (effect jobs l c) cs → Runs jobs l (c ∷ cs)
@@ -111,7 +111,7 @@ times-next k p = omega arith
 module _ (jobs : Jobs) (e k : ℕ) (some : 0 < k) where
   -- With p before it, n minutes to come and `since` announced since the last request: a request comes within k - since announcements, and each of
   -- the p after it within k more.
-  pub waiting-named : (cs : List Call) (mark : Mark) (l : List ℕ) (p m n since : ℕ) → At e p l → since ≤ k → k + k * p ≤ n + since
+  pub waiting-named : (cs : List Call) (mark : Option ℕ) (l : List ℕ) (p m n since : ℕ) → At e p l → since ≤ k → k + k * p ≤ n + since
       → Runs jobs (record { mark = mark; waiting = l }) cs → ConsecutiveTicksEvery k m n since cs → Names jobs e (up_to n cs)
   unfolding ticked front behind popped
   waiting-named (pop room ∷ cs) mark [] p m n since a h near r consecutive = elim a [ ]

@@ -13,7 +13,7 @@ use borrow.Author.Tests.{not-true, le-leb, lt-leb, le-ltb}
 use Rattle.octets.specs.BitSets.{has_member}
 use Rattle.calendar.specs.Dates.{last_minute}
 use Rattle.schedule.specs.Jumps.{mark_after}
-use Rattle.fifo.specs.declared.CountAnswer.TheVariants.{Joined}
+use Rattle.std.specs.Prelude.{Ok}
 use Rattle.fifo.specs.Queues.{Queue, is_waiting, proper, pick}
 use Rattle.fifo.specs.Layout.{limit, queue_of, stored, roomy, is_queue}
 use Rattle.fifo.specs.Steps.{Jobs, fresh, init_step, calls, joins, joiners, ticked, tick_step}
@@ -159,7 +159,7 @@ joins-new jobs minute l e q =
 pub tick-done : (n : ℕ) (called : List ℕ) (minute : ℕ) (room : List ℕ) → is_queue n room ≡ true → minute ≤ last_minute
     → let l = queue_of room in
     tick_called n called minute room
-    ≡ record { answer = Joined (length (callees n called l.waiting)); room = stored (joined n called (mark_after l.mark minute) l) room }
+    ≡ record { answer = Ok (length (callees n called l.waiting)); room = stored (joined n called (mark_after l.mark minute) l) room }
 unfolding tick_called
 tick-done n called minute room e on = rw (e, le-leb minute last_minute on)
 

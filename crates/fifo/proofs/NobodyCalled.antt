@@ -7,11 +7,11 @@ use mathlib.Core.List.{List, [], ◌∷◌, ◌++◌}
 use Prim.Native.Nat.{ℕ, zero, suc, ◌+◌, ◌≤◌, ◌<◌}
 use native.Mathlib.Omega.{arith}
 use lib.ListN.{take}
+use Rattle.std.specs.Prelude.{Option}
 use Rattle.calendar.specs.Dates.{last_minute}
-use Rattle.schedule.specs.declared.jump.Mark.{Mark}
 use Rattle.schedule.specs.Jumps.{mark_after}
-use Rattle.fifo.specs.declared.FrontAnswer.{FrontAnswer}
-use Rattle.fifo.specs.declared.FrontAnswer.TheVariants.{Entry}
+use Rattle.std.specs.Prelude.{Option, Some, Result, Ok}
+use Rattle.refusal.specs.declared.Refusal.{Refusal}
 use Rattle.fifo.specs.Queues.{Queue, pick}
 use Rattle.fifo.specs.Layout.{limit, roomy}
 use Rattle.fifo.specs.Steps.{Jobs, fresh, calls, joins, joiners, ticked, front, behind, popped}
@@ -34,13 +34,13 @@ joiners-none : (jobs : Jobs) (minute : ℕ) (l : Queue) → ((e : ℕ) → e < j
 unfolding joiners joins
 joiners-none jobs minute l none = pick-none (joins jobs minute l) jobs.count (λ e k. rw (none e k, and-false (not (jobs.boot e))))
 
-nobody : {e : ℕ} {a : FrontAnswer} → a ≡ front [] → a ≡ Entry e → ⊥
+nobody : {e : ℕ} {a : Result (Option ℕ) Refusal} → a ≡ Ok (front []) → a ≡ Ok (Some e) → ⊥
 unfolding front
 nobody is named = let z : ◌≡◌ {A = ℕ} 0 1 = cc in omega arith
 
 -- the first k minutes call nobody, and nobody waits
 module _ (jobs : Jobs) (e : ℕ) where
-  pub quiet : (cs : List Call) (mark : Mark) (m n k : ℕ) (asked : Bool)
+  pub quiet : (cs : List Call) (mark : Option ℕ) (m n k : ℕ) (asked : Bool)
       → ((j : ℕ) → j < k → (x : ℕ) → x < jobs.count → calls jobs (marks mark m j) (m + j) x ≡ false)
       → (k ≡ 0 → asked ≡ false) → Runs jobs (record { mark = mark; waiting = [] }) cs → ConsecutiveTicks m n asked cs → Names jobs e (up_to k cs) → ⊥
   unfolding ticked behind popped

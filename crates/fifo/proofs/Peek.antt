@@ -8,9 +8,8 @@ use native.Mathlib.Nat.{lt_of_not-le}
 use native.Mathlib.Decide.{dec_le}
 use native.Mathlib.Omega.{arith}
 use lib.ListN.{length, get_or, take}
-use Rattle.fifo.specs.declared.FrontAnswer.TheVariants.{Entry, Nothing}
+use Rattle.std.specs.Prelude.{Option, Some, None}
 use Rattle.fifo.specs.Queues.{is_waiting, entries_of}
-use Rattle.schedule.specs.declared.jump.Mark.{Mark}
 use Rattle.schedule.specs.Jumps.{is_mark}
 use Rattle.fifo.specs.Layout.{limit, queue_of, stored, roomy}
 use Rattle.fifo.specs.Steps.{front, standing}
@@ -21,13 +20,13 @@ use Rattle.fifo.proofs.Filling.{push-laid}
 
 -- ---- who stands at a place
 
-pub standing-at : (l : List ℕ) (i : ℕ) → i < length l → Entry (get_or l i 0) ≡ standing i l
+pub standing-at : (l : List ℕ) (i : ℕ) → i < length l → Some (get_or l i 0) ≡ standing i l
 unfolding standing front
 standing-at [] i h = absurd (omega arith)
 standing-at (x ∷ l) zero h = refl
 standing-at (x ∷ l) (suc i) h = standing-at l i (omega arith)
 
-pub standing-past : (l : List ℕ) (i : ℕ) → length l ≤ i → Nothing ≡ standing i l
+pub standing-past : (l : List ℕ) (i : ℕ) → length l ≤ i → None ≡ standing i l
 unfolding standing front
 standing-past [] zero h = refl
 standing-past [] (suc i) h = refl
@@ -58,11 +57,11 @@ entries-take n l e (suc i) h =
     ∙ entries-snoc n (take i l) (get_or l i 0) (entries-take n l e i (omega arith)) t.0 t.1)
 
 -- the buffer with a mark and the first entries of a list
-abbrev pub partly : Mark → List ℕ → List ℕ → ℕ → List ℕ
+abbrev pub partly : Option ℕ → List ℕ → List ℕ → ℕ → List ℕ
 partly m l room i = stored (record { mark = m; waiting = take i l }) room
 
 -- a turn of the loop: the next entry joins
-pub refill-next : (n : ℕ) (m : Mark) (l room : List ℕ) (i : ℕ) → n < limit → is_mark m ≡ true → roomy n room ≡ true → entries_of n l ≡ true → i < length l
+pub refill-next : (n : ℕ) (m : Option ℕ) (l room : List ℕ) (i : ℕ) → n < limit → is_mark m ≡ true → roomy n room ≡ true → entries_of n l ≡ true → i < length l
     → CanPush (partly m l room i) × (stored (pushed (get_or l i 0) (queue_of (partly m l room i))) (partly m l room i) ≡ partly m l room (i + 1))
 unfolding pushed
 refill-next n m l room i few is r e h =

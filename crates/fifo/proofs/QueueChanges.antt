@@ -8,11 +8,11 @@ use Prim.Native.Nat.{ℕ, zero, suc, ◌+◌, ◌≤◌, ◌<◌}
 use native.Mathlib.Omega.{arith}
 use lib.Dec.{ltb}
 use borrow.Author.Tests.{le-leb, ltb-true, lt-ltb}
+use Rattle.std.specs.Prelude.{None}
 use Rattle.octets.specs.Passing.{passing}
 use Rattle.calendar.specs.Dates.{last_minute}
 use Rattle.schedule.specs.Jumps.{mark_after}
-use Rattle.schedule.specs.declared.jump.Mark.TheVariants.{None}
-use Rattle.fifo.specs.declared.FrontAnswer.TheVariants.{Entry, Nothing}
+use Rattle.std.specs.Prelude.{Some, None as Nothing, Ok}
 use Rattle.fifo.specs.Queues.{Queue, is_waiting, pick}
 use Rattle.fifo.specs.Layout.{limit, queue_of, roomy, is_queue}
 use Rattle.fifo.specs.Steps.{Jobs, fresh, init_step, calls, joins, joiners, ticked, tick_step, front, behind, popped, pop_step}
@@ -105,7 +105,7 @@ module _ (jobs : Jobs) (few : jobs.count < limit) (room : List ℕ) where
     -- ---- a request
 
     pub pop-leaves : (e : ℕ) (l : List ℕ) → queued ≡ e ∷ l
-        → ((pop_step jobs.count room).answer ≡ Entry e) × (queue_of (pop_step jobs.count room).room ≡ record { mark = (queue_of room).mark; waiting = l })
+        → ((pop_step jobs.count room).answer ≡ Ok (Some e)) × (queue_of (pop_step jobs.count room).room ≡ record { mark = (queue_of room).mark; waiting = l })
     unfolding pop_step popped front behind
     pop-leaves e l is =
         rw (queue, is) (
@@ -114,7 +114,7 @@ module _ (jobs : Jobs) (few : jobs.count < limit) (room : List ℕ) where
               (make-proper jobs.count (record { mark = (queue_of room).mark; waiting = l }) (is-proper jobs.count (queue_of room) known.proper-is).0 (rw is at (entries-behind jobs.count queued (is-proper jobs.count (queue_of room) known.proper-is).1))),
         )
 
-    pub pop-nothing : queued ≡ [] → ((pop_step jobs.count room).answer ≡ Nothing) × (queue_of (pop_step jobs.count room).room ≡ queue_of room)
+    pub pop-nothing : queued ≡ [] → ((pop_step jobs.count room).answer ≡ Ok Nothing) × (queue_of (pop_step jobs.count room).room ≡ queue_of room)
     unfolding pop_step popped front behind
     pop-nothing is = rw (queue, is) (
       refl,

@@ -12,10 +12,9 @@ use lib.Dec.{leb, eqb}
 use borrow.Author.Tests.{leb-true, le-leb, lt-leb, eqb-true}
 use lib.ListN.{length, get_or, take, drop, length-append, length-drop, take-append-drop}
 use lib.Seq.{take-append_seam, drop-append-add, drop-drop}
+use Rattle.std.specs.Prelude.{Option, Some, None}
 use Rattle.octets.specs.OverFront as front
 use Rattle.calendar.specs.Dates.{last_minute}
-use Rattle.schedule.specs.declared.jump.Mark.{Mark}
-use Rattle.schedule.specs.declared.jump.Mark.TheVariants.{None, At}
 use Rattle.schedule.specs.Jumps.{is_mark}
 use Rattle.fifo.specs.Queues.{Queue, entries_of, proper}
 use Rattle.fifo.specs.Layout.{limit, numbers, bytes, number32, format_number, mark_number, mark_from, layout, format_of, mark_of, count_of, queue_of, image, stored, queue_size, roomy, is_head, is_queue}
@@ -92,7 +91,7 @@ pub make-proper : (n : ℕ) (l : Queue) → is_mark l.mark ≡ true → entries_
 unfolding proper
 make-proper n l m e = rw (m, e)
 
-pub none-proper : (n : ℕ) (m : Mark) → is_mark m ≡ true → proper n (record { mark = m; waiting = [] }) ≡ true
+pub none-proper : (n : ℕ) (m : Option ℕ) → is_mark m ≡ true → proper n (record { mark = m; waiting = [] }) ≡ true
 unfolding entries_of
 none-proper n m is = make-proper n (record { mark = m; waiting = [] }) is refl
 
@@ -142,20 +141,20 @@ small-queue n s r = rw r
 
 -- ---- read back
 
-pub mark-small : (m : Mark) → is_mark m ≡ true → mark_number m < limit * limit
+pub mark-small : (m : Option ℕ) → is_mark m ≡ true → mark_number m < limit * limit
 mark-small None h = omega arith
-mark-small (At x) h = omega (arith, leb-true x last_minute h)
+mark-small (Some x) h = omega (arith, leb-true x last_minute h)
 
-mark-back : (m : Mark) → mark_from (mark_number m) ≡ m
+mark-back : (m : Option ℕ) → mark_from (mark_number m) ≡ m
 mark-back None = refl
-mark-back (At x) = rw (add-one x)
+mark-back (Some x) = rw (add-one x)
 
 number-from : (n : ℕ) → mark_number (mark_from n) ≡ n
 number-from zero = refl
 number-from (suc n) = omega arith
 
 -- a number that isn't 0, as code reads it
-pub mark-read : (n : ℕ) → (n ≡ 0 → ⊥) → At (n - 1) ≡ mark_from n
+pub mark-read : (n : ℕ) → (n ≡ 0 → ⊥) → Some (n - 1) ≡ mark_from n
 mark-read zero h = absurd (h refl)
 mark-read (suc n) h = let e : suc n - 1 ≡ n = omega arith in rw e
 

@@ -7,9 +7,8 @@ use Prim.Native.Nat.{ℕ, ◌+◌, ◌≤◌, ◌<◌}
 use native.Mathlib.Omega.{arith}
 use lib.Dec.{ltb}
 use borrow.Author.Tests.{le-leb}
+use Rattle.std.specs.Prelude.{Option, Some, None}
 use Rattle.calendar.specs.Dates.{last_minute}
-use Rattle.schedule.specs.declared.jump.Mark.{Mark}
-use Rattle.schedule.specs.declared.jump.Mark.TheVariants.{None, At}
 use Rattle.schedule.specs.Jumps.{case_of, judged, mark_after}
 use Rattle.fifo.specs.Queues.{Queue, is_waiting, entries_of, proper}
 use Rattle.fifo.specs.Layout.{limit, queue_of, stored, roomy, is_queue}
@@ -22,18 +21,18 @@ use Rattle.fifo.proofs.MarkCatchesUp.{follows-calls, after_next, after_none}
 -- ---- the mark
 
 -- none, or the minute before
-abbrev pub Before : Mark → ℕ → Type 0
+abbrev pub Before : Option ℕ → ℕ → Type 0
 Before None m = Unit {0}
-Before (At x) m = m ≡ x + 1
+Before (Some x) m = m ≡ x + 1
 
-pub before-next : (mark : Mark) (m : ℕ) → Before mark m → mark_after mark m ≡ At m
+pub before-next : (mark : Option ℕ) (m : ℕ) → Before mark m → mark_after mark m ≡ Some m
 before-next None m h = after_none m
-before-next (At x) m h = after_next x m (omega arith) (omega arith)
+before-next (Some x) m h = after_next x m (omega arith) (omega arith)
 
-before-calls : (jobs : Jobs) (mark : Mark) (m e : ℕ) → Before mark m → calls jobs mark m e ≡ jobs.matches e m
+before-calls : (jobs : Jobs) (mark : Option ℕ) (m e : ℕ) → Before mark m → calls jobs mark m e ≡ jobs.matches e m
 unfolding calls judged case_of
 before-calls jobs None m e h = refl
-before-calls jobs (At x) m e h = follows-calls jobs x m e h
+before-calls jobs (Some x) m e h = follows-calls jobs x m e h
 
 -- ---- a fresh line
 
@@ -112,7 +111,7 @@ module _ (jobs : Jobs) (few : jobs.count < limit) (m : ℕ) (on : m ≤ last_min
   announced-queue = rw after-laid (queue_of-laid jobs.count (ticked jobs m (without (queue_of room))) alone few next-proper)
 
   module _ (before : Before (queue_of room).mark m) where
-    pub announced-mark : (queue_of after).mark ≡ At m
+    pub announced-mark : (queue_of after).mark ≡ Some m
     unfolding ticked
     announced-mark = ap (λ (l : Queue). l.mark) announced-queue ∙ before-next (queue_of room).mark m before
 

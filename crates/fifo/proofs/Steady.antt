@@ -13,6 +13,8 @@ use Rattle.calendar.specs.Dates.{last_minute}
 use Rattle.fifo.specs.Queues.{Queue, proper}
 use Rattle.fifo.specs.Layout.{limit, stored, queue_size, roomy}
 use Rattle.fifo.specs.Steps.{Jobs, fresh, init_step}
+use Rattle.refusal.specs.declared.Refusal.TheVariants.{NotOnCalendar, NotAQueue}
+use Rattle.refusal.specs.Numbers.{number_of}
 use Rattle.fifo.specs.RefusedCalls.{expected}
 use Rattle.fifo.specs.Fairness.{Call, tick, pop, room_of, room_after, refusal, is_refused, unrefused, queue_after, Holds, ConsecutiveTicks}
 use Rattle.fifo.specs.Buffer.{Use, tick_in, pop_in, lent, call_on, buffer_after, calls_on, buffer_after_all, started}
@@ -46,15 +48,15 @@ record Stands (jobs : Jobs) (n : ℕ) (buffer : List ℕ) : Type 0 where
 module _ (jobs : Jobs) (h : jobs.count < limit) (n : ℕ) where
   -- a call that isn't refused had room enough
   done-roomy : (l : Queue) (c : Call) → Done jobs l c → roomy jobs.count (room_of c) ≡ true
-  unfolding is_refused expected room_of
+  unfolding is_refused expected room_of number_of
   done-roomy l (tick minute room) d = go (roomy jobs.count room) d.why
     where
-      go : (b : Bool) → refusal jobs (tick minute room) ≡ cond b (cond (leb minute (last_minute)) 0 14) 28 → b ≡ true
+      go : (b : Bool) → refusal jobs (tick minute room) ≡ cond b (cond (leb minute last_minute) 0 (number_of NotOnCalendar)) (number_of NotAQueue) → b ≡ true
       go true e = refl
       go false e = absurd (true≢false (rw e at d.was))
   done-roomy l (pop room) d = go (roomy jobs.count room) d.why
     where
-      go : (b : Bool) → refusal jobs (pop room) ≡ cond b 0 28 → b ≡ true
+      go : (b : Bool) → refusal jobs (pop room) ≡ cond b 0 (number_of NotAQueue) → b ≡ true
       go true e = refl
       go false e = absurd (true≢false (rw e at d.was))
 

@@ -4,12 +4,10 @@ use mathlib.Core.Path.{◌≡◌, refl, sym, ap, ◌∙◌}
 use mathlib.Core.List.{List, [], ◌∷◌, ◌++◌}
 use Prim.Native.Nat.{ℕ, suc, ◌+◌, ◌-◌, ◌*◌, ◌/◌, ◌%◌, ◌≤◌, ◌<◌}
 use native.Mathlib.Omega.{arith}
-use native.Mathlib.Numerals.{add-one}
-use lib.ListN.{length, get_or, take, drop, set, length-append, length-drop}
-use lib.Seq.{paste, paste-suc, length_paste_head, get_or-append-add, get_or-drop, take-append_seam, drop-drop}
+use lib.ListN.{length, take, drop, length-append, length-drop}
+use lib.Seq.{paste, take-append_seam, drop-drop}
+use Rattle.std.specs.Prelude.{Option, None}
 use Rattle.octets.specs.OverFront as front
-use Rattle.schedule.specs.declared.jump.Mark.{Mark}
-use Rattle.schedule.specs.declared.jump.Mark.TheVariants.{None}
 use Rattle.fifo.specs.Queues.{Queue}
 use Rattle.fifo.specs.Layout.{limit, bytes, mark_number, layout, image, stored, queue_size}
 use Rattle.fifo.specs.Steps.{behind, popped}
@@ -72,7 +70,7 @@ laid-clear s h =
 
 module _ (l : Queue) (s : List ℕ) (held : stored l s ≡ s) where
   -- another mark
-  pub laid-mark : (m : Mark)
+  pub laid-mark : (m : Option ℕ)
       → with_number 3 (mark_number m / limit) (with_number 2 (mark_number m % limit) s) ≡ stored (record { mark = m; waiting = l.waiting }) s
   unfolding stored front.over_front image layout bytes with_number
   laid-mark m = ap (λ (b : List ℕ). with_number 3 (mark_number m / limit) (with_number 2 (mark_number m % limit) b)) (sym held)
@@ -101,7 +99,7 @@ module _ (l : Queue) (s : List ℕ) (held : stored l s ≡ s) where
       ∙ counted e
 
 -- the others moved up, and the count one less
-pub laid-pop : (m : Mark) (e : ℕ) (w s : List ℕ) → stored (record { mark = m; waiting = e ∷ w }) s ≡ s
+pub laid-pop : (m : Option ℕ) (e : ℕ) (w s : List ℕ) → stored (record { mark = m; waiting = e ∷ w }) s ≡ s
     → with_number 4 (length w) (paste s 10 (drop 12 s) (2 * length w)) ≡ stored (record { mark = m; waiting = w }) s
 unfolding stored front.over_front image layout bytes with_number
 laid-pop m e w s held =
@@ -135,21 +133,3 @@ laid-drop-none l s held q = go l.waiting held q
     go : (w : List ℕ) → stored (record { mark = l.mark; waiting = w }) s ≡ s → length w ≡ 0 → s ≡ stored (record { mark = l.mark; waiting = behind w }) s
     go [] held q = sym held
     go (x ∷ w) held q = absurd (omega arith)
-
--- ---- bytes moved up by one entry
-
--- one byte more
-pub paste-next : (s : List ℕ) (i : ℕ) → 12 + i < length s
-    → set (paste s 10 (drop 12 s) i) (10 + i) (get_or (paste s 10 (drop 12 s) i) (12 + i) 0) ≡ paste s 10 (drop 12 s) (i + 1)
-paste-next s i h =
-    let d : length (drop 12 s) ≡ length s - 12 = length-drop 12 s in
-    let p : length (take 10 s ++ take i (drop 12 s)) ≡ 10 + i = length_paste_head s 10 (drop 12 s) i (omega arith) (omega arith) in
-    let at : 12 + i ≡ length (take 10 s ++ take i (drop 12 s)) + 2 = omega arith in
-    let to : 10 + i + 2 ≡ 12 + i = omega arith in
-    let read : get_or (paste s 10 (drop 12 s) i) (12 + i) 0 ≡ get_or (drop 12 s) i 0 =
-    ap (λ (j : ℕ). get_or (paste s 10 (drop 12 s) i) j 0) at
-    ∙ get_or-append-add (take 10 s ++ take i (drop 12 s)) (drop (10 + i) s) 2 0
-    ∙ get_or-drop (10 + i) s 2 0
-    ∙ ap (λ (j : ℕ). get_or s j 0) to
-    ∙ sym (get_or-drop 12 s i 0) in
-    rw (read, add-one i) (paste-suc s 10 (drop 12 s) i 0 (omega arith) (omega arith))

@@ -3,7 +3,7 @@
 -- QueueChanges says in other words who is queued after each call and in which order: init-leaves, tick-leaves, tick-queues, pop-leaves, pop-nothing, in-file-order.
 -- Refusing has an equation for each way that an answer can go: no-queue, look-says, no-queue-tick, off-tick, tick-says, init-short, init-says.
 -- Assumes nothing.
-use mathlib.Core.Path.{◌≡◌, refl, sym, ◌∙◌}
+use mathlib.Core.Path.{◌≡◌, refl, sym, ap, ◌∙◌}
 use mathlib.Core.Bool.{Bool, true, false, cond, true≢false}
 use mathlib.Core.List.{List, [], ◌∷◌}
 use Prim.Native.Nat.{ℕ, zero, suc, ◌+◌, ◌-◌, ◌*◌, ◌≤◌, ◌<◌}
@@ -11,11 +11,11 @@ use native.Mathlib.Omega.{arith}
 use lib.Dec.{leb}
 use lib.ListN.{length, drop}
 use borrow.Author.Tests.{le-leb}
-use Rattle.octets.specs.Refusals.{IsRefusal}
-use Rattle.fifo.specs.declared.CountAnswer.{CountAnswer}
-use Rattle.fifo.specs.declared.FrontAnswer.{FrontAnswer}
-use Rattle.fifo.specs.declared.CountAnswer.TheVariants.{Joined, Refused as NotTicked}
-use Rattle.fifo.specs.declared.FrontAnswer.TheVariants.{Entry, Nothing, Refused as NotPopped}
+use Rattle.std.specs.Prelude.{Option, Some, None, Result, Ok, Err}
+use Rattle.refusal.specs.declared.Refusal.{Refusal}
+use Rattle.refusal.specs.declared.Refusal.TheVariants.{NotOnCalendar, NotAQueue}
+use Rattle.refusal.specs.Numbers.{number_of, IsRefusal}
+use Rattle.refusal.proofs.Numbers.{number-small}
 use Rattle.calendar.specs.Dates.{last_minute}
 use Rattle.fifo.specs.Queues.{Queue, entries_of, proper}
 use Rattle.fifo.specs.Layout.{limit, queue_of, stored, queue_size, roomy, is_queue}
@@ -59,14 +59,14 @@ room-enough n s h = le-leb (queue_size n) (length s) (omega arith)
 
 -- ---- what a call of a table of n entries comes back with: no more than n join, and an entry that is named is one of them
 
-abbrev pub TickedWithin : ℕ → CountAnswer → Type 0
-TickedWithin n (Joined k) = k ≤ n
-TickedWithin n (NotTicked number) = IsRefusal number
+abbrev pub TickedWithin : ℕ → Result ℕ Refusal → Type 0
+TickedWithin n (Ok k) = k ≤ n
+TickedWithin n (Err refusal) = IsRefusal (number_of refusal)
 
-abbrev pub PoppedWithin : ℕ → FrontAnswer → Type 0
-PoppedWithin n (Entry e) = e < n
-PoppedWithin n Nothing = Unit {0}
-PoppedWithin n (NotPopped number) = IsRefusal number
+abbrev pub PoppedWithin : ℕ → Result (Option ℕ) Refusal → Type 0
+PoppedWithin n (Ok (Some e)) = e < n
+PoppedWithin n (Ok None) = Unit {0}
+PoppedWithin n (Err refusal) = IsRefusal (number_of refusal)
 
 pub init-within : (jobs : Jobs) (room : List ℕ) → TickedWithin jobs.count (init_step jobs room).answer
 unfolding init_step fresh
@@ -74,9 +74,9 @@ init-within jobs room = go (roomy jobs.count room)
   where
     go : (b : Bool)
         → TickedWithin jobs.count
-        (cond {A = Step CountAnswer} b (record { answer = Joined (length (fresh jobs).waiting); room = stored (fresh jobs) room }) (record { answer = NotTicked 28; room = room })).answer
+        (cond {A = Step (Result ℕ Refusal)} b (record { answer = Ok (length (fresh jobs).waiting); room = stored (fresh jobs) room }) (record { answer = Err NotAQueue; room = room })).answer
     go true = pick-length jobs.boot jobs.count
-    go false = omega arith
+    go false = number-small NotAQueue
 
 pub tick-within : (jobs : Jobs) (minute : ℕ) (room : List ℕ) → TickedWithin jobs.count (tick_step jobs minute room).answer
 unfolding tick_step joiners
@@ -84,17 +84,17 @@ tick-within jobs minute room = go (is_queue jobs.count room) (leb minute last_mi
   where
     go : (b c : Bool)
         → TickedWithin jobs.count
-        (cond {A = Step CountAnswer} b
+        (cond {A = Step (Result ℕ Refusal)} b
         (cond c
-        (record { answer = Joined (length (joiners jobs minute (queue_of room))); room = stored (ticked jobs minute (queue_of room)) room })
-        (record { answer = NotTicked 14; room = room }))
-        (record { answer = NotTicked 28; room = room })
+        (record { answer = Ok (length (joiners jobs minute (queue_of room))); room = stored (ticked jobs minute (queue_of room)) room })
+        (record { answer = Err NotOnCalendar; room = room }))
+        (record { answer = Err NotAQueue; room = room })
         ).answer
     go true true = pick-length (joins jobs minute (queue_of room)) jobs.count
-    go true false = omega arith
-    go false c = omega arith
+    go true false = number-small NotOnCalendar
+    go false c = number-small NotAQueue
 
-front-within : (n : ℕ) (l : List ℕ) → entries_of n l ≡ true → PoppedWithin n (front l)
+front-within : (n : ℕ) (l : List ℕ) → entries_of n l ≡ true → PoppedWithin n (Ok (front l))
 unfolding front
 front-within n [] h = tt
 front-within n (e ∷ l) h = (entries-cons n e l h).0
@@ -105,9 +105,9 @@ pop-within n room = go (is_queue n room) refl
   where
     go : (b : Bool) → is_queue n room ≡ b
         → PoppedWithin n
-        (cond {A = Step FrontAnswer} b (record { answer = front (queue_of room).waiting; room = stored (popped (queue_of room)) room }) (record { answer = NotPopped 28; room = room })).answer
+        (cond {A = Step (Result (Option ℕ) Refusal)} b (record { answer = Ok (front (queue_of room).waiting); room = stored (popped (queue_of room)) room }) (record { answer = Err NotAQueue; room = room })).answer
     go true e = front-within n (queue_of room).waiting (is-queue n room e).1
-    go false e = omega arith
+    go false e = number-small NotAQueue
 
 -- ---- a look at the line
 
@@ -120,9 +120,9 @@ pub entry-within : (n place : ℕ) (room : List ℕ) → PoppedWithin n (entry_s
 unfolding entry_step standing
 entry-within n place room = go (is_queue n room) refl
   where
-    go : (b : Bool) → is_queue n room ≡ b → PoppedWithin n (cond b (front (drop place (queue_of room).waiting)) (NotPopped 28))
+    go : (b : Bool) → is_queue n room ≡ b → PoppedWithin n (cond b (Ok (front (drop place (queue_of room).waiting))) (Err NotAQueue))
     go true e = front-within n (drop place (queue_of room).waiting) (entries-drop n place (queue_of room).waiting (is-queue n room e).1)
-    go false e = omega arith
+    go false e = number-small NotAQueue
 
 -- at place 0 stands who a request names
 pub front-waits : (n : ℕ) (room : List ℕ) → entry_step n 0 room ≡ (pop_step n room).answer
@@ -130,8 +130,8 @@ unfolding entry_step standing pop_step
 front-waits n room = go (is_queue n room)
   where
     go : (b : Bool)
-        → cond b (front (queue_of room).waiting) (NotPopped 28)
-        ≡ (cond {A = Step FrontAnswer} b (record { answer = front (queue_of room).waiting; room = stored (popped (queue_of room)) room }) (record { answer = NotPopped 28; room = room })).answer
+        → cond b (Ok (front (queue_of room).waiting)) (Err NotAQueue)
+        ≡ (cond {A = Step (Result (Option ℕ) Refusal)} b (record { answer = Ok (front (queue_of room).waiting); room = stored (popped (queue_of room)) room }) (record { answer = Err NotAQueue; room = room })).answer
     go true = refl
     go false = refl
 
@@ -150,7 +150,7 @@ behind-proper n room e =
 pub request-moves : (n place : ℕ) (room : List ℕ) → n < limit → is_queue n room ≡ true → entry_step n place (pop_step n room).room ≡ entry_step n (suc place) room
 unfolding entry_step pop_step popped
 request-moves n place room few e =
-    rw (e, is_queue-laid n (popped l) room few proper-is (go (roomy n room) refl), queue_of-laid n (popped l) room few proper-is) (behind-waits place l.waiting)
+    rw (e, is_queue-laid n (popped l) room few proper-is (go (roomy n room) refl), queue_of-laid n (popped l) room few proper-is) (ap Ok (behind-waits place l.waiting))
   where
     l : Queue
     l = queue_of room
@@ -164,51 +164,46 @@ request-moves n place room few e =
 
 -- ---- a refused call leaves the room as it was
 
-pub init-stays : (jobs : Jobs) (room : List ℕ) (n : ℕ) → (init_step jobs room).answer ≡ NotTicked n → (init_step jobs room).room ≡ room
+pub init-stays : (jobs : Jobs) (room : List ℕ) (why : Refusal) → (init_step jobs room).answer ≡ Err why → (init_step jobs room).room ≡ room
 unfolding init_step
-init-stays jobs room n = go (roomy jobs.count room)
+init-stays jobs room why = go (roomy jobs.count room)
   where
     go : (b : Bool)
-        → let s : Step CountAnswer =
-        cond b (record { answer = Joined (length (fresh jobs).waiting); room = stored (fresh jobs) room }) (record { answer = NotTicked 28; room = room })
+        → let s : Step (Result ℕ Refusal) =
+        cond b (record { answer = Ok (length (fresh jobs).waiting); room = stored (fresh jobs) room }) (record { answer = Err NotAQueue; room = room })
         in
-        s.answer ≡ NotTicked n → s.room ≡ room
+        s.answer ≡ Err why → s.room ≡ room
     go true e = absurd (let z : ◌≡◌ {A = ℕ} 0 1 = cc in omega arith)
     go false e = refl
 
-pub tick-stays : (jobs : Jobs) (minute : ℕ) (room : List ℕ) (n : ℕ)
-    → (tick_step jobs minute room).answer ≡ NotTicked n → (tick_step jobs minute room).room ≡ room
+pub tick-stays : (jobs : Jobs) (minute : ℕ) (room : List ℕ) (why : Refusal)
+    → (tick_step jobs minute room).answer ≡ Err why → (tick_step jobs minute room).room ≡ room
 unfolding tick_step
-tick-stays jobs minute room n = go (is_queue jobs.count room) (leb minute last_minute)
+tick-stays jobs minute room why = go (is_queue jobs.count room) (leb minute last_minute)
   where
     go : (b c : Bool)
-        → let s : Step CountAnswer =
+        → let s : Step (Result ℕ Refusal) =
         cond b
         (cond c
-        (record { answer = Joined (length (joiners jobs minute (queue_of room))); room = stored (ticked jobs minute (queue_of room)) room })
-        (record { answer = NotTicked 14; room = room }))
-        (record { answer = NotTicked 28; room = room })
+        (record { answer = Ok (length (joiners jobs minute (queue_of room))); room = stored (ticked jobs minute (queue_of room)) room })
+        (record { answer = Err NotOnCalendar; room = room }))
+        (record { answer = Err NotAQueue; room = room })
         in
-        s.answer ≡ NotTicked n → s.room ≡ room
+        s.answer ≡ Err why → s.room ≡ room
     go true true e = absurd (let z : ◌≡◌ {A = ℕ} 0 1 = cc in omega arith)
     go true false e = refl
     go false c e = refl
 
-front-named : (l : List ℕ) (n : ℕ) → front l ≡ NotPopped n → ⊥
-unfolding front
-front-named [] n e = let z : ◌≡◌ {A = ℕ} 0 1 = cc in omega arith
-front-named (x ∷ l) n e = let z : ◌≡◌ {A = ℕ} 0 1 = cc in omega arith
-
-pub pop-stays : (count : ℕ) (room : List ℕ) (n : ℕ) → (pop_step count room).answer ≡ NotPopped n → (pop_step count room).room ≡ room
+pub pop-stays : (count : ℕ) (room : List ℕ) (why : Refusal) → (pop_step count room).answer ≡ Err why → (pop_step count room).room ≡ room
 unfolding pop_step
-pop-stays count room n = go (is_queue count room)
+pop-stays count room why = go (is_queue count room)
   where
     go : (b : Bool)
-        → let s : Step FrontAnswer =
-        cond b (record { answer = front (queue_of room).waiting; room = stored (popped (queue_of room)) room }) (record { answer = NotPopped 28; room = room })
+        → let s : Step (Result (Option ℕ) Refusal) =
+        cond b (record { answer = Ok (front (queue_of room).waiting); room = stored (popped (queue_of room)) room }) (record { answer = Err NotAQueue; room = room })
         in
-        s.answer ≡ NotPopped n → s.room ≡ room
-    go true e = absurd (front-named (queue_of room).waiting n e)
+        s.answer ≡ Err why → s.room ≡ room
+    go true e = absurd (let z : ◌≡◌ {A = ℕ} 0 1 = cc in omega arith)
     go false e = refl
 
 -- ---- fairness

@@ -8,9 +8,9 @@ use Prim.Native.Nat.{ℕ, zero, suc, ◌-◌, ◌*◌, ◌≤◌, ◌<◌}
 use native.Mathlib.Omega.{arith}
 use lib.Dec.{eqb}
 use borrow.Author.Tests.{eq-eqb}
-use Rattle.schedule.specs.declared.jump.Mark.{Mark}
+use Rattle.std.specs.Prelude.{Option}
 use Rattle.schedule.specs.Jumps.{mark_after}
-use Rattle.fifo.specs.declared.FrontAnswer.TheVariants.{Entry}
+use Rattle.std.specs.Prelude.{Some}
 use Rattle.fifo.specs.Queues.{Queue, is_waiting, entries_of}
 use Rattle.fifo.specs.Steps.{Jobs, joiners, ticked, front, behind, popped, standing}
 use Rattle.fifo.specs.Fairness.{Call, tick, pop, unrefused, Names}
@@ -22,13 +22,10 @@ use Rattle.fifo.proofs.Fair.{At, here, there, at-append, at_length, at-waits, ti
 
 -- ---- places
 
-same-entry : {x e : ℕ} → Entry x ≡ Entry e → x ≡ e
-same-entry q = cc
-
-at-standing : (e p : ℕ) (l : List ℕ) → standing p l ≡ Entry e → At e p l
+at-standing : (e p : ℕ) (l : List ℕ) → standing p l ≡ Some e → At e p l
 unfolding standing front
 at-standing e zero [] q = absurd (let z : ◌≡◌ {A = ℕ} 0 1 = cc in omega arith)
-at-standing e zero (x ∷ l) q = let same = same-entry q in rw same here
+at-standing e zero (x ∷ l) q = let same : x ≡ e = cc in rw same here
 at-standing e (suc p) [] q = absurd (let z : ◌≡◌ {A = ℕ} 0 1 = cc in omega arith)
 at-standing e (suc p) (x ∷ l) q = there (at-standing e p l q)
 
@@ -43,14 +40,14 @@ at_in e (suc p) (x ∷ l) (there a) = rw (at_in e p l a) (either (eqb x e))
     either true = refl
     either false = refl
 
-pub standing-in : (e p : ℕ) (l : List ℕ) → standing p l ≡ Entry e → is_waiting e l ≡ true
+pub standing-in : (e p : ℕ) (l : List ℕ) → standing p l ≡ Some e → is_waiting e l ≡ true
 standing-in e p l q = at_in e p l (at-standing e p l q)
 
 -- ---- requests
 
 module _ (jobs : Jobs) (e : ℕ) where
   -- none of the first p
-  not-before : (cs : List Call) (mark : Mark) (l : List ℕ) (p : ℕ) → entries_of jobs.count l ≡ true → At e p l
+  not-before : (cs : List Call) (mark : Option ℕ) (l : List ℕ) (p : ℕ) → entries_of jobs.count l ≡ true → At e p l
       → Runs jobs (record { mark = mark; waiting = l }) cs → Names jobs e (up_to_request p cs) → ⊥
   unfolding ticked front behind popped
   not-before (pop room ∷ cs) mark [] (suc p) g a r named = elim a [ ]
@@ -60,13 +57,13 @@ module _ (jobs : Jobs) (e : ℕ) where
       let queue : Queue = record { mark = mark; waiting = l } in
       not-before cs (mark_after mark minute) (l ++ joiners jobs minute queue) (suc p) (ticked-entries jobs queue minute g) (at-append (joiners jobs minute queue) a) r named
   not-before (pop room ∷ cs) mark (x ∷ l) (suc p) g (there a) r (inl named) =
-      let same : x ≡ e = same-entry (sym r.0 ∙ named) in
+      let same : x ≡ e = cc in
       false≢true (sym (entries-cons jobs.count x l g).1 ∙ rw same (at_in e p l a))
   not-before (pop room ∷ cs) mark (x ∷ l) (suc p) g (there a) r (inr named) =
       not-before cs mark l p (entries-cons jobs.count x l g).2 a r.1 named
 
   -- the next one
-  pub named-then : (cs : List Call) (mark : Mark) (l : List ℕ) (p n : ℕ) → At e p l → p < n → p < requests cs
+  pub named-then : (cs : List Call) (mark : Option ℕ) (l : List ℕ) (p n : ℕ) → At e p l → p < n → p < requests cs
       → Runs jobs (record { mark = mark; waiting = l }) cs → Names jobs e (up_to_request n cs)
   unfolding ticked front behind popped
   named-then (pop room ∷ cs) mark [] p (suc n) a h more r = elim a [ ]

@@ -1,8 +1,8 @@
 -- What the claims about calls are made of, where it doesn't hold: each word is refused for each of its parts.
 -- Assumes nothing.
-use Rattle.std.specs.Prelude.{◌≡◌, refl, true, false, List, [], ◌∷◌, ℕ, zero, suc, ◌+◌, ◌<◌, get_or, replicate}
+use Rattle.std.specs.Prelude.{◌≡◌, refl, true, false, List, [], ◌∷◌, ℕ, zero, suc, ◌+◌, ◌<◌, get_or, replicate, Some, None}
 use Rattle.std.proofs.Common.{sym, ap, true≢false, inl, inr, arith}
-use Rattle.schedule.specs.declared.jump.Mark.TheVariants.{None, At}
+use Rattle.refusal.specs.Numbers.{number_of}
 use Rattle.fifo.specs.Steps.{Jobs, fresh, calls}
 use Rattle.fifo.specs.Refusals.{tick_refusal, pop_refusal}
 use Rattle.fifo.specs.Fairness.{tick, pop, room_of, refusal, is_refused, queue_after, Holds, Follows, ConsecutiveTicks, Names, marks, CalledWithin}
@@ -39,11 +39,11 @@ bytes mark rest = 69 ∷ 82 ∷ 81 ∷ 49 ∷ mark ∷ 0 ∷ 0 ∷ 0 ∷ rest
 
 -- another mark, another count, another entry, another order, another format number
 not-held :
-    (Holds (record { mark = At 4; waiting = 1 ∷ 0 ∷ [] }) (bytes 6 (2 ∷ 0 ∷ 1 ∷ 0 ∷ 0 ∷ 0 ∷ [])) → ⊥)
+    (Holds (record { mark = Some 4; waiting = 1 ∷ 0 ∷ [] }) (bytes 6 (2 ∷ 0 ∷ 1 ∷ 0 ∷ 0 ∷ 0 ∷ [])) → ⊥)
     × (Holds (record { mark = None; waiting = 1 ∷ 0 ∷ [] }) (bytes 1 (2 ∷ 0 ∷ 1 ∷ 0 ∷ 0 ∷ 0 ∷ [])) → ⊥)
-    × (Holds (record { mark = At 4; waiting = 1 ∷ [] }) (bytes 5 (2 ∷ 0 ∷ 1 ∷ 0 ∷ 0 ∷ 0 ∷ [])) → ⊥)
-    × (Holds (record { mark = At 4; waiting = 1 ∷ 0 ∷ [] }) (bytes 5 (2 ∷ 0 ∷ 0 ∷ 0 ∷ 1 ∷ 0 ∷ [])) → ⊥)
-    × (Holds (record { mark = At 4; waiting = 257 ∷ [] }) (bytes 5 (1 ∷ 0 ∷ 1 ∷ 0 ∷ 7 ∷ 7 ∷ [])) → ⊥)
+    × (Holds (record { mark = Some 4; waiting = 1 ∷ [] }) (bytes 5 (2 ∷ 0 ∷ 1 ∷ 0 ∷ 0 ∷ 0 ∷ [])) → ⊥)
+    × (Holds (record { mark = Some 4; waiting = 1 ∷ 0 ∷ [] }) (bytes 5 (2 ∷ 0 ∷ 0 ∷ 0 ∷ 1 ∷ 0 ∷ [])) → ⊥)
+    × (Holds (record { mark = Some 4; waiting = 257 ∷ [] }) (bytes 5 (1 ∷ 0 ∷ 1 ∷ 0 ∷ 7 ∷ 7 ∷ [])) → ⊥)
     × (Holds (record { mark = None; waiting = [] }) (replicate 14 0) → ⊥)
 unfolding running
 not-held = (
@@ -59,7 +59,7 @@ not-held = (
 not-following :
     (Follows two (fresh two) (pop (bytes 0 (1 ∷ 0 ∷ 1 ∷ 0 ∷ 0 ∷ 0 ∷ [])) ∷ []) → ⊥)
     × (Follows two (fresh two) (tick 4 (bytes 0 (0 ∷ 0 ∷ 7 ∷ 7 ∷ 7 ∷ 7 ∷ [])) ∷ pop (bytes 0 (0 ∷ 0 ∷ 7 ∷ 7 ∷ 7 ∷ 7 ∷ [])) ∷ []) → ⊥)
-unfolding two running room_of queue_after is_refused refusal tick_refusal pop_refusal
+unfolding two running room_of queue_after is_refused refusal tick_refusal pop_refusal number_of
 not-following = (
   (λ f. omega (arith, ap (λ (l : List ℕ). get_or l 8 0) (f.0 refl))),
   (λ f. omega (arith, ap (λ (l : List ℕ). get_or l 8 0) (f.1.0 refl))),
@@ -68,9 +68,9 @@ not-following = (
 -- A fixed entry isn't called soon where a mark holds it back, though every minute matches; nor is one within no minutes.
 not-soon : (CalledWithin two 1 0 4 → ⊥) × (CalledWithin two 0 0 4 → ⊥)
 unfolding two running CalledWithin
-not-soon = ((λ s. held (s (At 10))), (λ s. let (j, h, c) = s None in omega arith))
+not-soon = ((λ s. held (s (Some 10))), (λ s. let (j, h, c) = s None in omega arith))
   where
-    held : (j : ℕ) × (j < 1) × (calls two (marks (At 10) 5 j) (5 + j) 0 ≡ true) → ⊥
+    held : (j : ℕ) × (j < 1) × (calls two (marks (Some 10) 5 j) (5 + j) 0 ≡ true) → ⊥
     held (zero, h, c) = true≢false (sym c)
     held (suc j, h, c) = omega arith
 
@@ -91,5 +91,5 @@ not_named = (
 -- the first call, and a later one, refused for bytes that hold no queue
 not-expected :
     (Expected two (tick 4 (replicate 14 0) ∷ []) → ⊥) × (Expected two (pop (bytes 0 (0 ∷ 0 ∷ 0 ∷ 0 ∷ 0 ∷ 0 ∷ [])) ∷ pop (replicate 14 0) ∷ []) → ⊥)
-unfolding two running expected refusal tick_refusal pop_refusal
+unfolding two running expected refusal tick_refusal pop_refusal number_of
 not-expected = ((λ x. omega (arith, x.0)), (λ x. omega (arith, x.1.0)))

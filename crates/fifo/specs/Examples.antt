@@ -1,14 +1,13 @@
 -- A whole run, computed from the definitions in a buffer of 90 bytes: table `* * * * * a`, `@reboot b`, `0 * * * * c`.
 -- Assumes nothing.
-use Rattle.std.specs.Prelude.{◌≡◌, refl, ℕ, zero, suc, ◌%◌, Bool, true, false, List, [], ◌∷◌, ◌++◌, map, ◌⊎◌, eqb, replicate}
+use Rattle.std.specs.Prelude.{◌≡◌, refl, ℕ, zero, suc, ◌%◌, Bool, true, false, List, [], ◌∷◌, ◌++◌, map, ◌⊎◌, eqb, replicate, Option, Some, None, Result, Ok, Err}
 use Rattle.std.proofs.Common.{sym, true≢false, inl, inr, arith}
+use Rattle.refusal.specs.declared.Refusal.{Refusal}
+use Rattle.refusal.specs.declared.Refusal.TheVariants.{NotOnCalendar, NotAQueue}
+use Rattle.refusal.specs.Numbers.{number_of}
 use Rattle.octets.specs.OverFront as front
 use Rattle.octets.specs.Search.{least_of, from, passes}
 use Rattle.schedule.specs.Jumps.{case_of, judged, mark_after}
-use Rattle.fifo.specs.declared.CountAnswer.{CountAnswer}
-use Rattle.fifo.specs.declared.FrontAnswer.{FrontAnswer}
-use Rattle.fifo.specs.declared.CountAnswer.TheVariants.{Joined, Refused as NotTicked}
-use Rattle.fifo.specs.declared.FrontAnswer.TheVariants.{Entry, Nothing, Refused as NotPopped}
 use Rattle.fifo.specs.Queues.{is_waiting, entries_of, pick}
 use Rattle.fifo.specs.Layout.{numbers, bytes, number32, layout, format_of, mark_of, count_of, queue_of, image, stored, roomy, is_head, is_queue}
 use Rattle.fifo.specs.Steps.{Jobs, fresh, init_step, calls, joins, joiners, ticked, tick_step, front, behind, popped, pop_step, standing, entry_step}
@@ -29,7 +28,7 @@ three = record { count = 3; boot = λ e. eqb e 1; fixed = λ e. false; matches =
     matching (suc (suc e)) minute = eqb (minute % 60) 0
 
 -- what a call comes back with
-answer : Jobs → Call → CountAnswer ⊎ FrontAnswer
+answer : Jobs → Call → Result ℕ Refusal ⊎ Result (Option ℕ) Refusal
 answer jobs (tick minute room) = inl (tick_step jobs minute room).answer
 answer jobs (pop room) = inr (pop_step jobs.count room).answer
 
@@ -43,7 +42,7 @@ running = tt
 -- a request: entry 1. Announce 59: 1 joined. Announce 60: 1 joined. Requests: entry 0, entry 2, nothing.
 whole_run :
     map (answer three) (calls_on three (started three 88 (replicate 90 7)) (pop_in 88 ∷ tick_in 59 90 ∷ tick_in 60 88 ∷ pop_in 16 ∷ pop_in 90 ∷ pop_in 88 ∷ []))
-    ≡ inr (Entry 1) ∷ inl (Joined 1) ∷ inl (Joined 1) ∷ inr (Entry 0) ∷ inr (Entry 2) ∷ inr Nothing ∷ []
+    ≡ inr (Ok (Some 1)) ∷ inl (Ok 1) ∷ inl (Ok 1) ∷ inr (Ok (Some 0)) ∷ inr (Ok (Some 2)) ∷ inr (Ok None) ∷ []
 unfolding three answer running
 whole_run = refl
 
@@ -51,8 +50,8 @@ whole_run = refl
 abbrev begun : List ℕ
 begun = 69 ∷ 82 ∷ 81 ∷ 49 ∷ 0 ∷ 0 ∷ 0 ∷ 0 ∷ []
 
--- an empty queue; one byte too few: 28; entry 0 twice: 28; a minute off the calendar: 14; a buffer in which no queue was made,
--- of zeros, and one with another format number: 28; entry 2, which is the last, and entry 3: 28; four of three entries, where the room ends: 28
+-- an empty queue; one byte too few: R28; entry 0 twice: R28; a minute off the calendar: R14; a buffer in which no queue was made,
+-- of zeros, and one with another format number: R28; entry 2, which is the last, and entry 3: R28; four of three entries, where the room ends: R28
 refusals-run :
     map (answer three)
     (pop (begun ++ replicate 8 0)
@@ -66,18 +65,18 @@ refusals-run :
     ∷ pop (begun ++ 1 ∷ 0 ∷ 3 ∷ replicate 5 0)
     ∷ pop (begun ++ 4 ∷ 0 ∷ 0 ∷ 0 ∷ 1 ∷ 0 ∷ 2 ∷ 0 ∷ [])
     ∷ [])
-    ≡ inr Nothing ∷ inr (NotPopped 28) ∷ inr (NotPopped 28) ∷ inl (NotTicked 14) ∷ inr (NotPopped 28) ∷ inl (NotTicked 28) ∷ inr (NotPopped 28)
-    ∷ inr (Entry 2) ∷ inr (NotPopped 28) ∷ inr (NotPopped 28) ∷ []
+    ≡ inr (Ok None) ∷ inr (Err NotAQueue) ∷ inr (Err NotAQueue) ∷ inl (Err NotOnCalendar) ∷ inr (Err NotAQueue) ∷ inl (Err NotAQueue) ∷ inr (Err NotAQueue)
+    ∷ inr (Ok (Some 2)) ∷ inr (Err NotAQueue) ∷ inr (Err NotAQueue) ∷ []
 unfolding three answer running
 refusals-run = refl
 
--- a mark of the calendar's last minute, and one of the minute after it, which is 28 in a request and in an announcement
+-- a mark of the calendar's last minute, and one of the minute after it, which is R28 in a request and in an announcement
 abbrev marked : ℕ → List ℕ
 marked low = 69 ∷ 82 ∷ 81 ∷ 49 ∷ low ∷ 137 ∷ 187 ∷ 251 ∷ replicate 8 0
 
 marks-run :
     map (answer three) (pop (marked 160) ∷ tick 4223371679 (marked 160) ∷ pop (marked 161) ∷ tick 59 (marked 161) ∷ tick 4223371680 (marked 161) ∷ [])
-    ≡ inr Nothing ∷ inl (Joined 1) ∷ inr (NotPopped 28) ∷ inl (NotTicked 28) ∷ inl (NotTicked 28) ∷ []
+    ≡ inr (Ok None) ∷ inl (Ok 1) ∷ inr (Err NotAQueue) ∷ inl (Err NotAQueue) ∷ inl (Err NotAQueue) ∷ []
 unfolding three answer running
 marks-run = refl
 
@@ -99,7 +98,7 @@ pair = record { count = 2; boot = λ e. false; fixed = λ e. false; matches = ma
 
 bound-is-met :
     map (answer pair) (calls_on pair (started pair 14 (replicate 14 0)) (tick_in 1 14 ∷ pop_in 14 ∷ tick_in 2 14 ∷ pop_in 14 ∷ tick_in 3 14 ∷ pop_in 14 ∷ []))
-    ≡ inl (Joined 1) ∷ inr (Entry 0) ∷ inl (Joined 2) ∷ inr (Entry 0) ∷ inl (Joined 1) ∷ inr (Entry 1) ∷ []
+    ≡ inl (Ok 1) ∷ inr (Ok (Some 0)) ∷ inl (Ok 2) ∷ inr (Ok (Some 0)) ∷ inl (Ok 1) ∷ inr (Ok (Some 1)) ∷ []
 unfolding pair answer running
 bound-is-met = refl
 
@@ -133,7 +132,7 @@ not-consecutive-every = (
 bound-every-is-met :
     map (answer pair)
     (calls_on pair (started pair 14 (replicate 14 0)) (tick_in 1 14 ∷ pop_in 14 ∷ tick_in 2 14 ∷ tick_in 3 14 ∷ pop_in 14 ∷ tick_in 4 14 ∷ tick_in 5 14 ∷ pop_in 14 ∷ []))
-    ≡ inl (Joined 1) ∷ inr (Entry 0) ∷ inl (Joined 2) ∷ inl (Joined 0) ∷ inr (Entry 0) ∷ inl (Joined 1) ∷ inl (Joined 0) ∷ inr (Entry 1) ∷ []
+    ≡ inl (Ok 1) ∷ inr (Ok (Some 0)) ∷ inl (Ok 2) ∷ inl (Ok 0) ∷ inr (Ok (Some 0)) ∷ inl (Ok 1) ∷ inl (Ok 0) ∷ inr (Ok (Some 1)) ∷ []
 unfolding pair answer running
 bound-every-is-met = refl
 
@@ -168,16 +167,16 @@ abbrev after60 : List ℕ
 after60 = 69 ∷ 82 ∷ 81 ∷ 49 ∷ 61 ∷ 0 ∷ 0 ∷ 0 ∷ 3 ∷ 0 ∷ 1 ∷ 0 ∷ 0 ∷ 0 ∷ 2 ∷ 0 ∷ replicate 5 9
 
 -- A list that goes on from the fresh queue: a buffer that is too short may hold anything, what comes after a queue doesn't matter, buffers may differ
--- in size, and a call that is refused, with 28 or with 14, leaves the line.
+-- in size, and a call that is refused, with R28 or with R14, leaves the line.
 follows : Follows three (fresh three) (pop [] ∷ tick 60 (replicate 15 1) ∷ tick 4223371680 booted ∷ tick 60 booted ∷ pop after60 ∷ [])
-unfolding three running room_of queue_after is_refused refusal tick_refusal pop_refusal
+unfolding three running room_of queue_after is_refused refusal tick_refusal pop_refusal number_of
 follows = ((λ h. absurd (true≢false (sym h))), ((λ h. absurd (true≢false (sym h))), ((λ h. refl), ((λ h. refl), ((λ h. refl), tt)))))
 
--- Refused calls are dropped, those with 28 and those with 14; "nothing waits" is no refusal.
+-- Refused calls are dropped, those with R28 and those with R14; "nothing waits" is no refusal.
 unrefused-run :
     unrefused three (pop [] ∷ tick 60 (replicate 15 1) ∷ tick 4223371680 booted ∷ tick 60 booted ∷ pop after60 ∷ pop (begun ++ replicate 8 0) ∷ [])
     ≡ tick 60 booted ∷ pop after60 ∷ pop (begun ++ replicate 8 0) ∷ []
-unfolding three running unrefused is_refused refusal tick_refusal pop_refusal
+unfolding three running unrefused is_refused refusal tick_refusal pop_refusal number_of
 unrefused-run = refl
 
 -- Only a request names an entry, and only the front: entry 0 has joined, waits after entry 1, and isn't named.
@@ -193,7 +192,7 @@ not_named (inr e) = e
 -- a call is lent as many bytes of the buffer as it says: 15 are too few for three entries, and 16 enough
 lent-run :
     map (answer three) (calls_on three (started three 88 (replicate 90 7)) (pop_in 15 ∷ tick_in 60 15 ∷ pop_in 16 ∷ []))
-    ≡ inr (NotPopped 28) ∷ inl (NotTicked 28) ∷ inr (Entry 1) ∷ []
+    ≡ inr (Err NotAQueue) ∷ inl (Err NotAQueue) ∷ inr (Ok (Some 1)) ∷ []
 unfolding three answer running
 lent-run = refl
 
@@ -202,15 +201,15 @@ steady-list : steady 14 5 2 ≡ tick_in 5 14 ∷ pop_in 14 ∷ tick_in 6 14 ∷ 
 unfolding steady
 steady-list = refl
 
--- Which refusal the room's length and the minute call for: 28 before 14. A call is as expected only if it is refused for these: a room that is
+-- Which refusal the room's length and the minute call for: R28 before R14. A call is as expected only if it is refused for these: a room that is
 -- big enough and holds no line isn't.
 expected-are :
     map (expected three)
     (tick 4223371680 (replicate 15 0) ∷ tick 4223371680 booted ∷ tick 4223371679 booted ∷ tick 59 (replicate 15 0) ∷ pop (replicate 15 0) ∷ pop (replicate 16 0) ∷ [])
     ≡ 28 ∷ 14 ∷ 0 ∷ 28 ∷ 28 ∷ 0 ∷ []
-unfolding three running expected
+unfolding three running expected number_of
 expected-are = refl
 
 not-expected : Expected three (pop (replicate 90 0) ∷ []) → ⊥
-unfolding three running expected refusal pop_refusal
+unfolding three running expected refusal pop_refusal number_of
 not-expected (e, rest) = omega (arith, e)

@@ -1,9 +1,7 @@
 -- Demand 3 for any jobs: the words of its claim about whole lists of calls (D2, D3), and the claim (D1). docs/PROMISES.md puts the demand's
 -- own words beside it. That it holds is proved in proofs/Theorems.
 -- Assumes nothing.
-use Rattle.std.specs.Prelude.{◌≡◌, ◌⊎◌, ℕ, zero, suc, ◌+◌, ◌-◌, ◌<◌, Bool, true, false, not, cond, List, [], ◌∷◌, ◌++◌, eqb}
-use Rattle.fifo.specs.declared.FrontAnswer.TheVariants.{Entry}
-use Rattle.schedule.specs.declared.jump.Mark.{Mark}
+use Rattle.std.specs.Prelude.{◌≡◌, ◌⊎◌, ℕ, zero, suc, ◌+◌, ◌-◌, ◌<◌, Bool, true, false, not, cond, List, [], ◌∷◌, ◌++◌, eqb, Option, Some, Ok}
 use Rattle.schedule.specs.Jumps.{mark_after}
 use Rattle.fifo.specs.Queues.{Queue, proper}
 use Rattle.fifo.specs.Layout.{limit, queue_of, stored, roomy}
@@ -80,19 +78,19 @@ up_to (suc n) (pop room ∷ cs) = pop room ∷ up_to (suc n) cs
 abbrev pub Names : Jobs → ℕ → List Call → Type 0
 Names jobs e [] = ⊥
 Names jobs e (tick minute room ∷ cs) = Names jobs e cs
-Names jobs e (pop room ∷ cs) = ((pop_step jobs.count room).answer ≡ Entry e) ⊎ Names jobs e cs
+Names jobs e (pop room ∷ cs) = ((pop_step jobs.count room).answer ≡ Ok (Some e)) ⊎ Names jobs e cs
 
 -- ---- the claim
 
 -- Q4, Q5, Q6: the mark after n minutes from m on, announced one by one
-abbrev pub marks : Mark → ℕ → ℕ → Mark
+abbrev pub marks : Option ℕ → ℕ → ℕ → Option ℕ
 marks mark m zero = mark
 marks mark m (suc n) = marks (mark_after mark m) (m + 1) n
 
 -- D4: whatever the mark, one of the `gap` minutes after t calls the entry, when they are announced one by one. That it is so is shown where
 -- the schedule is known.
 unfoldable pub CalledWithin : Jobs → ℕ → ℕ → ℕ → Type 0
-CalledWithin jobs gap e t = (mark : Mark) → (j : ℕ) × (j < gap) × (calls jobs (marks mark (t + 1) j) (t + 1 + j) e ≡ true)
+CalledWithin jobs gap e t = (mark : Option ℕ) → (j : ℕ) × (j < gap) × (calls jobs (marks mark (t + 1) j) (t + 1 + j) e ≡ true)
 
 -- D4: how many minutes the second list announces
 abbrev pub bound : Jobs → ℕ → ℕ

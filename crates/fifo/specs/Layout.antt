@@ -2,10 +2,8 @@
 -- each, the count, and the waiting entries. The bytes after them stay. A buffer in which no queue was made, of zeros or other bytes, lacks
 -- the format number.
 -- Assumes nothing.
-use Rattle.std.specs.Prelude.{ℕ, zero, suc, ◌+◌, ◌*◌, ◌/◌, ◌%◌, Bool, ◌&&◌, List, [], ◌∷◌, leb, eqb, length, get_or, take, drop}
+use Rattle.std.specs.Prelude.{ℕ, zero, suc, ◌+◌, ◌*◌, ◌/◌, ◌%◌, Bool, ◌&&◌, List, [], ◌∷◌, leb, eqb, length, get_or, take, drop, Option, Some, None}
 use Rattle.octets.specs.OverFront as front
-use Rattle.schedule.specs.declared.jump.Mark.{Mark}
-use Rattle.schedule.specs.declared.jump.Mark.TheVariants.{None, At}
 use Rattle.schedule.specs.Jumps.{is_mark}
 use Rattle.fifo.specs.Queues.{Queue, entries_of}
 
@@ -37,14 +35,14 @@ abbrev pub format_number : ℕ
 format_number = 827413061
 
 -- Q11: no mark is 0, and a minute one more than itself
-abbrev pub mark_number : Mark → ℕ
+abbrev pub mark_number : Option ℕ → ℕ
 mark_number None = 0
-mark_number (At h) = h + 1
+mark_number (Some h) = h + 1
 
 -- Q11: the mark of a number
-abbrev pub mark_from : ℕ → Mark
+abbrev pub mark_from : ℕ → Option ℕ
 mark_from zero = None
-mark_from (suc h) = At h
+mark_from (suc h) = Some h
 
 -- Q11: a queue as numbers
 unfoldable pub layout : Queue → List ℕ
@@ -58,7 +56,7 @@ unfoldable pub format_of : List ℕ → ℕ
 format_of buffer = number32 (numbers buffer) 0
 
 -- Q11: its mark
-unfoldable pub mark_of : List ℕ → Mark
+unfoldable pub mark_of : List ℕ → Option ℕ
 mark_of buffer = mark_from (number32 (numbers buffer) 2)
 
 -- Q11: its count

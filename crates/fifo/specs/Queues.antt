@@ -1,13 +1,12 @@
 -- A queue as its mark and the list of the waiting entries' numbers, the front first (Q1). Its bytes are in Layout.
 -- Assumes nothing.
-use Rattle.std.specs.Prelude.{ℕ, zero, suc, Bool, true, false, not, cond, ◌&&◌, ◌||◌, List, [], ◌∷◌, ◌++◌, ltb, eqb}
-use Rattle.schedule.specs.declared.jump.Mark.{Mark}
+use Rattle.std.specs.Prelude.{ℕ, zero, suc, Bool, true, false, not, cond, ◌&&◌, ◌||◌, List, [], ◌∷◌, ◌++◌, ltb, eqb, Option}
 use Rattle.schedule.specs.Jumps.{is_mark}
 
 -- Q1: a queue
 pub record Queue : Type 0 where
   -- the minute up to which fixed entries have been judged, or none
-  pub mark : Mark
+  pub mark : Option ℕ
   pub waiting : List ℕ
 
 -- Q1: whether entry e waits

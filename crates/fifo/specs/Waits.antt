@@ -1,8 +1,7 @@
 -- How long a queued entry waits, counted in requests (D9): as many as there are entries before it, and one more. Announcements don't
 -- matter, since those that join come after it. That the claims hold is proved in proofs/Theorems.
 -- Assumes nothing.
-use Rattle.std.specs.Prelude.{◌≡◌, ℕ, zero, suc, ◌-◌, ◌*◌, ◌≤◌, ◌<◌, true, false, List, [], ◌∷◌}
-use Rattle.fifo.specs.declared.FrontAnswer.TheVariants.{Entry}
+use Rattle.std.specs.Prelude.{◌≡◌, ℕ, zero, suc, ◌-◌, ◌*◌, ◌≤◌, ◌<◌, true, false, List, [], ◌∷◌, Some}
 use Rattle.fifo.specs.Queues.{Queue, is_waiting, proper}
 use Rattle.fifo.specs.Layout.{limit}
 use Rattle.fifo.specs.Steps.{Jobs, calls, standing}
@@ -28,7 +27,7 @@ abbrev pub WaitsExactly : Type 0
 WaitsExactly = (jobs : Jobs) (e p : ℕ) (l : Queue) (cs : List Call)
     → jobs.count < limit
     → proper jobs.count l ≡ true
-    → standing p l.waiting ≡ Entry e
+    → standing p l.waiting ≡ Some e
     → Follows jobs l cs
     → (Names jobs e (up_to_request p (unrefused jobs cs)) → ⊥)
     × (p < requests (unrefused jobs cs) → Names jobs e (up_to_request (suc p) (unrefused jobs cs)))
@@ -59,7 +58,7 @@ abbrev pub WaitsEvery : Type 0
 WaitsEvery = (jobs : Jobs) (k e p m : ℕ) (l : Queue) (cs : List Call)
     → jobs.count < limit
     → proper jobs.count l ≡ true
-    → standing p l.waiting ≡ Entry e
+    → standing p l.waiting ≡ Some e
     → Follows jobs l cs
     → let n = k * suc p - 1 in
     ConsecutiveTicksEvery k m n 1 (unrefused jobs cs) → Names jobs e (up_to n (unrefused jobs cs))

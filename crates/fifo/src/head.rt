@@ -1,12 +1,10 @@
 // The numbers in front of a queue's entries: the format number and the mark, two places each, and the count.
-ghost use Rattle.std.specs.Prelude.{◌≡◌, true, [], ℕ, ◌≤◌, length};
-ghost use Rattle.schedule.specs.declared.jump.Mark.TheVariants.{None};
+ghost use Rattle.std.specs.Prelude.{◌≡◌, true, [], ℕ, ◌≤◌, length, None};
 ghost use Rattle.schedule.specs.Jumps.{is_mark};
 ghost use Rattle.fifo.specs.Layout.{numbers, number32, mark_number, mark_of, queue_of, stored, queue_size, is_head, is_queue};
 
 use crate::queue::{COUNT, number, store};
 use calendar::LAST_MINUTE;
-use schedule::jump::Mark;
 
 // The bytes of `ERQ1`.
 const FORMAT: u64 = 827_413_061;
@@ -26,23 +24,23 @@ fn number32(buffer: &[u8], i: usize) -> u64
 }
 
 // The mark of the queue in a buffer.
-pub fn mark_of(buffer: &[u8]) -> Mark
+pub fn mark_of(buffer: &[u8]) -> Option<u64>
     ensures { result ≡ mark_of buffer.now }
 {
     let n = number32(buffer, MARK);
     if n == 0 {
-        return Mark::None;
+        return None;
     }
-    Mark::At(n - 1)
+    Some(n - 1)
 }
 
 // Whether the mark is none or a minute of the calendar.
-fn is_mark(mark: Mark) -> bool
+fn is_mark(mark: Option<u64>) -> bool
     ensures { result ≡ is_mark mark }
 {
     match mark {
-        Mark::None => true,
-        Mark::At(minute) => minute <= LAST_MINUTE,
+        None => true,
+        Some(minute) => minute <= LAST_MINUTE,
     }
 }
 
@@ -65,18 +63,18 @@ pub(crate) fn clear(buffer: &mut [u8])
     store(buffer, COUNT, 0);
 }
 
-fn mark_number(mark: Mark) -> u64
+fn mark_number(mark: Option<u64>) -> u64
     requires { is_mark mark ≡ true }
     ensures { result ≡ mark_number mark }
 {
     match mark {
-        Mark::None => 0,
-        Mark::At(minute) => minute + 1,
+        None => 0,
+        Some(minute) => minute + 1,
     }
 }
 
 // Gives the queue in a buffer another mark.
-pub(crate) fn set_mark(buffer: &mut [u8], mark: Mark)
+pub(crate) fn set_mark(buffer: &mut [u8], mark: Option<u64>)
     requires { ((n : ℕ) × (is_queue n buffer.old ≡ true)) × (is_mark mark ≡ true) }
     ensures { buffer.new ≡ stored (record { mark = mark; waiting = (queue_of buffer.old).waiting }) buffer.old }
 {

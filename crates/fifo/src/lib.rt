@@ -12,59 +12,26 @@ ghost use Rattle.fifo.specs.Layout.{queue_of, stored, roomy, is_queue};
 ghost use Rattle.fifo.specs.Steps.{pop_step, standing, entry_step, refilled};
 ghost use Rattle.fifo.specs.Inner.{WaitingBits, callees, joined, init_called, tick_called};
 
-use calendar::{LAST_MINUTE, NOT_ON_CALENDAR};
+use calendar::LAST_MINUTE;
 use head::mark_of;
 use queue::{COUNT, FIRST, WORDS, number};
-use schedule::jump::{Mark, mark_after};
-
-// The refusal of a room that holds no line of so many entries, or can't hold them all.
-pub const NOT_A_QUEUE: u8 = 28;
-
-// What an announced minute (a tick) comes back with.
-#[derive(Clone, Copy)]
-pub enum CountAnswer {
-    // How many entries joined.
-    Joined(usize),
-    // Refused, by its number.
-    Refused(u8),
-}
-
-// What a request (a pop) comes back with.
-#[derive(Clone, Copy)]
-pub enum FrontAnswer {
-    // The entry that was the front.
-    Entry(u16),
-    // Nothing waits.
-    Nothing,
-    // Refused, by its number.
-    Refused(u8),
-}
+use refusal::Refusal;
+use schedule::jump::mark_after;
 
 // Whether the buffer has room for n entries.
 pub fn has_room(buffer: &[u8], n: usize) -> bool
     ensures { result ≡ roomy n buffer.now }
 {
     let places = buffer.len() / 2;
-    if places < FIRST {
-        return false;
-    }
-    n <= places - FIRST
+    FIRST <= places && n <= places - FIRST
 }
 
 // How many wait in a buffer.
 pub fn waiting(buffer: &[u8]) -> usize
     ensures { result ≡ length (queue_of buffer.now).waiting }
 {
-    let places = buffer.len() / 2;
-    if places < FIRST {
-        return 0;
-    }
-    let most = places - FIRST;
-    let count = number(buffer, COUNT) as usize;
-    if count < most {
-        return count;
-    }
-    most
+    let most = (buffer.len() / 2).saturating_sub(FIRST);
+    most.min(number(buffer, COUNT) as usize)
 }
 
 // Whether the buffer holds a queue of a table of n entries. If so, the empty set then has those who wait.
@@ -89,20 +56,26 @@ pub fn is_queue(buffer: &[u8], n: usize) -> bool
 }
 
 // A fresh queue of a table of n entries, whatever the buffer held: no mark, and those that are called, in file order. Answers how many wait.
-pub fn init(buffer: &mut [u8], n: u16, called: &[u64]) -> CountAnswer
+pub fn init(buffer: &mut [u8], n: u16, called: &[u64]) -> Result<usize, Refusal>
     ensures answer { result ≡ (init_called n called.now buffer.old).answer }
     ensures room { buffer.new ≡ (init_called n called.now buffer.old).room }
 {
     if has_room(buffer, n as usize) {
         head::clear(buffer);
         let waiting = [0u64; WORDS];
-        return CountAnswer::Joined(queue::join(buffer, n, called, &waiting));
+        return Ok(queue::join(buffer, n, called, &waiting));
     }
-    CountAnswer::Refused(NOT_A_QUEUE)
+    Err(Refusal::NotAQueue)
 }
 
 // The mark is set, and those of n entries that are called and don't wait join in file order. Answers how many joined.
-fn announce(buffer: &mut [u8], n: u16, called: &[u64], waiting: &[u64; WORDS], mark: Mark) -> usize
+fn announce(
+    buffer: &mut [u8],
+    n: u16,
+    called: &[u64],
+    waiting: &[u64; WORDS],
+    mark: Option<u64>,
+) -> usize
     requires { (is_queue n buffer.old ≡ true) × WaitingBits waiting.now (queue_of buffer.old).waiting × (is_mark mark ≡ true) }
     ensures answer { result ≡ length (callees n called.now (queue_of buffer.old).waiting) }
     ensures room { buffer.new ≡ stored (joined n called.now mark (queue_of buffer.old)) buffer.old }
@@ -112,56 +85,56 @@ fn announce(buffer: &mut [u8], n: u16, called: &[u64], waiting: &[u64; WORDS], m
 }
 
 // The entries that a minute calls join the queue of a table of n entries, unless they wait. Answers how many joined.
-pub fn tick(buffer: &mut [u8], n: u16, called: &[u64], minute: u64) -> CountAnswer
+pub fn tick(buffer: &mut [u8], n: u16, called: &[u64], minute: u64) -> Result<usize, Refusal>
     ensures answer { result ≡ (tick_called n called.now minute buffer.old).answer }
     ensures room { buffer.new ≡ (tick_called n called.now minute buffer.old).room }
 {
     let mut waiting = [0u64; WORDS];
     if gather(buffer, n as usize, &mut waiting) {
         if LAST_MINUTE < minute {
-            return CountAnswer::Refused(NOT_ON_CALENDAR);
+            return Err(Refusal::NotOnCalendar);
         }
         let mark = mark_after(mark_of(buffer), minute);
-        return CountAnswer::Joined(announce(buffer, n, called, &waiting, mark));
+        return Ok(announce(buffer, n, called, &waiting, mark));
     }
-    CountAnswer::Refused(NOT_A_QUEUE)
+    Err(Refusal::NotAQueue)
 }
 
-// Removes and names the front entry of a queue of a table of n entries.
-pub fn pop(buffer: &mut [u8], n: usize) -> FrontAnswer
+// Removes and names the front entry of a queue of a table of n entries, if one waits.
+pub fn pop(buffer: &mut [u8], n: usize) -> Result<Option<u16>, Refusal>
     ensures answer { result ≡ (pop_step n buffer.old).answer }
     ensures room { buffer.new ≡ (pop_step n buffer.old).room }
 {
     if is_queue(buffer, n) {
         let count = number(buffer, COUNT);
         if count == 0 {
-            return FrontAnswer::Nothing;
+            return Ok(None);
         }
         let e = number(buffer, FIRST);
         queue::drop_front(buffer, count);
-        return FrontAnswer::Entry(e);
+        return Ok(Some(e));
     }
-    FrontAnswer::Refused(NOT_A_QUEUE)
+    Err(Refusal::NotAQueue)
 }
 
-// The entry at a place of the queue in a buffer, 0 the front.
-pub fn standing(buffer: &[u8], place: u64) -> FrontAnswer
+// The entry at a place of the queue in a buffer, 0 the front, if one waits there.
+pub fn standing(buffer: &[u8], place: u64) -> Option<u16>
     ensures { result ≡ standing place (queue_of buffer.now).waiting }
 {
     if place < waiting(buffer) as u64 {
-        return FrontAnswer::Entry(number(buffer, FIRST + place as usize));
+        return Some(number(buffer, FIRST + place as usize));
     }
-    FrontAnswer::Nothing
+    None
 }
 
 // The same of a queue of a table of n entries. None leaves.
-pub fn entry_at(buffer: &[u8], n: usize, place: u64) -> FrontAnswer
+pub fn entry_at(buffer: &[u8], n: usize, place: u64) -> Result<Option<u16>, Refusal>
     ensures { result ≡ entry_step n place buffer.now }
 {
     if is_queue(buffer, n) {
-        return standing(buffer, place);
+        return Ok(standing(buffer, place));
     }
-    FrontAnswer::Refused(NOT_A_QUEUE)
+    Err(Refusal::NotAQueue)
 }
 
 // The entries of a list, which are those of a table of n entries, wait from now on, and no others. The mark stays.
@@ -170,9 +143,7 @@ pub fn refill(buffer: &mut [u8], n: u16, entries: &[u16])
     ensures { buffer.new ≡ refilled entries.now buffer.old }
 {
     queue::store(buffer, COUNT, 0);
-    let mut i = 0;
-    while i < entries.len() {
-        queue::push(buffer, entries[i]);
-        i += 1;
+    for &e in entries {
+        queue::push(buffer, e);
     }
 }

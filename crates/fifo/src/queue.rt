@@ -23,7 +23,7 @@ pub(crate) fn number(buffer: &[u8], i: usize) -> u16
         return 0;
     }
     let at = 2 * i;
-    buffer[at] as u16 + 256 * (buffer[at + 1] as u16)
+    u16::from_le_bytes([buffer[at], buffer[at + 1]])
 }
 
 // Puts a number into the two bytes at place i.
@@ -32,8 +32,9 @@ pub(crate) fn store(buffer: &mut [u8], i: usize, x: u16)
     ensures { buffer.new ≡ with_number i x buffer.old }
 {
     let at = 2 * i;
-    buffer[at] = (x % 256) as u8;
-    buffer[at + 1] = (x / 256 % 256) as u8;
+    let [low, high] = x.to_le_bytes();
+    buffer[at] = low;
+    buffer[at + 1] = high;
 }
 
 // A bit for each number of 16 bits, in words of 64.
@@ -45,8 +46,7 @@ pub(crate) fn gather_entries(buffer: &[u8], count: usize, n: usize, seen: &mut [
     ensures answer { result ≡ entries_of n (queue_of buffer.now).waiting }
     ensures seen { result ≡ true → WaitingBits seen.new (queue_of buffer.now).waiting }
 {
-    let mut i = 0;
-    while i < count {
+    for i in 0..count {
         let e = number(buffer, FIRST + i) as usize;
         if n <= e {
             return false;
@@ -55,7 +55,6 @@ pub(crate) fn gather_entries(buffer: &[u8], count: usize, n: usize, seen: &mut [
             return false;
         }
         bitset::add(seen, e);
-        i += 1;
     }
     true
 }
@@ -70,20 +69,6 @@ pub(crate) fn push(buffer: &mut [u8], e: u16)
     store(buffer, COUNT, n + 1);
 }
 
-// Entry e joins at the back, or is passed over: how many joined, 1 or 0.
-fn offer(buffer: &mut [u8], e: u16, joins: bool) -> usize
-    requires { joins ≡ true → CanPush buffer.old }
-    ensures answer { result ≡ cond joins 1 0 }
-    ensures bytes { buffer.new ≡ cond joins (stored (pushed e (queue_of buffer.old)) buffer.old) buffer.old }
-    ensures small { result ≤ 1 }
-{
-    if joins {
-        push(buffer, e);
-        return 1;
-    }
-    0
-}
-
 // The entries below n that are called and don't wait join in file order. Answers how many joined.
 pub(crate) fn join(buffer: &mut [u8], n: u16, called: &[u64], waiting: &[u64; WORDS]) -> usize
     requires { (is_queue n buffer.old ≡ true) × WaitingBits waiting.now (queue_of buffer.old).waiting }
@@ -91,25 +76,14 @@ pub(crate) fn join(buffer: &mut [u8], n: u16, called: &[u64], waiting: &[u64; WO
     ensures bytes { buffer.new ≡ stored (joined n called.now (queue_of buffer.old).mark (queue_of buffer.old)) buffer.old }
 {
     let mut count = 0;
-    let mut i: u16 = 0;
-    while i < n {
+    for i in 0..n {
         let e = i as usize;
-        count += offer(buffer, i, bitset::has(called, e) & !bitset::has(waiting, e));
-        i += 1;
+        if bitset::has(called, e) & !bitset::has(waiting, e) {
+            push(buffer, i);
+            count += 1;
+        }
     }
     count
-}
-
-// Moves n bytes up by one entry, to where the front is.
-fn move_up(buffer: &mut [u8], n: usize)
-    requires { 12 + n ≤ length buffer.old }
-    ensures { buffer.new ≡ paste buffer.old 10 (drop 12 buffer.old) n }
-{
-    let mut i = 0;
-    while i < n {
-        buffer[10 + i] = buffer[12 + i];
-        i += 1;
-    }
 }
 
 // Takes the front of so many entries out of the queue.
@@ -117,6 +91,7 @@ pub(crate) fn drop_front(buffer: &mut [u8], count: u16)
     requires { (stored (queue_of buffer.old) buffer.old ≡ buffer.old) × (count ≡ length (queue_of buffer.old).waiting) × (0 < count) }
     ensures { buffer.new ≡ stored (popped (queue_of buffer.old)) buffer.old }
 {
-    move_up(buffer, 2 * (count as usize) - 2);
+    let end = FIRST + count as usize;
+    buffer.copy_within(2 * (FIRST + 1)..2 * end, 2 * FIRST);
     store(buffer, COUNT, count - 1);
 }

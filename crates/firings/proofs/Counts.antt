@@ -1,6 +1,7 @@
 -- How great the counts of lists are, and what a refused call leaves.
 -- Assumes nothing.
 use mathlib.Core.Path.{◌≡◌, refl}
+use Rattle.std.specs.Prelude.{Ok}
 use mathlib.Core.Bool.{Bool, true, false, cond}
 use mathlib.Core.Logic.{◌⊎◌, inl, inr}
 use mathlib.Core.List.{List, ◌∷◌}
@@ -8,20 +9,21 @@ use Prim.Native.Nat.{ℕ, zero, suc, ◌+◌, ◌-◌, ◌≤◌, min}
 use native.Mathlib.Nat.{min-eq_left}
 use native.Mathlib.Omega.{arith}
 use lib.ListN.{length}
-use lib.Dec.{eqb, leb}
-use borrow.Author.Tests.{leb-true, leb-false, eqb-false}
-use Rattle.octets.specs.Refusals.{IsRefusal}
+use lib.Dec.{leb}
+use borrow.Author.Tests.{leb-true, leb-false}
+use Rattle.std.specs.Prelude.{Result, Ok, Err}
+use Rattle.refusal.specs.declared.Refusal.{Refusal}
+use Rattle.refusal.specs.declared.Refusal.TheVariants.{NotOnCalendar, AtBootOnly}
+use Rattle.refusal.proofs.Numbers.{number-small}
 use Rattle.calendar.specs.Dates.{last_minute}
 use Rattle.line.specs.declared.Rules.{Rules}
 use Rattle.line.specs.declared.time.When.{When}
 use Rattle.line.specs.declared.time.When.TheVariants.{Reboot, Timed}
 use Rattle.crontab.specs.declared.entry.Entry.{Entry}
 use Rattle.crontab.specs.declared.table.Table.{Table}
-use Rattle.crontab.specs.declared.table.EntryAnswer.{EntryAnswer}
-use Rattle.crontab.specs.declared.table.EntryAnswer.TheVariants as answer
+use Rattle.crontab.specs.declared.table.TableFault.{TableFault}
 use Rattle.crontab.specs.Tables.{table_of, entry_in}
 use Rattle.crontab.specs.Firings.{by_when, fires_at}
-use Rattle.crontab.proofs.Theorems.{table-sound, EntryBounded, entry-told}
 use Rattle.firings.specs.declared.Filled.TheVariants.{All, More}
 use Rattle.octets.specs.Passing.{passing, passing_up_to}
 use Rattle.firings.specs.Lists.{firings_of, merged_of}
@@ -42,23 +44,15 @@ unfolding firings_of passing_up_to
 firings-short e a b = omega (arith, passing-short (fires_at e) (b + 1 - (a + 1)) (a + 1))
 
 -- either there is room for all, or for no more than so many
-filled-few : (n room : ℕ) → n ≤ max_places ⊎ room ≤ max_places → Few (filled n room)
+filled-few : (n room : ℕ) → n ≤ max_places ⊎ room ≤ max_places → Few (Ok (filled n room))
 unfolding filled
 filled-few n room h = go (leb n room) refl h
   where
-    go : (b : Bool) → leb n room ≡ b → n ≤ max_places ⊎ room ≤ max_places → Few (cond b (All n) (More room))
+    go : (b : Bool) → leb n room ≡ b → n ≤ max_places ⊎ room ≤ max_places → Few (Ok (cond b (All n) (More room)))
     go true e (inl h) = h
     go true e (inr h) = let l = leb-true n room e in omega arith
     go false e (inl h) = let l = leb-false n room e in omega arith
     go false e (inr h) = h
-
-filled-kept : (n room : ℕ) (before after : List ℕ) → Kept (filled n room) before after
-unfolding filled
-filled-kept n room before after = go (leb n room)
-  where
-    go : (b : Bool) → Kept (cond b (All n) (More room)) before after
-    go true = tt
-    go false = tt
 
 -- ---- of an entry
 
@@ -66,9 +60,9 @@ module _ (a b : ℕ) (run : List ℕ) where
   abbrev EntryFine : EntryStep → Type 0
   EntryFine s = Few s.answer × Kept s.answer run s.run
 
-  refused-fine : (number : ℕ) → IsRefusal number → EntryFine (refused_entry number run)
+  refused-fine : (refusal : Refusal) → EntryFine (refused_entry refusal run)
   unfolding refused_entry
-  refused-fine number h = (h, refl)
+  refused-fine refusal = (number-small refusal, refl)
 
   found-fine : (e : Entry) → EntryFine (firings_found e a b run)
   unfolding firings_found listed_entry
@@ -78,24 +72,24 @@ module _ (a b : ℕ) (run : List ℕ) where
       list = firings_of e a b
 
       listed : b ≤ last_minute → EntryFine (listed_entry list run)
-      listed h = (filled-few (length list) (length run) (inl (omega (arith, firings-short e a b))), filled-kept (length list) (length run) run _)
+      listed h = (filled-few (length list) (length run) (inl (omega (arith, firings-short e a b))), tt)
 
       go : (x y : Bool) → leb b last_minute ≡ y → (when : When)
-          → EntryFine (cond x (cond y (by_when when (refused_entry 15 run) (λ s. listed_entry list run)) (refused_entry 14 run)) (refused_entry 14 run))
-      go false y e when = refused-fine 14 (omega arith, omega arith)
-      go true false e when = refused-fine 14 (omega arith, omega arith)
-      go true true e Reboot = refused-fine 15 (omega arith, omega arith)
+          → EntryFine (cond x (cond y (by_when when (refused_entry AtBootOnly run) (λ s. listed_entry list run)) (refused_entry NotOnCalendar run)) (refused_entry NotOnCalendar run))
+      go false y e when = refused-fine NotOnCalendar
+      go true false e when = refused-fine NotOnCalendar
+      go true true e Reboot = refused-fine AtBootOnly
       go true true e (Timed s) = listed (leb-true b last_minute e)
 
-  answer-fine : (n : ℕ) (e : EntryAnswer) → EntryBounded n e → EntryFine (firings_answer e a b run)
+  answer-fine : (e : Result Entry Refusal) → EntryFine (firings_answer e a b run)
   unfolding firings_answer
-  answer-fine n (answer.Found e) h = found-fine e
-  answer-fine n (answer.Refused number) h = refused-fine number h
+  answer-fine (Ok e) = found-fine e
+  answer-fine (Err refusal) = refused-fine refusal
 
 module _ (rules : Rules) (s : List ℕ) (i a b : ℕ) (run : List ℕ) where
   fine : EntryFine a b run (firings_in (table_of rules s) i a b run)
   unfolding firings_in
-  fine = answer-fine a b run (length s) (entry_in (table_of rules s) i) (entry-told rules s i)
+  fine = answer-fine a b run (entry_in (table_of rules s) i)
 
   pub firings-few : Few (firings_in (table_of rules s) i a b run).answer
   firings-few = fine.0
@@ -110,40 +104,40 @@ unfolding room_in
 room-few minutes entries = omega arith
 
 module _ (rules : Rules) (s : List ℕ) (a b : ℕ) (minutes entries : List ℕ) where
-  abbrev t : Table
+  abbrev t : Result Table TableFault
   t = table_of rules s
 
   abbrev MergedFine : MergedStep → Type 0
   MergedFine step = Few step.answer × Kept step.answer minutes step.minutes × Kept step.answer entries step.entries
 
-  merged-refused : (number : ℕ) → IsRefusal number → MergedFine (refused_merged number minutes entries)
+  merged-refused : (refusal : Refusal) → MergedFine (refused_merged refusal minutes entries)
   unfolding refused_merged
-  merged-refused number h = (h, refl, refl)
+  merged-refused refusal = (number-small refusal, refl, refl)
 
-  merged-listed : MergedFine (listed_merged (merged_of t a b) minutes entries)
+  merged-listed : (u : Result Table TableFault) → MergedFine (listed_merged (merged_of u a b) minutes entries)
   unfolding listed_merged
-  merged-listed =
-      let n = length (merged_of t a b) in
+  merged-listed u =
+      let n = length (merged_of u a b) in
       let room = room_in minutes entries in
-      (filled-few n room (inr (room-few minutes entries)), filled-kept n room minutes _, filled-kept n room entries _)
+      (filled-few n room (inr (room-few minutes entries)), tt, tt)
 
-  merged-fine : MergedFine (merged_in t a b minutes entries)
+  merged-fine : (u : Result Table TableFault) → MergedFine (merged_in u a b minutes entries)
   unfolding merged_in
-  merged-fine = go (eqb t.refusal 0) refl (leb a last_minute) (leb b last_minute)
+  merged-fine (Err f) = merged-refused f.refusal
+  merged-fine (Ok x) = go (leb a last_minute) (leb b last_minute)
     where
-      go : (r : Bool) → eqb t.refusal 0 ≡ r → (x y : Bool)
-          → MergedFine (cond r (cond x (cond y (listed_merged (merged_of t a b) minutes entries) (refused_merged 14 minutes entries)) (refused_merged 14 minutes entries)) (refused_merged t.refusal minutes entries))
-      go false e x y = merged-refused t.refusal (omega (arith, eqb-false t.refusal 0 e), omega (arith, (table-sound rules s).number))
-      go true e false y = merged-refused 14 (omega arith, omega arith)
-      go true e true false = merged-refused 14 (omega arith, omega arith)
-      go true e true true = merged-listed
+      go : (p q : Bool)
+          → MergedFine (cond p (cond q (listed_merged (merged_of (Ok x) a b) minutes entries) (refused_merged NotOnCalendar minutes entries)) (refused_merged NotOnCalendar minutes entries))
+      go false q = merged-refused NotOnCalendar
+      go true false = merged-refused NotOnCalendar
+      go true true = merged-listed (Ok x)
 
   pub merged-few : Few (merged_in t a b minutes entries).answer
-  merged-few = merged-fine.0
+  merged-few = (merged-fine t).0
 
   pub merged-kept : Kept (merged_in t a b minutes entries).answer minutes (merged_in t a b minutes entries).minutes
       × Kept (merged_in t a b minutes entries).answer entries (merged_in t a b minutes entries).entries
-  merged-kept = (merged-fine.1, merged-fine.2)
+  merged-kept = ((merged-fine t).1, (merged-fine t).2)
 
 -- "the shorter counts", with all its places, as long as a 32-bit number counts them
 pub merged-room : (minutes entries : List ℕ) → min (length minutes) (length entries) ≤ 4294967295

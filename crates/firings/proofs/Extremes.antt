@@ -1,19 +1,21 @@
 -- The theorems of lists used at their edges: entry 511, the first and the last minute of the calendar, a piece of 513 firings of 512 entries. An added
 -- hypothesis, or a part less of a conclusion, breaks one of these.
 -- Assumes nothing.
+use Rattle.std.specs.Prelude.{Result, Ok}
 use mathlib.Core.Path.{◌≡◌, refl, subst}
 use mathlib.Core.Logic.{inl}
 use mathlib.Core.List.{List, [], ◌∷◌, ◌++◌}
 use Prim.Native.Nat.{ℕ, ◌-◌, ◌≤◌, ◌<◌}
 use native.Mathlib.Omega.{arith}
 use lib.ListN.{length, take, get_or}
+use Rattle.std.specs.Prelude.{Ok, true, Result}
+use Rattle.refusal.specs.declared.Refusal.{Refusal}
 use Rattle.octets.specs.Passing.{passing}
 use Rattle.line.specs.declared.Rules.{Rules}
 use Rattle.crontab.specs.declared.entry.Entry.{Entry}
 use Rattle.crontab.specs.declared.table.Table.{Table}
-use Rattle.crontab.specs.declared.table.EntryAnswer.TheVariants.{Found}
-use Rattle.crontab.specs.declared.firing.DueAnswer.TheVariants as due
-use Rattle.crontab.specs.Tables.{table_of, entry_in}
+use Rattle.crontab.specs.Tables.{table_of, entry_in, count_in, refusal_in}
+use Rattle.crontab.specs.declared.table.TableFault.{TableFault}
 use Rattle.crontab.specs.Firings.{due_in}
 use Rattle.firings.specs.declared.Filled.{Filled}
 use Rattle.firings.specs.declared.Filled.TheVariants.{All, More}
@@ -24,10 +26,10 @@ use Rattle.firings.proofs.Theorems.{firings-exact, firings-rise, merged-exact, m
 
 -- ---- of an entry: the calendar's first minute that a list can have, and its last, both ways; and two in a row
 
-pub entry-list-ends : (t : Table) (e : Entry) → entry_in t 511 ≡ Found e
-    → (due_in t 511 1 ≡ due.Yes → Among 1 (firings_of e 0 4223371679))
-    × (due_in t 511 4223371679 ≡ due.Yes → Among 4223371679 (firings_of e 4223371678 4223371679))
-    × (Among 4223371679 (firings_of e 0 4223371679) → due_in t 511 4223371679 ≡ due.Yes)
+pub entry-list-ends : (t : Result Table TableFault) (e : Entry) → entry_in t 511 ≡ Ok e
+    → (due_in t 511 1 ≡ Ok true → Among 1 (firings_of e 0 4223371679))
+    × (due_in t 511 4223371679 ≡ Ok true → Among 4223371679 (firings_of e 4223371678 4223371679))
+    × (Among 4223371679 (firings_of e 0 4223371679) → due_in t 511 4223371679 ≡ Ok true)
     × ((m : ℕ) → Among m (firings_of e 0 4223371679) → (0 < m) × (m ≤ 4223371679))
 entry-list-ends t e f = (
   (λ d. (firings-exact t 511 e f 0 4223371679 1 (omega arith)).1 (omega arith, omega arith, d)),
@@ -42,13 +44,13 @@ entry-list-rises e m n later is = (subst (λ (l : List ℕ). Rises (λ x y. x < 
 -- ---- of a table, the same
 
 module _ (rules : Rules) (s : List ℕ) where
-  abbrev t : Table
+  abbrev t : Result Table TableFault
   t = table_of rules s
 
-  pub table-list-ends : t.refusal ≡ 0
-      → (due_in t 511 1 ≡ due.Yes → Among (record { minute = 1; entry = 511 }) (merged_of t 0 4223371679))
-      × (due_in t 511 4223371679 ≡ due.Yes → Among (record { minute = 4223371679; entry = 511 }) (merged_of t 4223371678 4223371679))
-      × (Among (record { minute = 4223371679; entry = 511 }) (merged_of t 0 4223371679) → due_in t 511 4223371679 ≡ due.Yes)
+  pub table-list-ends : refusal_in t ≡ 0
+      → (due_in t 511 1 ≡ Ok true → Among (record { minute = 1; entry = 511 }) (merged_of t 0 4223371679))
+      × (due_in t 511 4223371679 ≡ Ok true → Among (record { minute = 4223371679; entry = 511 }) (merged_of t 4223371678 4223371679))
+      × (Among (record { minute = 4223371679; entry = 511 }) (merged_of t 0 4223371679) → due_in t 511 4223371679 ≡ Ok true)
       × ((m i : ℕ) → Among (record { minute = m; entry = i }) (merged_of t 0 4223371679) → (0 < m) × (m ≤ 4223371679))
   table-list-ends good = (
     (λ d. (merged-exact rules s 0 4223371679 good 1 511 (omega arith)).1 (omega arith, omega arith, d)),
@@ -63,35 +65,35 @@ module _ (rules : Rules) (s : List ℕ) where
 -- ---- pieces
 
 -- at the span's first minute, and at its last
-pub split-ends : (t : Table)
+pub split-ends : (t : Result Table TableFault)
     → (merged_of t 0 4223371679 ≡ merged_of t 0 0 ++ merged_of t 0 4223371679)
     × (merged_of t 0 4223371679 ≡ merged_of t 0 4223371679 ++ merged_of t 4223371679 4223371679)
 split-ends t = (merged-split t 0 0 4223371679 (omega arith) (omega arith), merged-split t 0 4223371679 4223371679 (omega arith) (omega arith))
 
 -- what each answer says of the runs, all of it
-pub runs-all : (t : Table) (n : ℕ) (minutes entries : List ℕ)
+pub runs-all : (t : Result Table TableFault) (n : ℕ) (minutes entries : List ℕ)
     → let s = merged_in t 0 4223371679 minutes entries in
     let list = merged_of t 0 4223371679 in
-    (s.answer ≡ All n
-    → (t.refusal ≡ 0) × (n ≡ length list) × (n ≤ room_in minutes entries) × (take n s.minutes ≡ take n (minutes_of list)) × (take n s.entries ≡ take n (entries_of list)))
-    × (s.answer ≡ More n
-    → (t.refusal ≡ 0) × (n < length list) × (n ≡ room_in minutes entries) × (take n s.minutes ≡ take n (minutes_of list)) × (take n s.entries ≡ take n (entries_of list)))
+    (s.answer ≡ Ok (All n)
+    → (refusal_in t ≡ 0) × (n ≡ length list) × (n ≤ room_in minutes entries) × (take n s.minutes ≡ take n (minutes_of list)) × (take n s.entries ≡ take n (entries_of list)))
+    × (s.answer ≡ Ok (More n)
+    → (refusal_in t ≡ 0) × (n < length list) × (n ≡ room_in minutes entries) × (take n s.minutes ≡ take n (minutes_of list)) × (take n s.entries ≡ take n (entries_of list)))
 runs-all t n minutes entries = (
-  (λ e. let (given, first, all, fits) = runs (All n) e in (given.good, all, fits, first.minutes-are, first.entries-are)),
-  (λ e. let (given, first, some, full) = runs (More n) e in (given.good, some, full, first.minutes-are, first.entries-are)),
+  (λ e. let (given, first, all, fits) = runs (Ok (All n)) e in (given.good, all, fits, first.minutes-are, first.entries-are)),
+  (λ e. let (given, first, some, full) = runs (Ok (More n)) e in (given.good, some, full, first.minutes-are, first.entries-are)),
 )
   where
-    runs : (x : Filled) → (merged_in t 0 4223371679 minutes entries).answer ≡ x
+    runs : (x : Result Filled Refusal) → (merged_in t 0 4223371679 minutes entries).answer ≡ x
         → let s = merged_in t 0 4223371679 minutes entries in Runs t 0 4223371679 (room_in minutes entries) x s.minutes s.entries
     runs x e =
         let s = merged_in t 0 4223371679 minutes entries in
-        subst (λ (y : Filled). Runs t 0 4223371679 (room_in minutes entries) y s.minutes s.entries) e (merged-runs t 0 4223371679 minutes entries)
+        subst (λ (y : Result Filled Refusal). Runs t 0 4223371679 (room_in minutes entries) y s.minutes s.entries) e (merged-runs t 0 4223371679 minutes entries)
 
 -- one more than the entries of a full table are enough for a piece
-pub piece-least : (t : Table) (k : ℕ)
+pub piece-least : (t : Result Table TableFault) (k : ℕ)
     → let minutes = minutes_of (merged_of t 0 4223371679) in
     let last = get_or minutes 512 0 in
-    t.count ≡ 512 → 513 ≤ length (merged_of t 0 4223371679)
+    count_in t ≡ 512 → 513 ≤ length (merged_of t 0 4223371679)
     → k ≤ 513 → ((j : ℕ) → k ≤ j → j < 513 → get_or minutes j 0 ≡ last) → (0 < k → get_or minutes (k - 1) 0 ≡ last → ⊥)
     → (1 < last) × (last ≤ 4223371679) × (k ≡ length (merged_of t 0 (last - 1)))
     × (merged_of t 0 4223371679 ≡ merged_of t 0 (last - 1) ++ merged_of t (last - 1) 4223371679)
@@ -99,8 +101,8 @@ piece-least t k full some within after other =
     let p = piece-ends t 0 4223371679 513 k (omega (arith, full)) some within after other in
     (p.onward, p.within, p.count, p.split)
 
-abbrev nothing : Table
-nothing = record { refusal = 0; line = 0; column = 0; count = 0; entries = [] }
+abbrev nothing : Result Table TableFault
+nothing = Ok (record { count = 0; entries = [] })
 
 -- a piece that ends at once, or beyond b, or with another count of a table without entries
 pub not_piece : (PieceEnds nothing 0 5 0 1 → ⊥) × (PieceEnds nothing 0 5 0 6 → ⊥) × (PieceEnds nothing 0 5 1 3 → ⊥)

@@ -1,6 +1,7 @@
 -- Two runs that are filled firing by firing, by keys: what holds on the way, and at the end.
 -- Assumes nothing.
-use mathlib.Core.Path.{◌≡◌}
+use Rattle.std.specs.Prelude.{Ok}
+use mathlib.Core.Path.{◌≡◌, ap}
 use mathlib.Core.List.{List, [], ◌∷◌, map}
 use Prim.Native.Nat.{ℕ, ◌+◌, ◌/◌, ◌%◌, ◌<◌}
 use native.Mathlib.Omega.{arith}
@@ -26,7 +27,7 @@ pub record Merging (room : ℕ) (all minutes₀ entries₀ : List ℕ) (n : ℕ)
 -- what is answered, and what the runs hold
 abbrev pub Told : List Firing → List ℕ → List ℕ → Filled → List ℕ → List ℕ → Type 0
 Told list minutes₀ entries₀ r minutes entries =
-    (r ≡ (listed_merged list minutes₀ entries₀).answer)
+    (Ok r ≡ (listed_merged list minutes₀ entries₀).answer)
     × ((minutes ≡ (listed_merged list minutes₀ entries₀).minutes) × (entries ≡ (listed_merged list minutes₀ entries₀).entries))
 
 same_size : (keys : List ℕ) → length (minutes_in keys) ≡ length (map firing_of keys)
@@ -52,7 +53,7 @@ module _ {room : ℕ} {all minutes₀ entries₀ : List ℕ} {n : ℕ} {minutes 
         → Told list minutes₀ entries₀ (All n) minutes entries
     unfolding listed_merged minutes_of entries_of
     merging-all m is fits = (
-      rw (← is, ← same_size all, ← fits) (all_told m.first),
+      rw (← is, ← same_size all, ← fits) (ap Ok (all_told m.first)),
       (rw (← is, ← fits) (all_laid m.first), rw (← is, ← fits) (all_laid m.second)),
     )
 
@@ -60,6 +61,6 @@ module _ {room : ℕ} {all minutes₀ entries₀ : List ℕ} {n : ℕ} {minutes 
         → room ≡ room_in minutes₀ entries₀ → Told list minutes₀ entries₀ (More n) minutes entries
     unfolding listed_merged minutes_of entries_of firing_of
     merging-more m e is fits = (
-      rw (← is, ← same_size all, ← fits) (more-told m.first e),
+      rw (← is, ← same_size all, ← fits) (ap Ok (more-told m.first e)),
       (rw (← is, ← fits) (more-laid m.first e), rw (← is, ← fits) (more-laid m.second e)),
     )

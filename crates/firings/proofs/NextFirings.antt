@@ -7,12 +7,12 @@ use native.Mathlib.Nat.{lt_of_not-le}
 use native.Mathlib.Decide.{dec_le}
 use native.Mathlib.Omega.{arith}
 use lib.IntN.{ℤ}
+use Rattle.std.specs.Prelude.{Result, Ok, Err}
+use Rattle.refusal.specs.declared.Refusal.{Refusal}
 use Rattle.octets.specs.Search.{from}
 use Rattle.octets.proofs.Search.{from-least, least-from, from-none, from-same}
 use Rattle.calendar.specs.Dates.{last_minute}
 use Rattle.schedule.specs.declared.Schedule.{Schedule}
-use Rattle.schedule.specs.declared.Next.{Next}
-use Rattle.schedule.specs.declared.Next.TheVariants.{At, Never, PastEnd}
 use Rattle.schedule.specs.Local.{biased_offset, matches_in, next_after_in}
 use Rattle.schedule.proofs.Theorems.{next-at-in, next-is-in}
 use Rattle.line.specs.declared.time.When.TheVariants.{Reboot, Timed}
@@ -39,14 +39,14 @@ module _ (e : Entry) (m : ℕ) (on : m ≤ last_minute) where
     unfolding fires_at
     timed w = from-same p (fires_at e) (last_minute + 1) (m + 1) (omega arith) (λ k _ _. rw w)
 
-    timed-at : e.when ≡ Timed s → (k : ℕ) → next_after_in s (biased_offset e.offset) m ≡ At k → k ≡ from (fires_at e) (last_minute + 1) (m + 1)
+    timed-at : e.when ≡ Timed s → (k : ℕ) → next_after_in s (biased_offset e.offset) m ≡ Ok k → k ≡ from (fires_at e) (last_minute + 1) (m + 1)
     timed-at w k x =
         let (low, high, t, none) = next-is-in s (biased_offset e.offset) m k x in
         least-from (omega arith) (record { low = omega arith; high = omega arith; passes = λ _. t; none = λ i u v. none i (omega arith) v })
         ∙ timed w
 
     -- another answer is that there is none
-    timed-none : e.when ≡ Timed s → (next_after_in s (biased_offset e.offset) m ≡ At n → ⊥) → last_minute + 1 ≡ from (fires_at e) (last_minute + 1) (m + 1)
+    timed-none : e.when ≡ Timed s → (next_after_in s (biased_offset e.offset) m ≡ Ok n → ⊥) → last_minute + 1 ≡ from (fires_at e) (last_minute + 1) (m + 1)
     timed-none w other =
         let l = from-least p (last_minute + 1) (m + 1) (omega arith) in
         elim (dec_le n last_minute) [
@@ -57,11 +57,10 @@ module _ (e : Entry) (m : ℕ) (on : m ≤ last_minute) where
         last : last_minute < n → n ≤ last_minute + 1 → last_minute + 1 ≡ n
         last h k = omega arith
 
-    pub timed-first : e.when ≡ Timed s → (x : Next) → next_after_in s (biased_offset e.offset) m ≡ x → minute_or_end x ≡ from (fires_at e) (last_minute + 1) (m + 1)
+    pub timed-first : e.when ≡ Timed s → (x : Result ℕ Refusal) → next_after_in s (biased_offset e.offset) m ≡ x → minute_or_end x ≡ from (fires_at e) (last_minute + 1) (m + 1)
     unfolding minute_or_end
-    timed-first w (At k) x = timed-at w k x
-    timed-first w Never x = timed-none w (λ y. let z : ◌≡◌ {A = ℕ} 0 1 = cc in omega arith)
-    timed-first w PastEnd x = timed-none w (λ y. let z : ◌≡◌ {A = ℕ} 0 1 = cc in omega arith)
+    timed-first w (Ok k) x = timed-at w k x
+    timed-first w (Err refusal) x = timed-none w (λ y. let z : ◌≡◌ {A = ℕ} 0 1 = cc in omega arith)
 
     -- such an entry fires by its schedule
     pub timed-fires : e.when ≡ Timed s → fires_at e m ≡ true → matches_in s (biased_offset e.offset) m ≡ true
@@ -69,7 +68,7 @@ module _ (e : Entry) (m : ℕ) (on : m ≤ last_minute) where
     timed-fires w f = rw w at f
 
 -- under an offset that is another's, read back
-pub next-same : {y z : ℤ} → y ≡ z → (s : Schedule) (m : ℕ) {r : Next} → r ≡ next_after_in s (biased_offset y) m → next_after_in s (biased_offset z) m ≡ r
+pub next-same : {y z : ℤ} → y ≡ z → (s : Schedule) (m : ℕ) {r : Result ℕ Refusal} → r ≡ next_after_in s (biased_offset y) m → next_after_in s (biased_offset z) m ≡ r
 next-same e s m p = sym (p ∙ ap (λ (x : ℤ). next_after_in s (biased_offset x) m) e)
 
 pub fires-same : {y z : ℤ} → y ≡ z → (s : Schedule) (m : ℕ) → matches_in s (biased_offset z) m ≡ true → matches_in s (biased_offset y) m ≡ true

@@ -8,11 +8,14 @@ use native.Mathlib.Nat.{lt_of_not-le}
 use native.Mathlib.Decide.{dec_le}
 use native.Mathlib.Omega.{arith}
 use lib.ListN.{length, get_or, length-append}
+use Rattle.std.specs.Prelude.{Result}
 use Rattle.octets.specs.Passing.{passing}
 use Rattle.crontab.specs.declared.table.Table.{Table}
+use Rattle.crontab.specs.declared.table.TableFault.{TableFault}
 use Rattle.firings.specs.Lists.{Firing, at_minute, entries_from, merged_over, fires_in, merged_up_to, merged_of}
 use Rattle.firings.specs.Calls.{minutes_of, entries_of}
 use Rattle.firings.proofs.Counts.{passing-short}
+use Rattle.crontab.specs.Tables.{count_in, table_entries}
 
 -- ---- two pieces
 
@@ -24,12 +27,12 @@ over-append fires count (suc n) k m =
     let f : m + suc n ≡ suc m + n = omega arith in
     rw (e, f, over-append fires count n k (suc m)) (sym (append_assoc (at_minute m (entries_from fires count m 0)) (merged_over fires count n (suc m)) (merged_over fires count k (suc m + n))))
 
-pub merged-split : (t : Table) (a m b : ℕ) → a ≤ m → m ≤ b → merged_of t a b ≡ merged_of t a m ++ merged_of t m b
+pub merged-split : (t : Result Table TableFault) (a m b : ℕ) → a ≤ m → m ≤ b → merged_of t a b ≡ merged_of t a m ++ merged_of t m b
 unfolding merged_of merged_up_to
 merged-split t a m b h k =
     let e : b + 1 - (a + 1) ≡ (m + 1 - (a + 1)) + (b + 1 - (m + 1)) = omega arith in
     let f : a + 1 + (m + 1 - (a + 1)) ≡ m + 1 = omega arith in
-    rw e (over-append (fires_in t.entries) t.count (m + 1 - (a + 1)) (b + 1 - (m + 1)) (a + 1) ∙ rw f)
+    rw e (over-append (fires_in (table_entries t)) (count_in t) (m + 1 - (a + 1)) (b + 1 - (m + 1)) (a + 1) ∙ rw f)
 
 -- ---- the numbers of two lists, one after the other
 
@@ -93,11 +96,11 @@ over-within fires count (suc n) m =
     (each-so (λ x. x ≡ m) (λ x. (m ≤ x) × (x < m + suc n)) (λ x e. omega (arith, e)) (at_minute m (entries_from fires count m 0)) (at-minute m (entries_from fires count m 0)))
     (each-so (λ x. (suc m ≤ x) × (x < suc m + n)) (λ x. (m ≤ x) × (x < m + suc n)) (λ x h. (omega (arith, h.0), omega (arith, h.1))) (merged_over fires count n (suc m)) (over-within fires count n (suc m)))
 
-minute-within : (t : Table) (a b i : ℕ) → i < length (merged_of t a b) → (a < get_or (minutes_of (merged_of t a b)) i 0) × (get_or (minutes_of (merged_of t a b)) i 0 ≤ b)
+minute-within : (t : Result Table TableFault) (a b i : ℕ) → i < length (merged_of t a b) → (a < get_or (minutes_of (merged_of t a b)) i 0) × (get_or (minutes_of (merged_of t a b)) i 0 ≤ b)
 unfolding merged_of merged_up_to
 minute-within t a b i h =
-    let w = each-minute (λ x. (a + 1 ≤ x) × (x < a + 1 + (b + 1 - (a + 1)))) (merged_over (fires_in t.entries) t.count (b + 1 - (a + 1)) (a + 1)) i h
-    (over-within (fires_in t.entries) t.count (b + 1 - (a + 1)) (a + 1)) in
+    let w = each-minute (λ x. (a + 1 ≤ x) × (x < a + 1 + (b + 1 - (a + 1)))) (merged_over (fires_in (table_entries t)) (count_in t) (b + 1 - (a + 1)) (a + 1)) i h
+    (over-within (fires_in (table_entries t)) (count_in t) (b + 1 - (a + 1)) (a + 1)) in
     (omega (arith, w.0), omega (arith, w.0, w.1))
 
 -- ---- a minute has at most as many firings as there are entries
@@ -107,23 +110,23 @@ unfolding at_minute
 length_at m [] = refl
 length_at m (e ∷ es) = ap suc (length_at m es)
 
-pub minute-few : (t : Table) (m : ℕ) → length (merged_of t m (m + 1)) ≤ t.count
+pub minute-few : (t : Result Table TableFault) (m : ℕ) → length (merged_of t m (m + 1)) ≤ count_in t
 unfolding merged_of merged_up_to merged_over at_minute entries_from
 minute-few t m =
     let one : m + 1 + 1 - (m + 1) ≡ 1 = omega arith in
-    let es = passing (λ e. fires_in t.entries e (m + 1)) (t.count - 0) 0 in
-    rw one (omega (arith, length-append (at_minute (m + 1) es) [], length_at (m + 1) es, passing-short (λ e. fires_in t.entries e (m + 1)) (t.count - 0) 0))
+    let es = passing (λ e. fires_in (table_entries t) e (m + 1)) (count_in t - 0) 0 in
+    rw one (omega (arith, length-append (at_minute (m + 1) es) [], length_at (m + 1) es, passing-short (λ e. fires_in (table_entries t) e (m + 1)) (count_in t - 0) 0))
 
 -- ---- where a piece ends
 
 -- Of the first firings of a list that has more, k come before those of the last minute among them.
-pub record PieceEnds (t : Table) (a b k last : ℕ) : Type 0 where
+pub record PieceEnds (t : Result Table TableFault) (a b k last : ℕ) : Type 0 where
   pub onward : a + 1 < last
   pub within : last ≤ b
   pub count : k ≡ length (merged_of t a (last - 1))
   pub split : merged_of t a b ≡ merged_of t a (last - 1) ++ merged_of t (last - 1) b
 
-module _ (t : Table) (a b n k : ℕ) (few : t.count < n) (some : n ≤ length (merged_of t a b)) where
+module _ (t : Result Table TableFault) (a b n k : ℕ) (few : count_in t < n) (some : n ≤ length (merged_of t a b)) where
   abbrev minutes : List ℕ
   minutes = minutes_of (merged_of t a b)
 
@@ -163,7 +166,7 @@ module _ (t : Table) (a b n k : ℕ) (few : t.count < n) (some : n ≤ length (m
   onward =
       let one : last - 1 + 1 ≡ last = omega (arith, span.0) in
       let two : merged_of t a last ≡ before ++ merged_of t (last - 1) last = merged-split t a (last - 1) last (omega (arith, span.0)) (omega arith) in
-      let small : length (merged_of t (last - 1) last) ≤ t.count = rw one at (minute-few t (last - 1)) in
+      let small : length (merged_of t (last - 1) last) ≤ count_in t = rw one at (minute-few t (last - 1)) in
       let all : length (merged_of t a last) ≡ length before + length (merged_of t (last - 1) last) = ap length two ∙ length-append before (merged_of t (last - 1) last) in
       let first = minute-within t a (last - 1) 0 (omega (arith, up-to, all, small)) in
       omega (arith, first.0, first.1)

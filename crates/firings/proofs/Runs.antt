@@ -7,11 +7,14 @@ use Prim.Native.Nat.{ℕ, ◌≤◌}
 use native.Mathlib.Omega.{arith}
 use lib.ListN.{length, take, drop, length-append, length-drop, length-map, length-take}
 use lib.Seq.{take-append-le, take-take}
-use lib.Dec.{eqb, leb}
-use borrow.Author.Tests.{eqb-true, leb-true, leb-false}
+use lib.Dec.{leb}
+use borrow.Author.Tests.{leb-true, leb-false}
+use Rattle.std.specs.Prelude.{Result, Ok, Err}
+use Rattle.refusal.specs.declared.Refusal.TheVariants.{NotOnCalendar}
 use Rattle.octets.specs.OverFront.{over_front}
 use Rattle.calendar.specs.Dates.{last_minute}
 use Rattle.crontab.specs.declared.table.Table.{Table}
+use Rattle.crontab.specs.declared.table.TableFault.{TableFault}
 use Rattle.firings.specs.declared.Filled.TheVariants.{All, More}
 use Rattle.firings.specs.Lists.{Firing, merged_of}
 use Rattle.firings.specs.Calls.{MergedStep, filled, fitted, minutes_of, entries_of, room_in, refused_merged, listed_merged, merged_in}
@@ -37,7 +40,7 @@ fitted-length numbers room run h =
     let front = take room numbers in
     length-append front (drop (length front) run) ∙ omega (arith, length-drop (length front) run, length-take room numbers)
 
-module _ (t : Table) (a b : ℕ) (minutes entries : List ℕ) where
+module _ (t : Result Table TableFault) (a b : ℕ) (minutes entries : List ℕ) where
   abbrev list : List Firing
   list = merged_of t a b
 
@@ -60,31 +63,38 @@ module _ (t : Table) (a b : ℕ) (minutes entries : List ℕ) where
   listed-runs given = go (leb (length list) room) refl
     where
       go : (z : Bool) → leb (length list) room ≡ z
-          → Runs t a b room (cond z (All (length list)) (More room)) (fitted (minutes_of list) room minutes) (fitted (entries_of list) room entries)
+          → Runs t a b room (Ok (cond z (All (length list)) (More room))) (fitted (minutes_of list) room minutes) (fitted (entries_of list) room entries)
       go true e = let h = leb-true (length list) room e in (given, first_of (length list) h (omega arith), refl, h)
       go false e = let h = leb-false (length list) room e in (given, first_of room (omega arith) (omega arith), h, refl)
 
-  pub merged-runs : RunsOf (merged_in t a b minutes entries)
-  unfolding merged_in refused_merged
-  merged-runs = go (eqb t.refusal 0) (leb a last_minute) (leb b last_minute) refl refl refl
-    where
-      go : (r x y : Bool) → eqb t.refusal 0 ≡ r → leb a last_minute ≡ x → leb b last_minute ≡ y
-          → RunsOf (cond r (cond x (cond y (listed_merged list minutes entries) (refused_merged 14 minutes entries)) (refused_merged 14 minutes entries)) (refused_merged t.refusal minutes entries))
-      go false x y p q s = tt
-      go true false y p q s = tt
-      go true true false p q s = tt
-      go true true true p q s =
-          listed-runs (record { good = eqb-true t.refusal 0 p; from = leb-true a last_minute q; to = leb-true b last_minute s })
+module _ (a b : ℕ) (minutes entries : List ℕ) where
+  -- the list of a good table, or a minute that is refused
+  abbrev good_step : Table → Bool → Bool → MergedStep
+  good_step x on up =
+      cond on (cond up (listed_merged (merged_of (Ok x) a b) minutes entries) (refused_merged NotOnCalendar minutes entries)) (refused_merged NotOnCalendar minutes entries)
 
-  -- the runs keep their lengths
-  pub merged-lengths : (length (merged_in t a b minutes entries).minutes ≡ length minutes) × (length (merged_in t a b minutes entries).entries ≡ length entries)
-  unfolding merged_in refused_merged listed_merged room_in
-  merged-lengths = go (eqb t.refusal 0) (leb a last_minute) (leb b last_minute)
-    where
-      go : (r x y : Bool)
-          → let s = cond r (cond x (cond y (listed_merged list minutes entries) (refused_merged 14 minutes entries)) (refused_merged 14 minutes entries)) (refused_merged t.refusal minutes entries) in
-          (length s.minutes ≡ length minutes) × (length s.entries ≡ length entries)
-      go false x y = (refl, refl)
-      go true false y = (refl, refl)
-      go true true false = (refl, refl)
-      go true true true = (fitted-length (minutes_of list) room minutes (omega arith), fitted-length (entries_of list) room entries (omega arith))
+pub merged-runs : (t : Result Table TableFault) (a b : ℕ) (minutes entries : List ℕ) → RunsOf t a b minutes entries (merged_in t a b minutes entries)
+unfolding merged_in refused_merged
+merged-runs (Err f) a b minutes entries = tt
+merged-runs (Ok x) a b minutes entries = go (leb a last_minute) (leb b last_minute) refl refl
+  where
+    go : (p q : Bool) → leb a last_minute ≡ p → leb b last_minute ≡ q → RunsOf (Ok x) a b minutes entries (good_step a b minutes entries x p q)
+    go false q e f = tt
+    go true false e f = tt
+    go true true e f = listed-runs (Ok x) a b minutes entries (record { good = refl; from = leb-true a last_minute e; to = leb-true b last_minute f })
+
+-- the runs keep their lengths
+pub merged-lengths : (t : Result Table TableFault) (a b : ℕ) (minutes entries : List ℕ)
+    → (length (merged_in t a b minutes entries).minutes ≡ length minutes) × (length (merged_in t a b minutes entries).entries ≡ length entries)
+unfolding merged_in refused_merged listed_merged room_in
+merged-lengths (Err f) a b minutes entries = (refl, refl)
+merged-lengths (Ok x) a b minutes entries = go (leb a last_minute) (leb b last_minute)
+  where
+    list : List Firing
+    list = merged_of (Ok x) a b
+
+    go : (p q : Bool) → let s = good_step a b minutes entries x p q in (length s.minutes ≡ length minutes) × (length s.entries ≡ length entries)
+    go false q = (refl, refl)
+    go true false = (refl, refl)
+    go true true =
+        (fitted-length (minutes_of list) (room_in minutes entries) minutes (omega arith), fitted-length (entries_of list) (room_in minutes entries) entries (omega arith))

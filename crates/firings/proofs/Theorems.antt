@@ -17,6 +17,7 @@
 --   ListAnswers has an equation for each way that an answer can go: list-refused, list-first-off, list-last-off, list-at-boot, list-by-time, table-bad, table-first-off,
 --     table-last-off, table-listed, fits_all, fits-some
 -- Assumes nothing.
+use Rattle.std.specs.Prelude.{Result, Ok}
 use mathlib.Core.Path.{◌≡◌, refl, sym, ap, subst, ◌∙◌}
 use mathlib.Core.Bool.{Bool, true, false, cond, true≢false}
 use mathlib.Core.Logic.{inl, inr}
@@ -27,14 +28,17 @@ use native.Mathlib.Decide.{dec_le}
 use native.Mathlib.Omega.{arith}
 use lib.ListN.{get_or}
 use lib.Dec.{ltb}
-use borrow.Author.Tests.{le-leb, lt-ltb, ltb-true, eq-eqb}
+use borrow.Author.Tests.{le-leb, lt-ltb, ltb-true}
+use Rattle.std.specs.Prelude.{Result, Ok, Err}
+use Rattle.refusal.specs.declared.Refusal.{Refusal}
+use Rattle.refusal.specs.declared.Refusal.TheVariants.{NoSuchEntry}
+use Rattle.refusal.proofs.Numbers.{number-small}
 use Rattle.calendar.specs.Dates.{last_minute}
 use Rattle.line.specs.declared.Rules.{Rules}
 use Rattle.crontab.specs.declared.entry.Entry.{Entry}
 use Rattle.crontab.specs.declared.table.Table.{Table}
-use Rattle.crontab.specs.declared.table.EntryAnswer.TheVariants.{Found, Refused}
-use Rattle.crontab.specs.declared.firing.DueAnswer.TheVariants as due
-use Rattle.crontab.specs.Tables.{blank_entry, table_of, entry_in}
+use Rattle.crontab.specs.Tables.{blank_entry, table_of, entry_in, count_in, refusal_in, table_entries}
+use Rattle.crontab.specs.declared.table.TableFault.{TableFault}
 use Rattle.crontab.specs.Firings.{fires_at, due_of, due_answer, due_in}
 use Rattle.crontab.proofs.Theorems.{table-sound}
 use Rattle.octets.specs.Passing.{passing, passing_up_to}
@@ -95,16 +99,16 @@ module _ (p : ℕ → Bool) where
 
 -- ---- of an entry
 
-due-yes : (e : Entry) (m : ℕ) → m ≤ last_minute → Exactly (fires_at e m ≡ true) (due_of e m ≡ due.Yes)
+due-yes : (e : Entry) (m : ℕ) → m ≤ last_minute → Exactly (fires_at e m ≡ true) (due_of e m ≡ Ok true)
 unfolding due_of
 due-yes e m h = rw (le-leb m last_minute h) (go (fires_at e m))
   where
-    go : (b : Bool) → Exactly (b ≡ true) (cond b due.Yes due.No ≡ due.Yes)
+    go : (b : Bool) → Exactly (b ≡ true) (◌≡◌ {A = Result Bool Refusal} (Ok b) (Ok true))
     go true = ((λ _. refl), (λ _. refl))
     go false = ((λ z. absurd (true≢false (sym z))), (λ z. absurd (let y : ◌≡◌ {A = ℕ} 0 1 = cc in omega arith)))
 
-pub firings-exact : (t : Table) (i : ℕ) (e : Entry) → entry_in t i ≡ Found e → (a b m : ℕ) → b ≤ last_minute
-    → Exactly (Among m (firings_of e a b)) ((a < m) × (m ≤ b) × (due_in t i m ≡ due.Yes))
+pub firings-exact : (t : Result Table TableFault) (i : ℕ) (e : Entry) → entry_in t i ≡ Ok e → (a b m : ℕ) → b ≤ last_minute
+    → Exactly (Among m (firings_of e a b)) ((a < m) × (m ≤ b) × (due_in t i m ≡ Ok true))
 unfolding firings_of due_in due_answer
 firings-exact t i e f a b m h =
     rw f (
@@ -169,45 +173,46 @@ module _ (fires : ℕ → ℕ → Bool) (count : ℕ) (few : count ≤ 512) (a b
           rw (← key_of m i (omega arith)) (among-map keys (m * 512 + i) ((up-exact (is_firing fires count) ((a + 1) * 512) (b * 512 + 511) (m * 512 + i)).1 (omega arith, omega arith, t)))
 
 -- due by its number in a good table, and no other is
-due_in_lem : (t : Table) (i m : ℕ) → t.refusal ≡ 0 → m ≤ last_minute → Exactly ((i < t.count) × (fires_in t.entries i m ≡ true)) (due_in t i m ≡ due.Yes)
+due_in_lem : (t : Result Table TableFault) (i m : ℕ) → refusal_in t ≡ 0 → m ≤ last_minute → Exactly ((i < count_in t) × (fires_in (table_entries t) i m ≡ true)) (due_in t i m ≡ Ok true)
 unfolding due_in due_answer entry_in fires_in
-due_in_lem t i m good h = rw (eq-eqb t.refusal 0 good) (go (ltb i t.count) refl)
+due_in_lem (Err f) i m good h = absurd (let small = number-small f.refusal in omega (arith, small.0, good))
+due_in_lem (Ok x) i m good h = go (ltb i x.count) refl
   where
     e : Entry
-    e = get_or t.entries i blank_entry
+    e = get_or x.entries i blank_entry
 
-    go : (b : Bool) → ltb i t.count ≡ b
-        → Exactly ((i < t.count) × (fires_at e m ≡ true)) (due_answer (cond b (Found e) (Refused 13)) m ≡ due.Yes)
-    go true l = ((λ (_, w). (due-yes e m h).0 w), (λ z. (ltb-true i t.count l, (due-yes e m h).1 z)))
-    go false l = ((λ (k, _). absurd (true≢false (sym (lt-ltb i t.count k) ∙ l))), (λ z. absurd (let y : ◌≡◌ {A = ℕ} 0 1 = cc in omega arith)))
+    go : (b : Bool) → ltb i x.count ≡ b
+        → Exactly ((i < x.count) × (fires_at e m ≡ true)) (due_answer (cond b (Ok e) (Err NoSuchEntry)) m ≡ Ok true)
+    go true l = ((λ (_, w). (due-yes e m h).0 w), (λ z. (ltb-true i x.count l, (due-yes e m h).1 z)))
+    go false l = ((λ (k, _). absurd (true≢false (sym (lt-ltb i x.count k) ∙ l))), (λ z. absurd (let y : ◌≡◌ {A = ℕ} 0 1 = cc in omega arith)))
 
 module _ (rules : Rules) (s : List ℕ) (a b : ℕ) where
-  pub merged-exact : (table_of rules s).refusal ≡ 0 → (m i : ℕ) → b ≤ last_minute
-      → Exactly (Among (record { minute = m; entry = i }) (merged_of (table_of rules s) a b)) ((a < m) × (m ≤ b) × (due_in (table_of rules s) i m ≡ due.Yes))
+  pub merged-exact : refusal_in (table_of rules s) ≡ 0 → (m i : ℕ) → b ≤ last_minute
+      → Exactly (Among (record { minute = m; entry = i }) (merged_of (table_of rules s) a b)) ((a < m) × (m ≤ b) × (due_in (table_of rules s) i m ≡ Ok true))
   unfolding merged_of
   merged-exact good m i h = (
     (λ x. let (u, v, l, w) = both.0 x in (u, v, (due_in_lem t i m good (omega arith)).0 (l, w))),
     (λ (u, v, z). let (l, w) = (due_in_lem t i m good (omega arith)).1 z in both.1 (u, v, l, w)),
   )
     where
-      t : Table
+      t : Result Table TableFault
       t = table_of rules s
 
-      both : Exactly (Among (record { minute = m; entry = i }) (merged_up_to (fires_in t.entries) t.count b (a + 1))) ((a < m) × (m ≤ b) × (i < t.count) × (fires_in t.entries i m ≡ true))
-      both = in-merged (fires_in t.entries) t.count (table-sound rules s).few a b m i
+      both : Exactly (Among (record { minute = m; entry = i }) (merged_up_to (fires_in (table_entries t)) (count_in t) b (a + 1))) ((a < m) × (m ≤ b) × (i < count_in t) × (fires_in (table_entries t) i m ≡ true))
+      both = in-merged (fires_in (table_entries t)) (count_in t) (table-sound rules s).few a b m i
 
   pub merged-rise : Rises Earlier (merged_of (table_of rules s) a b)
   unfolding merged_of passing_up_to
   merged-rise =
       let t = table_of rules s in
-      rw (← merged-keys (fires_in t.entries) t.count (table-sound rules s).few b (a + 1))
-      (map-rises (passing_up_to (is_firing (fires_in t.entries) t.count) (b * 512 + 511) ((a + 1) * 512)) (passing-rises (is_firing (fires_in t.entries) t.count) (b * 512 + 511 + 1 - (a + 1) * 512) ((a + 1) * 512)))
+      rw (← merged-keys (fires_in (table_entries t)) (count_in t) (table-sound rules s).few b (a + 1))
+      (map-rises (passing_up_to (is_firing (fires_in (table_entries t)) (count_in t)) (b * 512 + 511) ((a + 1) * 512)) (passing-rises (is_firing (fires_in (table_entries t)) (count_in t)) (b * 512 + 511 + 1 - (a + 1) * 512) ((a + 1) * 512)))
 
 -- `merged-runs` used: where all is listed, the table is good and both minutes are on the calendar
-pub listed-given : (t : Table) (a b n : ℕ) (minutes entries : List ℕ) → (merged_in t a b minutes entries).answer ≡ All n
-    → (t.refusal ≡ 0) × (a ≤ 4223371679) × (b ≤ 4223371679)
+pub listed-given : (t : Result Table TableFault) (a b n : ℕ) (minutes entries : List ℕ) → (merged_in t a b minutes entries).answer ≡ Ok (All n)
+    → (refusal_in t ≡ 0) × (a ≤ 4223371679) × (b ≤ 4223371679)
 unfolding room_in
 listed-given t a b n minutes entries e =
     let s = merged_in t a b minutes entries in
-    let given = (subst (λ (x : Filled). Runs t a b (room_in minutes entries) x s.minutes s.entries) e (merged-runs t a b minutes entries)).0 in
+    let given = (subst (λ (x : Result Filled Refusal). Runs t a b (room_in minutes entries) x s.minutes s.entries) e (merged-runs t a b minutes entries)).0 in
     (given.good, given.from, given.to)

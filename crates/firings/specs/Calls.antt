@@ -1,18 +1,18 @@
 -- What the calls for a list answer, and the buffers after them (I3, I4). A refused call leaves all as it was (R40).
 -- Assumes nothing.
-use Rattle.std.specs.Prelude.{ℕ, min, cond, List, map, length, take, eqb, leb}
+use Rattle.std.specs.Prelude.{ℕ, min, cond, List, map, length, take, leb, Result, Ok, Err}
+use Rattle.refusal.specs.declared.Refusal.{Refusal}
 use Rattle.octets.specs.OverFront.{over_front}
 use Rattle.calendar.specs.Refusals.{not_on_calendar}
 use Rattle.calendar.specs.Dates.{last_minute}
 use Rattle.crontab.specs.declared.entry.Entry.{Entry}
 use Rattle.crontab.specs.declared.table.Table.{Table}
-use Rattle.crontab.specs.declared.table.EntryAnswer.{EntryAnswer}
-use Rattle.crontab.specs.declared.table.EntryAnswer.TheVariants as answer
+use Rattle.crontab.specs.declared.table.TableFault.{TableFault}
 use Rattle.crontab.specs.Refusals.{at_boot_only}
 use Rattle.crontab.specs.Tables.{entry_in}
 use Rattle.crontab.specs.Firings.{by_when}
 use Rattle.firings.specs.declared.Filled.{Filled}
-use Rattle.firings.specs.declared.Filled.TheVariants.{All, More, Refused}
+use Rattle.firings.specs.declared.Filled.TheVariants.{All, More}
 use Rattle.firings.specs.Lists.{Firing, firings_of, merged_of}
 
 -- I3: n firings, if there are so many places
@@ -27,16 +27,16 @@ fitted numbers room run = over_front (take room numbers) run
 
 -- I3: the answer, and the buffer after it
 pub record EntryStep : Type 0 where
-  pub answer : Filled
+  pub answer : Result Filled Refusal
   pub run : List ℕ
 
 -- R40: the buffer stays
-unfoldable pub refused_entry : ℕ → List ℕ → EntryStep
-refused_entry number run = record { answer = Refused number; run = run }
+unfoldable pub refused_entry : Refusal → List ℕ → EntryStep
+refused_entry refusal run = record { answer = Err refusal; run = run }
 
 -- I3: a list in a buffer
 unfoldable pub listed_entry : List ℕ → List ℕ → EntryStep
-listed_entry numbers run = record { answer = filled (length numbers) (length run); run = fitted numbers (length run) run }
+listed_entry numbers run = record { answer = Ok (filled (length numbers) (length run)); run = fitted numbers (length run) run }
 
 -- R37, I5: R14 for a, then for b, then R15
 unfoldable pub firings_found : Entry → ℕ → ℕ → List ℕ → EntryStep
@@ -46,19 +46,19 @@ firings_found e a b run =
     (refused_entry not_on_calendar run)
 
 -- R37: an entry that isn't found has the table's refusal, or R13
-unfoldable pub firings_answer : EntryAnswer → ℕ → ℕ → List ℕ → EntryStep
-firings_answer (answer.Found e) a b run = firings_found e a b run
-firings_answer (answer.Refused number) a b run = refused_entry number run
+unfoldable pub firings_answer : Result Entry Refusal → ℕ → ℕ → List ℕ → EntryStep
+firings_answer (Ok e) a b run = firings_found e a b run
+firings_answer (Err refusal) a b run = refused_entry refusal run
 
 -- I1, I3, R37: the list of an entry by its number
-unfoldable pub firings_in : Table → ℕ → ℕ → ℕ → List ℕ → EntryStep
+unfoldable pub firings_in : Result Table TableFault → ℕ → ℕ → ℕ → List ℕ → EntryStep
 firings_in t i a b run = firings_answer (entry_in t i) a b run
 
 -- ---- of a table; the order of refusals is R37
 
 -- I3, I4: the answer, and both buffers after it
 pub record MergedStep : Type 0 where
-  pub answer : Filled
+  pub answer : Result Filled Refusal
   pub minutes : List ℕ
   pub entries : List ℕ
 
@@ -71,8 +71,8 @@ unfoldable pub room_in : List ℕ → List ℕ → ℕ
 room_in minutes entries = min (min (length minutes) (length entries)) max_places
 
 -- R40: both buffers stay
-unfoldable pub refused_merged : ℕ → List ℕ → List ℕ → MergedStep
-refused_merged number minutes entries = record { answer = Refused number; minutes = minutes; entries = entries }
+unfoldable pub refused_merged : Refusal → List ℕ → List ℕ → MergedStep
+refused_merged refusal minutes entries = record { answer = Err refusal; minutes = minutes; entries = entries }
 
 -- I4: the minutes of a list
 unfoldable pub minutes_of : List Firing → List ℕ
@@ -87,16 +87,15 @@ unfoldable pub listed_merged : List Firing → List ℕ → List ℕ → MergedS
 listed_merged list minutes entries =
     let room = room_in minutes entries in
     record {
-      answer = filled (length list) room;
+      answer = Ok (filled (length list) room);
       minutes = fitted (minutes_of list) room minutes;
       entries = fitted (entries_of list) room entries;
     }
 
 -- I2, I3, R37: the list of a table
-unfoldable pub merged_in : Table → ℕ → ℕ → List ℕ → List ℕ → MergedStep
-merged_in t a b minutes entries =
-    cond (eqb t.refusal 0)
-    (cond (leb a last_minute)
-    (cond (leb b last_minute) (listed_merged (merged_of t a b) minutes entries) (refused_merged not_on_calendar minutes entries))
-    (refused_merged not_on_calendar minutes entries))
-    (refused_merged t.refusal minutes entries)
+unfoldable pub merged_in : Result Table TableFault → ℕ → ℕ → List ℕ → List ℕ → MergedStep
+merged_in (Ok t) a b minutes entries =
+    cond (leb a last_minute)
+    (cond (leb b last_minute) (listed_merged (merged_of (Ok t) a b) minutes entries) (refused_merged not_on_calendar minutes entries))
+    (refused_merged not_on_calendar minutes entries)
+merged_in (Err f) a b minutes entries = refused_merged f.refusal minutes entries

@@ -1,10 +1,9 @@
 -- How a merged list is made: a firing as one number, its key, minute * 512 + entry, so that keys rise by minute and then entry. A tree of
 -- keys has each entry's next firing as a leaf, and the least of all as its root. Only contracts of inner functions cite these.
 -- Assumes nothing.
-use Rattle.std.specs.Prelude.{ℕ, ◌+◌, ◌*◌, ◌/◌, ◌%◌, ◌≤◌, ◌<◌, min, ◌≡◌, Bool, true, false, ◌&&◌, List, length, get_or, ltb}
+use Rattle.std.specs.Prelude.{ℕ, ◌+◌, ◌*◌, ◌/◌, ◌%◌, ◌≤◌, ◌<◌, min, ◌≡◌, Bool, true, false, ◌&&◌, List, length, get_or, ltb, Result, Ok, Err}
+use Rattle.refusal.specs.declared.Refusal.{Refusal}
 use Rattle.calendar.specs.Dates.{last_minute}
-use Rattle.schedule.specs.declared.Next.{Next}
-use Rattle.schedule.specs.declared.Next.TheVariants.{At, Never, PastEnd}
 use Rattle.schedule.specs.Local.{OffsetInRange}
 use Rattle.crontab.specs.declared.entry.Entry.{Entry}
 use Rattle.crontab.specs.Limits.{max_entries}
@@ -12,10 +11,9 @@ use Rattle.crontab.specs.Tables.{blank_entry}
 use Rattle.firings.specs.Lists.{Firing}
 
 -- a firing, or the minute after the calendar's last
-unfoldable pub minute_or_end : Next → ℕ
-minute_or_end (At n) = n
-minute_or_end Never = last_minute + 1
-minute_or_end PastEnd = last_minute + 1
+unfoldable pub minute_or_end : Result ℕ Refusal → ℕ
+minute_or_end (Ok n) = n
+minute_or_end (Err refusal) = last_minute + 1
 
 -- ---- keys
 

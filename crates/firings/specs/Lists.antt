@@ -1,9 +1,10 @@
 -- The firings of an entry after a minute and up to another (I1), and those of a whole table (I2). Boot entries have none (M4).
 -- Assumes nothing.
-use Rattle.std.specs.Prelude.{ℕ, zero, suc, ◌+◌, ◌-◌, Bool, List, [], ◌++◌, map, get_or}
+use Rattle.std.specs.Prelude.{ℕ, zero, suc, ◌+◌, ◌-◌, Bool, List, [], ◌++◌, map, get_or, Result}
 use Rattle.crontab.specs.declared.entry.Entry.{Entry}
 use Rattle.crontab.specs.declared.table.Table.{Table}
-use Rattle.crontab.specs.Tables.{blank_entry}
+use Rattle.crontab.specs.declared.table.TableFault.{TableFault}
+use Rattle.crontab.specs.Tables.{blank_entry, count_in, table_entries}
 use Rattle.crontab.specs.Firings.{fires_at}
 use Rattle.octets.specs.Passing.{passing, passing_up_to}
 
@@ -42,5 +43,5 @@ unfoldable pub fires_in : List Entry → ℕ → ℕ → Bool
 fires_in entries i m = fires_at (get_or entries i blank_entry) m
 
 -- I2, I5: after minute a and up to minute b
-unfoldable pub merged_of : Table → ℕ → ℕ → List Firing
-merged_of t a b = merged_up_to (fires_in t.entries) t.count b (a + 1)
+unfoldable pub merged_of : Result Table TableFault → ℕ → ℕ → List Firing
+merged_of t a b = merged_up_to (fires_in (table_entries t)) (count_in t) b (a + 1)

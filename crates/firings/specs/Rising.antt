@@ -1,13 +1,16 @@
 -- What the theorems say of a list (I1 to I4): what is in it, that it rises, and how great its count is.
 -- Assumes nothing.
-use Rattle.std.specs.Prelude.{◌≡◌, ◌⊎◌, List, [], ◌∷◌, ◌++◌, ℕ, ◌≤◌, ◌<◌, length, take, drop}
+use Rattle.std.specs.Prelude.{◌≡◌, ◌⊎◌, List, [], ◌∷◌, ◌++◌, ℕ, ◌≤◌, ◌<◌, length, take, drop, Result, Ok, Err}
+use Rattle.refusal.specs.declared.Refusal.{Refusal}
+use Rattle.refusal.specs.Numbers.{number_of, IsRefusal}
 use Rattle.calendar.specs.Dates.{last_minute}
 use Rattle.crontab.specs.declared.table.Table.{Table}
-use Rattle.octets.specs.Refusals.{IsRefusal}
+use Rattle.crontab.specs.declared.table.TableFault.{TableFault}
 use Rattle.firings.specs.declared.Filled.{Filled}
-use Rattle.firings.specs.declared.Filled.TheVariants.{All, More, Refused}
+use Rattle.firings.specs.declared.Filled.TheVariants.{All, More}
 use Rattle.firings.specs.Lists.{Firing, merged_of}
 use Rattle.firings.specs.Calls.{max_places, minutes_of, entries_of}
+use Rattle.crontab.specs.Tables.{refusal_in}
 
 -- I1: is in a list
 abbrev pub Among : {A : Type 0} → A → List A → Type 0
@@ -28,20 +31,19 @@ abbrev pub Exactly : Type 0 → Type 0 → Type 0
 Exactly A B = (A → B) × (B → A)
 
 -- I4, A2: a count is a 32-bit number, and a refusal's number is small
-abbrev pub Few : Filled → Type 0
-Few (All n) = n ≤ max_places
-Few (More n) = n ≤ max_places
-Few (Refused number) = IsRefusal number
+abbrev pub Few : Result Filled Refusal → Type 0
+Few (Ok (All n)) = n ≤ max_places
+Few (Ok (More n)) = n ≤ max_places
+Few (Err refusal) = IsRefusal (number_of refusal)
 
 -- R40: a refused call leaves a buffer as it was
-abbrev pub Kept : Filled → List ℕ → List ℕ → Type 0
-Kept (All n) before after = Unit {0}
-Kept (More n) before after = Unit {0}
-Kept (Refused number) before after = after ≡ before
+abbrev pub Kept : Result Filled Refusal → List ℕ → List ℕ → Type 0
+Kept (Ok filled) before after = Unit {0}
+Kept (Err refusal) before after = after ≡ before
 
 -- R37: the table is good and both minutes are on the calendar
-pub record Given (t : Table) (a b : ℕ) : Type 0 where
-  pub good : t.refusal ≡ 0
+pub record Given (t : Result Table TableFault) (a b : ℕ) : Type 0 where
+  pub good : refusal_in t ≡ 0
   pub from : a ≤ last_minute
   pub to : b ≤ last_minute
 
@@ -53,14 +55,14 @@ pub record FirstOf (list : List Firing) (n : ℕ) (minutes entries : List ℕ) :
 
 -- I3, I4: what an answer says of two buffers with so many places, after the call. A count that is all is the list's; if more remain, it is
 -- the number of places, and the list is longer.
-abbrev pub Runs : Table → ℕ → ℕ → ℕ → Filled → List ℕ → List ℕ → Type 0
-Runs t a b room (All n) minutes entries = Given t a b × FirstOf (merged_of t a b) n minutes entries × (n ≡ length (merged_of t a b)) × (n ≤ room)
-Runs t a b room (More n) minutes entries = Given t a b × FirstOf (merged_of t a b) n minutes entries × (n < length (merged_of t a b)) × (n ≡ room)
-Runs t a b room (Refused number) minutes entries = Unit {0}
+abbrev pub Runs : Result Table TableFault → ℕ → ℕ → ℕ → Result Filled Refusal → List ℕ → List ℕ → Type 0
+Runs t a b room (Ok (All n)) minutes entries = Given t a b × FirstOf (merged_of t a b) n minutes entries × (n ≡ length (merged_of t a b)) × (n ≤ room)
+Runs t a b room (Ok (More n)) minutes entries = Given t a b × FirstOf (merged_of t a b) n minutes entries × (n < length (merged_of t a b)) × (n ≡ room)
+Runs t a b room (Err refusal) minutes entries = Unit {0}
 
 -- I3, R40: all of a buffer with so many places, by the answer: the first numbers of a list, as many as are answered, and after them those
 -- that were there. A refused call leaves it.
-abbrev pub FilledBy : List ℕ → ℕ → List ℕ → Filled → List ℕ → Type 0
-FilledBy numbers room before (All n) after = (n ≡ length numbers) × (n ≤ room) × (after ≡ take n numbers ++ drop n before)
-FilledBy numbers room before (More n) after = (n < length numbers) × (n ≡ room) × (after ≡ take n numbers ++ drop n before)
-FilledBy numbers room before (Refused number) after = after ≡ before
+abbrev pub FilledBy : List ℕ → ℕ → List ℕ → Result Filled Refusal → List ℕ → Type 0
+FilledBy numbers room before (Ok (All n)) after = (n ≡ length numbers) × (n ≤ room) × (after ≡ take n numbers ++ drop n before)
+FilledBy numbers room before (Ok (More n)) after = (n < length numbers) × (n ≡ room) × (after ≡ take n numbers ++ drop n before)
+FilledBy numbers room before (Err refusal) after = after ≡ before

@@ -9,18 +9,18 @@ ghost use Rattle.firings.specs.Keys.{minute_or_end};
 use calendar::LAST_MINUTE;
 use crontab::entry::Entry;
 use line::time::When;
-use schedule::{Next, local};
+use refusal::Refusal;
+use schedule::local;
 
 const END: u64 = LAST_MINUTE + 1;
 
 // A firing, or the minute after the calendar's last where there is none.
-fn minute_of(next: Next) -> u64
+fn minute_of(next: Result<u64, Refusal>) -> u64
     ensures { result ≡ minute_or_end next }
 {
     match next {
-        Next::At(minute) => minute,
-        Next::Never => END,
-        Next::PastEnd => END,
+        Ok(minute) => minute,
+        Err(_) => END,
     }
 }
 
@@ -37,6 +37,7 @@ pub(crate) fn firing_after(entry: Entry, minute: u64) -> u64
 }
 
 // The same after a minute at which the entry fires, which is quicker.
+// Two functions and no closure: what the quicker search asks stands in a contract of its own.
 pub(crate) fn following(entry: Entry, minute: u64) -> u64
     requires { OffsetInRange entry.offset × (minute ≤ last_minute) × (fires_at entry minute ≡ true) }
     ensures { result ≡ from (fires_at entry) (last_minute + 1) (minute + 1) }

@@ -12,9 +12,10 @@ use crontab::entry::Entry;
 // From firing to firing.
 pub(crate) fn fill(entry: Entry, a: u64, b: u64, run: &mut [u32]) -> Filled
     requires { OffsetInRange entry.offset × (a ≤ last_minute) × (b ≤ last_minute) }
-    ensures answer { result ≡ (listed_entry (firings_of entry a b) run.old).answer }
+    ensures answer { Ok result ≡ (listed_entry (firings_of entry a b) run.old).answer }
     ensures run { run.new ≡ (listed_entry (firings_of entry a b) run.old).run }
 {
+    // Counted by hand: a for over the places of the run would need an arm more at its end.
     let mut n = 0;
     let mut minute = firing_after(entry, a);
     while minute <= b {

@@ -9,7 +9,6 @@ use crate::Filled;
 use crate::after::following;
 use crate::tree::{WIDTH, build, key, put};
 use crontab::table::Table;
-use octets::size::lesser;
 
 // The greatest count of a list.
 const MAX_PLACES: usize = 4_294_967_295;
@@ -17,12 +16,13 @@ const MAX_PLACES: usize = 4_294_967_295;
 // From firing to firing, each entry's next one being searched for when it has fired.
 pub(crate) fn fill(table: Table, a: u64, b: u64, minutes: &mut [u32], numbers: &mut [u16]) -> Filled
     requires { Good table.entries table.count × (a ≤ last_minute) × (b ≤ last_minute) }
-    ensures answer { result ≡ (listed_merged (merged_up_to (fires_in table.entries) table.count b (a + 1)) minutes.old numbers.old).answer }
+    ensures answer { Ok result ≡ (listed_merged (merged_up_to (fires_in table.entries) table.count b (a + 1)) minutes.old numbers.old).answer }
     ensures minutes { minutes.new ≡ (listed_merged (merged_up_to (fires_in table.entries) table.count b (a + 1)) minutes.old numbers.old).minutes }
     ensures entries { numbers.new ≡ (listed_merged (merged_up_to (fires_in table.entries) table.count b (a + 1)) minutes.old numbers.old).entries }
 {
-    let room = lesser(lesser(minutes.len(), numbers.len()), MAX_PLACES);
+    let room = minutes.len().min(numbers.len()).min(MAX_PLACES);
     let mut tree = build(table, a);
+    // Counted by hand, as in entry.
     let mut n = 0;
     while tree[1] / WIDTH <= b {
         if n == room {

@@ -14,19 +14,11 @@ use crontab::table::Table;
 // An entry's number in a key.
 pub(crate) const WIDTH: u64 = 512;
 
+// Nothing is allocated, so the tree lies in an array, and no BinaryHeap keeps it.
 pub(crate) const NODES: usize = 1024;
 
 // Greater than the key of any minute of the calendar.
 const END: u64 = (LAST_MINUTE + 1) * WIDTH;
-
-fn lesser(a: u64, b: u64) -> u64
-    ensures { result ≡ min a b }
-{
-    if a <= b {
-        return a;
-    }
-    b
-}
 
 // Puts a key in the place of an entry's, and sets its ancestors right, from the leaf to the root.
 pub(crate) fn put(tree: &mut [u64; NODES], i: usize, key: u64)
@@ -39,7 +31,7 @@ pub(crate) fn put(tree: &mut [u64; NODES], i: usize, key: u64)
     tree[at] = low;
     while 1 < at {
         let other = 4 * (at / 2) + 1 - at;
-        low = lesser(low, tree[other]);
+        low = low.min(tree[other]);
         at /= 2;
         tree[at] = low;
     }
@@ -59,10 +51,8 @@ pub(crate) fn build(table: Table, minute: u64) -> [u64; NODES]
     ensures { Tournament (is_firing (fires_in table.entries) table.count) table.count ((minute + 1) * max_entries) result }
 {
     let mut tree = [END; NODES];
-    let mut i = 0;
-    while i < table.count {
+    for i in 0..table.count {
         put(&mut tree, i, key(firing_after(table.entries[i], minute), i));
-        i += 1;
     }
     tree
 }

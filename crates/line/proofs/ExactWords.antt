@@ -1,5 +1,6 @@
 -- The bytes that have a meaning, and no others: the eight words, and the name `CRON_TZ`. Of any bytes, so of every letter in them.
 -- Assumes nothing.
+use Rattle.std.specs.Prelude.{Some, None, Option, ℤ, Ok}
 use mathlib.Core.Path.{◌≡◌, refl, sym, ap, ◌∙◌}
 use mathlib.Core.Bool.{Bool, true, false, cond, and-eq-true_iff, true≢false}
 use mathlib.Core.Logic.{◌⊎◌, inl, inr}
@@ -11,10 +12,6 @@ use Rattle.octets.specs.Texts.{text}
 use Rattle.line.specs.declared.Rules.{Rules}
 use Rattle.line.specs.declared.Part.{Part}
 use Rattle.line.specs.declared.time.When.{When}
-use Rattle.line.specs.declared.word.Word.{Word}
-use Rattle.line.specs.declared.word.Word.TheVariants.{Known, Unknown}
-use Rattle.line.specs.declared.offset.Zone.{Zone}
-use Rattle.line.specs.declared.offset.Zone.TheVariants.{Same, Offset}
 use Rattle.line.specs.declared.Line.TheVariants.{Setting}
 use Rattle.line.specs.Words.{same, Named, meanings, chosen, word_in, word_of}
 use Rattle.line.specs.Offsets.{zone_name, offset_of, zone_of}
@@ -47,9 +44,9 @@ abbrev words_of : List Named → List (List ℕ)
 words_of [] = []
 words_of (n ∷ ns) = n.word ∷ words_of ns
 
-abbrev is_known : Word → Bool
-is_known (Known when) = true
-is_known Unknown = false
+abbrev is_known : Option When → Bool
+is_known (Some when) = true
+is_known None = false
 
 known_in : (ns : List Named) (s : List ℕ) → is_known (word_in ns s) ≡ true → AnyOf s (words_of ns)
 unfolding word_in chosen
@@ -62,7 +59,7 @@ known_in (n ∷ ns) s e = go (same s n.word) refl (known_in ns s) e
     go false p later e = inr (later e)
 
 -- "in this case only": what is known is one of the eight, byte by byte; `words` of specs/WordRows says what each of them means
-pub known-word : (s : List ℕ) {when : When} → word_of s ≡ Known when
+pub known-word : (s : List ℕ) {when : When} → word_of s ≡ Some when
     → AnyOf s (text "@reboot" ∷ text "@yearly" ∷ text "@annually" ∷ text "@monthly" ∷ text "@weekly" ∷ text "@daily" ∷ text "@midnight" ∷ text "@hourly" ∷ [])
 unfolding word_of meanings
 known-word s e = known_in meanings s (ap is_known e)
@@ -70,9 +67,9 @@ known-word s e = known_in meanings s (ap is_known e)
 -- ---- the name
 
 -- a setting that is read changes the offset exactly if its name is `CRON_TZ`, byte by byte, whatever the rules
-pub offset-name : (rules : Rules) (s : List ℕ) {name value : Part} {zone : Zone} → read_line rules s ≡ Setting name value zone
-    → (part_bytes s name ≡ text "CRON_TZ" → zone ≡ Offset (offset_of (part_bytes s value)))
-    × ((part_bytes s name ≡ text "CRON_TZ" → ⊥) → zone ≡ Same)
+pub offset-name : (rules : Rules) (s : List ℕ) {name value : Part} {zone : Option ℤ} → read_line rules s ≡ Ok (Setting name value zone)
+    → (part_bytes s name ≡ text "CRON_TZ" → zone ≡ Some (offset_of (part_bytes s value)))
+    × ((part_bytes s name ≡ text "CRON_TZ" → ⊥) → zone ≡ None)
 unfolding zone_of
 offset-name rules s {name} {value} is = (
   (λ e. (setting-says rules s is).0 ∙ rw (e, same-itself zone_name) refl),
@@ -80,6 +77,6 @@ offset-name rules s {name} {value} is = (
 )
   where
     other : (t : Bool) → same (part_bytes s name) zone_name ≡ t → (part_bytes s name ≡ text "CRON_TZ" → ⊥)
-        → cond t (Offset (offset_of (part_bytes s value))) Same ≡ Same
+        → cond t (Some (offset_of (part_bytes s value))) None ≡ None
     other true p n = absurd (n (same-is (part_bytes s name) zone_name p))
     other false p n = refl

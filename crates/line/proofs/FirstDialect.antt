@@ -1,5 +1,6 @@
 -- In the first dialect a line is read as it was before there was a second.
 -- Assumes nothing.
+use Rattle.std.specs.Prelude.{Option, Ok, Err, Result}
 use mathlib.Core.Path.{◌≡◌, refl, ap}
 use mathlib.Core.Bool.{Bool, true, false}
 use mathlib.Core.List.{List, [], ◌∷◌}
@@ -13,17 +14,15 @@ use Rattle.field.proofs.Theorems.{Plain, minute-plain, hour-plain, day-plain, mo
 use Rattle.field.proofs.Theorems as field-theorems
 use Rattle.line.specs.declared.Kind.{Kind}
 use Rattle.line.specs.declared.Rules.{Rules}
-use Rattle.line.specs.declared.time.Values.{Values}
 use Rattle.line.specs.declared.time.Field.{Field}
-use Rattle.line.specs.declared.time.Field.TheVariants as field
 use Rattle.line.specs.declared.time.Time.{Time}
-use Rattle.line.specs.declared.time.Time.TheVariants as time
-use Rattle.line.specs.declared.word.Word.{Word}
+use Rattle.line.specs.declared.time.When.{When}
 use Rattle.line.specs.Times.{field_at, after, fields_at}
 use Rattle.line.specs.Words.{same, Meaning, reboot, fields, Named, meanings, known, word_for, chosen, word_in, word_of, word_at}
 use Rattle.line.specs.Entries.{time_at, after_time, entry_at}
 use Rattle.line.specs.Lines.{content_from, content_of, read_line}
 use Rattle.line.specs.FirstDialect.{first_field_at, first_fields_at, first_word_for, first_chosen, first_word_in, first_word_at, first_time_at, first_after_time, first_content, first_line}
+use Rattle.field.specs.declared.Fault.{Fault}
 
 -- ---- a time
 
@@ -32,13 +31,13 @@ module _ (s : List ℕ) where
   unfolding field_at first_field_at
   field-first l p at = rw (field-theorems.first-dialect-same l p (at + 1) (between s at (skipped Solid s at)))
 
-  after_first : (f g : Field) (later first : Values → Time) → f ≡ g → ((v : Values) → later v ≡ first v) → after f later ≡ after g first
+  after_first : (f g : Result Field Fault) (later first : Field → Result Time Fault) → f ≡ g → ((v : Field) → later v ≡ first v) → after f later ≡ after g first
   unfolding after
   after_first f g later first e h = rw e (go g)
     where
-      go : (g : Field) → after g later ≡ after g first
-      go (field.Refused f) = refl
-      go (field.Read values) = h values
+      go : (g : Result Field Fault) → after g later ≡ after g first
+      go (Err f) = refl
+      go (Ok values) = h values
 
   fields-first : (at : ℕ) → fields_at Rising s at ≡ first_fields_at s at
   unfolding fields_at first_fields_at
@@ -54,7 +53,7 @@ unfolding word_for first_word_for
 meaning-first reboot = refl
 meaning-first (fields s) = ap known (fields-first s 0)
 
-chosen-first : (t : Bool) (m : Meaning) (other : Word) → chosen t m other ≡ first_chosen t m other
+chosen-first : (t : Bool) (m : Meaning) (other : Option When) → chosen t m other ≡ first_chosen t m other
 unfolding chosen first_chosen
 chosen-first true m other = meaning-first m
 chosen-first false m other = refl
@@ -74,10 +73,10 @@ module _ (kind : Kind) where
   abbrev rising : Rules
   rising = record { kind = kind; dialect = Rising }
 
-  behind-first : (s : List ℕ) (t : Time) → after_time rising s t ≡ first_after_time kind s t
+  behind-first : (s : List ℕ) (t : Result Time Fault) → after_time rising s t ≡ first_after_time kind s t
   unfolding after_time first_after_time
-  behind-first s (time.Refused f) = refl
-  behind-first s (time.Read when next) = refl
+  behind-first s (Err f) = refl
+  behind-first s (Ok t) = refl
 
   content-first : (s : List ℕ) → content_of rising s ≡ first_content kind s
   unfolding content_of content_from first_content entry_at

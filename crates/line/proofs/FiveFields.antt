@@ -1,6 +1,8 @@
 -- Five fields, wherever they are in a line and however long they and the blanks between them are: each is read by its own limits at its own column, the next one
 -- begins after its blanks, and the first one from the left that isn't accepted refuses the line. A line that ends before the fifth is 4, where those before are accepted.
 -- Assumes nothing.
+use Rattle.std.specs.Prelude.{Ok, Err, Result}
+use Rattle.refusal.specs.declared.Refusal.TheVariants.{TooFewFields}
 use mathlib.Core.Path.{◌≡◌, refl, ap, ◌∙◌}
 use mathlib.Core.Bool.{Bool, true}
 use mathlib.Core.List.{List, [], ◌∷◌, ◌++◌}
@@ -13,15 +15,14 @@ use Rattle.octets.specs.Runs.{run, are_of}
 use Rattle.octets.proofs.Places.{Stands}
 use Rattle.field.specs.declared.Dialect.{Dialect}
 use Rattle.field.specs.declared.Limits.{Limits}
-use Rattle.field.specs.declared.Answer.{Answer}
-use Rattle.field.specs.declared.Answer.TheVariants as answer
+use Rattle.field.specs.declared.Allowed.{Allowed}
+use Rattle.field.specs.declared.Fault.{Fault}
 use Rattle.field.specs.Limits.{in_dialect, minute_limits, hour_limits, day_limits, month_limits, weekday_limits}
 use Rattle.field.specs.Fields.{read_field}
 use Rattle.line.specs.declared.time.When.TheVariants.{Timed}
 use Rattle.line.specs.declared.time.Time.{Time}
-use Rattle.line.specs.declared.time.Time.TheVariants as time
-use Rattle.line.specs.declared.time.Values.{Values}
-use Rattle.line.specs.Times.{answered, field_at, after, schedule_of, fields_at}
+use Rattle.line.specs.declared.time.Field.{Field}
+use Rattle.line.specs.Times.{time_of, answered, field_at, after, schedule_of, fields_at}
 use Rattle.line.specs.Words.{word_of, after_word, word_at}
 use Rattle.line.proofs.Spacing.{field-spaced, word-spaced}
 
@@ -48,30 +49,30 @@ module _ {s : List ℕ} where
   word-there (x ∷ w) p = word-spaced p.blanks p.rest p.here p.solid p.ends p.blank p.stops ∙ rw p.goes_on
 
 -- after a field that is accepted the next one begins where it ends
-same_after : (a : Answer) (next : ℕ) (f g : Values → Time)
+same_after : (a : Result Allowed Fault) (next : ℕ) (f g : Field → Result Time Fault)
     → ((set : ℕ) (star : Bool) → f (record { set = set; star = star; next = next }) ≡ g (record { set = set; star = star; next = next }))
     → after (answered a next) f ≡ after (answered a next) g
 unfolding after answered
-same_after (answer.Values set star) next f g e = e set star
-same_after (answer.Refused number column) next f g e = refl
+same_after (Ok v) next f g e = e v.set v.star
+same_after (Err fault) next f g e = refl
 
 -- ---- five fields, each judged wholly before the next
 
 module _ (d : Dialect) (s : List ℕ) where
   -- a field of a text that starts at a place, and what comes after it, in the dialect
-  abbrev pub judged : Limits → ℕ → List ℕ → ℕ → (Values → Time) → Time
+  abbrev pub judged : Limits → ℕ → List ℕ → ℕ → (Field → Result Time Fault) → Result Time Fault
   judged l at f next later = after (answered (read_field (in_dialect d l) (at + 1) f) next) later
 
-  abbrev pub few_fields : Time
-  few_fields = time.Refused (record { number = 4; column = length s + 1 })
+  abbrev pub few_fields : Result Time Fault
+  few_fields = Err (record { refusal = TooFewFields; column = length s + 1 })
 
-  judged-there : (l : Limits) {at : ℕ} (f : List ℕ) {next : ℕ} → Spaced s at f next → (g h : Values → Time)
+  judged-there : (l : Limits) {at : ℕ} (f : List ℕ) {next : ℕ} → Spaced s at f next → (g h : Field → Result Time Fault)
       → ((set : ℕ) (star : Bool) → g (record { set = set; star = star; next = next }) ≡ h (record { set = set; star = star; next = next }))
       → after (field_at (in_dialect d l) s at) g ≡ judged l at f next h
   judged-there l {at} f {next} p g h e =
       ap (λ (x : _). after x g) (field-there f p (in_dialect d l)) ∙ same_after (read_field (in_dialect d l) (at + 1) f) next g h e
 
-  missing : (l : Limits) (at : ℕ) (g : Values → Time) → length s ≤ at → after (field_at (in_dialect d l) s at) g ≡ few_fields
+  missing : (l : Limits) (at : ℕ) (g : Field → Result Time Fault) → length s ≤ at → after (field_at (in_dialect d l) s at) g ≡ few_fields
   unfolding after field_at
   missing l at g h = rw (le-leb (length s) at h)
 
@@ -115,7 +116,7 @@ module _ (d : Dialect) (s : List ℕ) where
             pub five-fields : (weekday : List ℕ) (v : ℕ) → Spaced s u weekday v
                 → fields_at d s p
                 ≡ judged minute_limits p minute q (λ m. judged hour_limits q hour r (λ h. judged day_limits r day t (λ x. judged month_limits t month u
-                (λ y. judged weekday_limits u weekday v (λ z. time.Read (Timed (schedule_of m h x y z)) v)))))
+                (λ y. judged weekday_limits u weekday v (λ z. time_of (Timed (schedule_of m h x y z)) v)))))
             unfolding fields_at
             five-fields weekday v fifth =
                 judged-there minute_limits minute first _ _ (λ set star.

@@ -1,5 +1,6 @@
 -- Laws of the bytes that no line may have.
 -- Assumes nothing.
+use Rattle.refusal.specs.declared.Refusal.TheVariants.{NulByte, ControlByte}
 use mathlib.Core.Path.{◌≡◌, sym, ◌∙◌}
 use mathlib.Core.List.{List}
 use Prim.Native.Nat.{ℕ, ◌+◌, ◌≤◌, ◌<◌}
@@ -15,10 +16,10 @@ module _ (s : List ℕ) (stop nul : ℕ) (p : stop ≡ skipped InLine s 0) (q : 
   nul-found : skipped (Not 0) s 0 ≡ nul
   nul-found = sym (q ∙ rw p (skipped-past InLine (Not 0) no_nul s 0))
 
-  pub nul-there : nul < length s → record { number = 3; column = nul + 1 } ≡ byte_fault s
+  pub nul-there : nul < length s → record { refusal = NulByte; column = nul + 1 } ≡ byte_fault s
   unfolding byte_fault
   nul-there h = rw (nul-found, lt-ltb nul (length s) h)
 
-  pub nul-not-there : length s ≤ nul → record { number = 27; column = stop + 1 } ≡ byte_fault s
+  pub nul-not-there : length s ≤ nul → record { refusal = ControlByte; column = stop + 1 } ≡ byte_fault s
   unfolding byte_fault
   nul-not-there h = rw (nul-found, le-ltb nul (length s) h, ← p)

@@ -1,5 +1,6 @@
 -- Offsets by their digits, any of them; and which settings say something of the offset.
 -- Assumes nothing.
+use Rattle.std.specs.Prelude.{Some, None}
 use mathlib.Core.Path.{◌≡◌, refl}
 use mathlib.Core.Bool.{Bool, true, false, cond, ◌&&◌, ◌||◌}
 use mathlib.Core.List.{List, [], ◌∷◌}
@@ -9,7 +10,6 @@ use lib.IntN.{ℤ}
 use lib.Dec.{eqb, leb}
 use Rattle.octets.specs.Texts.{text}
 use Rattle.field.proofs.ElementForms.{is_digit_lem}
-use Rattle.line.specs.declared.offset.Zone.TheVariants as zone
 use Rattle.line.specs.Words.{same}
 use Rattle.line.specs.Offsets.{zone_name, is_offset, offset_of, is_formed, two_digits, hours_of, rest_of, minutes_of, is_behind, furthest, signed, zone_of, is_allowed_setting, in_force}
 use Rattle.line.proofs.ExactWords.{same-is, same-itself}
@@ -33,7 +33,7 @@ offset-digits behind a b c e h i j k =
     let minutes : (48 + c - 48) * 10 + (48 + e - 48) ≡ 10 * c + e = omega arith in
     (rw (sign.0, sign.1, hours, minutes, is_digit_lem a h, is_digit_lem b i, is_digit_lem c j, is_digit_lem e k), rw (sign.1, hours, minutes))
 
-pub other-stands : (name value : List ℕ) → (name ≡ text "CRON_TZ" → ⊥) → (is_allowed_setting name value ≡ true) × (zone_of name value ≡ zone.Same)
+pub other-stands : (name value : List ℕ) → (name ≡ text "CRON_TZ" → ⊥) → (is_allowed_setting name value ≡ true) × (zone_of name value ≡ None)
 unfolding is_allowed_setting zone_of
 other-stands name value n = rw (not_same (same name zone_name) refl) (refl, refl)
   where
@@ -41,10 +41,10 @@ other-stands name value n = rw (not_same (same name zone_name) refl) (refl, refl
     not_same true e = absurd (n (same-is name zone_name e))
     not_same false e = e
 
-pub zone-stands-is : (value : List ℕ) → (is_allowed_setting (text "CRON_TZ") value ≡ is_offset value) × (zone_of (text "CRON_TZ") value ≡ zone.Offset (offset_of value))
+pub zone-stands-is : (value : List ℕ) → (is_allowed_setting (text "CRON_TZ") value ≡ is_offset value) × (zone_of (text "CRON_TZ") value ≡ Some (offset_of value))
 unfolding is_allowed_setting zone_of
 zone-stands-is value = rw (same-itself zone_name) (refl, refl)
 
-pub force-is : (o m : ℤ) → (in_force zone.Same o ≡ o) × (in_force (zone.Offset m) o ≡ m)
+pub force-is : (o m : ℤ) → (in_force None o ≡ o) × (in_force (Some m) o ≡ m)
 unfolding in_force
 force-is o m = (refl, refl)

@@ -1,5 +1,6 @@
 -- Laws of offsets: one that is read may be, and what the machine reads is what the definition says.
 -- Assumes nothing.
+use Rattle.std.specs.Prelude.{Some, None, Option}
 use mathlib.Core.Path.{◌≡◌, refl, sym, ap, subst, ◌∙◌}
 use mathlib.Core.Bool.{Bool, true, false, cond, ◌&&◌, and-eq-true_iff}
 use mathlib.Core.List.{List}
@@ -7,16 +8,13 @@ use Prim.Native.Nat.{ℕ, zero, suc, ◌+◌, ◌-◌, ◌*◌, ◌≤◌}
 use native.Mathlib.Omega.{arith}
 use lib.Dec.{leb}
 use lib.IntN.{ℤ, pos, neg_ℤ, ◌-ℤ◌}
+use Rattle.std.specs.Option.{unwrap_or}
 use mir.Syntax.{w32}
 use mir.Val.{SFits, to_z, of_z}
 use mir.Facts.{to_z-of_z, to_z_pos}
 use borrow.Author.Tests.{leb-true, lt-ltb}
 use Rattle.schedule.proofs.Theorems.{zone-fits}
 use Rattle.schedule.specs.Local.{OffsetInRange}
-use Rattle.line.specs.declared.offset.Zone.{Zone}
-use Rattle.line.specs.declared.offset.Zone.TheVariants as zone
-use Rattle.line.specs.declared.offset.OffsetAnswer.{OffsetAnswer}
-use Rattle.line.specs.declared.offset.OffsetAnswer.TheVariants.{Minutes, Malformed}
 use Rattle.line.specs.Offsets.{is_formed, hours_of, rest_of, minutes_of, is_behind, furthest, is_offset, signed, offset_of, read_offset, Zoned, in_force}
 
 -- ---- from -12:00 to +14:00
@@ -34,27 +32,24 @@ zone-in s h =
     let b = (and-eq-true_iff (leb (rest_of s) 59) (leb (minutes_of s) (furthest (is_behind s)))).0 a.1 in
     signed-in (is_behind s) (minutes_of s) (leb-true (minutes_of s) (furthest (is_behind s)) b.1)
 
-pub force-in : (z : Zone) (o : ℤ) → Zoned z → OffsetInRange o → OffsetInRange (in_force z o)
+pub force-in : (z : Option ℤ) (o : ℤ) → Zoned z → OffsetInRange o → OffsetInRange (in_force z o)
 unfolding in_force
-force-in zone.Same o h k = k
-force-in (zone.Offset minutes) o h k = h
+force-in None o h k = k
+force-in (Some minutes) o h k = h
 
-pub zoned-in : {z : Zone} {minutes : ℤ} → Zoned z → z ≡ zone.Offset minutes → OffsetInRange minutes
-zoned-in h e = rw e at h
-
-abbrev AnswerIn : OffsetAnswer → Type 0
-AnswerIn (Minutes z) = OffsetInRange z
-AnswerIn Malformed = Unit {0}
+abbrev AnswerIn : Option ℤ → Type 0
+AnswerIn (Some z) = OffsetInRange z
+AnswerIn None = Unit {0}
 
 answer-in : (s : List ℕ) → AnswerIn (read_offset s)
 unfolding read_offset
 answer-in s = go (is_offset s) refl
   where
-    go : (t : Bool) → is_offset s ≡ t → AnswerIn (cond t (Minutes (offset_of s)) Malformed)
+    go : (t : Bool) → is_offset s ≡ t → AnswerIn (cond t (Some (offset_of s)) None)
     go true e = zone-in s e
     go false e = tt
 
-pub minutes-in : (s : List ℕ) {z : ℤ} → read_offset s ≡ Minutes z → OffsetInRange z
+pub minutes-in : (s : List ℕ) {z : ℤ} → read_offset s ≡ Some z → OffsetInRange z
 minutes-in s e = rw e at (answer-in s)
 
 -- ---- in 32 bits
@@ -63,6 +58,13 @@ minutes-in s e = rw e at (answer-in s)
 pub kept : {z : ℤ} → OffsetInRange z → to_z w32 (of_z w32 z) ≡ z
 kept {z} h = to_z-of_z {w = w32} (zone-fits z h)
 
+-- what a setting says, or else what was in force, as the code has it
+pub unwrapped : (zone : Option ℤ) {before r : ℤ} → Zoned zone → SFits w32 before → r ≡ unwrap_or zone (to_z w32 (of_z w32 before))
+    → to_z w32 (of_z w32 r) ≡ in_force zone before
+unfolding in_force
+unwrapped None {before} z f e = rw (e, to_z-of_z {w = w32} f) (to_z-of_z {w = w32} f)
+unwrapped (Some minutes) z f e = rw e (kept z)
+
 pub kept_in : (z : ℤ) → OffsetInRange z → OffsetInRange (to_z w32 (of_z w32 z))
 kept_in z h = subst OffsetInRange (sym (kept {z = z} h)) h
 
@@ -70,7 +72,7 @@ pub same_bits : {y z : ℤ} → OffsetInRange y → OffsetInRange z → of_z w32
 same_bits h k e = sym (kept h) ∙ ap (to_z w32) e ∙ kept k
 
 -- the same of the offset behind a setting, where the one before it was read back
-pub forced : (zone : Zone) {before read r : ℤ} → Zoned zone → OffsetInRange before → read ≡ before → r ≡ in_force zone read
+pub forced : (zone : Option ℤ) {before read r : ℤ} → Zoned zone → OffsetInRange before → read ≡ before → r ≡ in_force zone read
     → to_z w32 (of_z w32 r) ≡ in_force zone before
 forced zone {before} z b same e =
     let f = e ∙ ap (in_force zone) same in
@@ -112,13 +114,13 @@ module _ (s : List ℕ) {hours rest far : ℕ} {behind formed : Bool} (h : hours
   unfolding offset_of minutes_of
   found-is t = rw (b, h, r)
 
-  pub offset-found : test ≡ true → {z : ℤ} → z ≡ signed behind (hours * 60 + rest) → Minutes (to_z w32 (of_z w32 z)) ≡ read_offset s
+  pub offset-found : test ≡ true → {z : ℤ} → z ≡ signed behind (hours * 60 + rest) → Some (to_z w32 (of_z w32 z)) ≡ read_offset s
   unfolding read_offset
   offset-found t e =
       let z = e ∙ found-is t in
-      rw (same_test, t) (ap Minutes (kept (subst OffsetInRange (sym z) (zone-in s (same_test ∙ t))) ∙ z))
+      rw (same_test, t) (ap Some (kept (subst OffsetInRange (sym z) (zone-in s (same_test ∙ t))) ∙ z))
 
-  pub offset-none : test ≡ false → Malformed ≡ read_offset s
+  pub offset-none : test ≡ false → None ≡ read_offset s
   unfolding read_offset
   offset-none t = rw (same_test, t)
 

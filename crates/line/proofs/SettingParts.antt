@@ -1,5 +1,6 @@
 -- The names and values of settings that the other files leave out: a bare name by any bytes after it, quotes that are not closed, bytes after a closed value.
 -- Assumes nothing.
+use Rattle.std.specs.Prelude.{None}
 use mathlib.Core.Path.{◌≡◌, refl, sym, ap, ◌∙◌}
 use mathlib.Core.Bool.{true, false}
 use mathlib.Core.List.{List, [], ◌∷◌, ◌++◌, append-nil}
@@ -13,22 +14,21 @@ use Rattle.octets.specs.Runs.{run, are_of, skipped}
 use Rattle.octets.proofs.Runs.{run-le}
 use Rattle.octets.proofs.Places.{Stands, stops, drop_past, skipped-here, byte-here, run-whole}
 use Rattle.line.proofs.Spacing.{quoted-whole}
-use Rattle.line.specs.declared.assignment.Text.TheVariants.{Found, Malformed}
-use Rattle.line.specs.Assignments.{quoted_at, non_empty, name_at, closed, value_at}
+use Rattle.line.specs.Assignments.{found, quoted_at, non_empty, name_at, closed, value_at}
 
 pub bare-name : {s : List ℕ} {at x : ℕ} {n r : List ℕ} → Stands s at (x ∷ n) r → are_of Name (x ∷ n) ≡ true → is_quote x ≡ false → run Name r ≡ 0
-    → name_at s at ≡ Found (record { start = at; end = at + length (x ∷ n) }) (at + length (x ∷ n))
+    → name_at s at ≡ found (record { start = at; end = at + length (x ∷ n) }) (at + length (x ∷ n))
 unfolding name_at non_empty
 bare-name {at = at} {x = x} {n = n} here are bare ends =
     rw (skipped-here here Name are ends, byte-here here, bare, lt-ltb at (at + length (x ∷ n)) (omega arith))
 
-pub no-bare-name : (s : List ℕ) (at : ℕ) → is_quote (get_or s at 0) ≡ false → run Name (drop at s) ≡ 0 → name_at s at ≡ Malformed
+pub no-bare-name : (s : List ℕ) (at : ℕ) → is_quote (get_or s at 0) ≡ false → run Name (drop at s) ≡ 0 → name_at s at ≡ None
 unfolding name_at non_empty skipped
 no-bare-name s at bare none = let e : at + 0 ≡ at = omega arith in rw (none, bare, e, le-ltb at at (omega arith))
 
 -- a quote that isn't closed
 pub never-closed : {s : List ℕ} {at q : ℕ} {t : List ℕ} → Stands s at (q ∷ t) [] → is_quote q ≡ true → are_of (Not q) t ≡ true
-    → (value_at s at ≡ Malformed) × (name_at s at ≡ Malformed)
+    → (value_at s at ≡ None) × (name_at s at ≡ None)
 unfolding value_at name_at closed non_empty quoted_at run
 never-closed {s} {at} {q} {t} here quote inside =
     let first : Stands s at (q ∷ []) (t ++ []) = record { is = here.is } in
@@ -40,7 +40,7 @@ never-closed {s} {at} {q} {t} here quote inside =
 
 -- anything but blanks after a closed value
 pub value-junk : {s : List ℕ} {at q : ℕ} {t r : List ℕ} → Stands s at (q ∷ t) (q ∷ r) → is_quote q ≡ true → are_of (Not q) t ≡ true → are_of Blank r ≡ false
-    → value_at s at ≡ Malformed
+    → value_at s at ≡ None
 unfolding value_at closed skipped of_class
 value-junk {s} {at} {q} {t} {r} here quote inside junk =
     let first : Stands s at (q ∷ []) (t ++ (q ∷ r)) = record { is = here.is } in

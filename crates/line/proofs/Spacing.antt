@@ -16,10 +16,9 @@ use Rattle.octets.proofs.Places.{Stands, drop_past, between-here, skipped-here, 
 use Rattle.field.specs.declared.Limits.{Limits}
 use Rattle.field.specs.Fields.{read_field}
 use Rattle.line.specs.declared.Rules.{Rules}
-use Rattle.line.specs.declared.assignment.Text.TheVariants.{Found}
 use Rattle.line.specs.Times.{answered, field_at}
 use Rattle.line.specs.Words.{word_of, after_word, word_at}
-use Rattle.line.specs.Assignments.{quoted_at, non_empty, name_at, value_at, after_equals, after_name, setting_at}
+use Rattle.line.specs.Assignments.{found, quoted_at, non_empty, name_at, value_at, after_equals, after_name, setting_at}
 use Rattle.line.specs.Lines.{content_from, content_of}
 
 -- ---- leading blanks
@@ -58,7 +57,7 @@ module _ {s : List ℕ} {at : ℕ} {x : ℕ} {f : List ℕ} (b r : List ℕ) (he
 -- ---- quotes: any bytes but the quote itself
 
 pub quoted-whole : {s : List ℕ} {at q : ℕ} {t r : List ℕ} → Stands s at (q ∷ t) (q ∷ r) → are_of (Not q) t ≡ true → run (Not q) (q ∷ r) ≡ 0
-    → quoted_at s at ≡ Found (record { start = at + 1; end = at + 1 + length t }) (at + 1 + length t + 1)
+    → quoted_at s at ≡ found (record { start = at + 1; end = at + 1 + length t }) (at + 1 + length t + 1)
 unfolding quoted_at
 quoted-whole {s} {at} {q} {t} {r} here inside stops =
     let first : Stands s at (q ∷ []) (t ++ (q ∷ r)) = record { is = here.is } in
@@ -81,7 +80,7 @@ trimmed-end [] b h = blanks-trimmed b h
 trimmed-end (x ∷ v) b h = rw (trimmed-end v b h)
 
 pub value-spaced : {s : List ℕ} {at x : ℕ} {v b : List ℕ} → Stands s at (x ∷ v) b → is_quote x ≡ false → are_of Blank b ≡ true
-    → value_at s at ≡ Found (record { start = at; end = at + trimmed (x ∷ v) }) (length s)
+    → value_at s at ≡ found (record { start = at; end = at + trimmed (x ∷ v) }) (length s)
 unfolding value_at
 value-spaced {v = v} {b = b} here bare blank = rw (byte-here here, bare, here.is, trimmed-end (_ ∷ v) b blank)
 
@@ -90,7 +89,7 @@ value-spaced {v = v} {b = b} here bare blank = rw (byte-here here, bare, here.is
 module _ {s : List ℕ} {at : ℕ} {x : ℕ} {n : List ℕ} (a b r : List ℕ) (here : Stands s at (x ∷ n) (a ++ (61 ∷ (b ++ r))))
     (name : are_of Name (x ∷ n) ≡ true) (ends : run Name (a ++ (61 ∷ (b ++ r))) ≡ 0) (bare : is_quote x ≡ false)
     (before : are_of Blank a ≡ true) (equals : run Blank (61 ∷ (b ++ r)) ≡ 0) (after : are_of Blank b ≡ true) (stops : run Blank r ≡ 0) where
-  pub name-whole : name_at s at ≡ Found (record { start = at; end = at + length (x ∷ n) }) (at + length (x ∷ n))
+  pub name-whole : name_at s at ≡ found (record { start = at; end = at + length (x ∷ n) }) (at + length (x ∷ n))
   unfolding name_at non_empty
   name-whole = rw (skipped-here here Name name ends, byte-here here, bare, lt-ltb at (at + length (x ∷ n)) (omega arith))
 

@@ -1,6 +1,7 @@
 -- Views of a setting's name and value: for each answer of `name_at` and `value_at` all that is known of it, proved once. Either is quoted or bare, and
 -- a part of its line.
 -- Assumes nothing.
+use Rattle.std.specs.Prelude.{Some, None, Option}
 use mathlib.Core.Path.{◌≡◌, refl}
 use mathlib.Core.Bool.{Bool, true, false, cond}
 use mathlib.Core.List.{List}
@@ -16,8 +17,7 @@ use Rattle.octets.specs.Runs.{skipped, trimmed}
 use Rattle.octets.proofs.Runs.{skipped-from, skipped-within, trimmed-le}
 use Rattle.line.specs.declared.Part.{Part}
 use Rattle.line.specs.declared.assignment.Text.{Text}
-use Rattle.line.specs.declared.assignment.Text.TheVariants.{Found, Malformed}
-use Rattle.line.specs.Assignments.{quoted_at, non_empty, name_at, closed, value_at}
+use Rattle.line.specs.Assignments.{found, quoted_at, non_empty, name_at, closed, value_at}
 
 -- a part of n bytes
 pub record Inside (n : ℕ) (p : Part) : Type 0 where
@@ -25,9 +25,9 @@ pub record Inside (n : ℕ) (p : Part) : Type 0 where
   pub within : p.end ≤ n
 
 -- what holds of the part that is found, if one is
-abbrev pub FoundAs : (Part → Type 0) → Text → Type 0
-FoundAs P Malformed = Unit {0}
-FoundAs P (Found p next) = P p
+abbrev pub FoundAs : (Part → Type 0) → Option Text → Type 0
+FoundAs P None = Unit {0}
+FoundAs P (Some w) = P w.part
 
 -- between two quotes of a kind, the first of them at a place
 pub record Quoted (s : List ℕ) (at : ℕ) (p : Part) : Type 0 where
@@ -56,7 +56,7 @@ module _ (s : List ℕ) (at : ℕ) where
       end : ℕ
       end = skipped (Not (get_or s at 0)) s (at + 1)
 
-      go : (t : Bool) → ltb end (length s) ≡ t → FoundAs (Quoted s at) (cond t (Found (record { start = at + 1; end = end }) (end + 1)) Malformed)
+      go : (t : Bool) → ltb end (length s) ≡ t → FoundAs (Quoted s at) (cond t (found (record { start = at + 1; end = end }) (end + 1)) None)
       go true h = record { quote = q; is = refl; closes = ltb-true _ _ h }
       go false h = tt
 
@@ -67,21 +67,21 @@ module _ (s : List ℕ) (at : ℕ) where
       end : ℕ
       end = skipped Name s at
 
-      some : (t : Text) → FoundAs (λ p. Quoted s at p ⊎ (p ≡ record { start = at; end = end })) t → FoundAs (NamePart s at) (non_empty t)
-      some Malformed h = tt
-      some (Found p next) h = kept (ltb p.start p.end) refl
+      some : (t : Option Text) → FoundAs (λ p. Quoted s at p ⊎ (p ≡ record { start = at; end = end })) t → FoundAs (NamePart s at) (non_empty t)
+      some None h = tt
+      some (Some w) h = kept (ltb w.part.start w.part.end) refl
         where
-          kept : (b : Bool) → ltb p.start p.end ≡ b → FoundAs (NamePart s at) (cond b (Found p next) Malformed)
+          kept : (b : Bool) → ltb w.part.start w.part.end ≡ b → FoundAs (NamePart s at) (cond b (found w.part w.next) None)
           kept true e = record { some = ltb-true _ _ e; form = h }
           kept false e = tt
 
-      quoted : (t : Text) → FoundAs (Quoted s at) t → FoundAs (λ p. Quoted s at p ⊎ (p ≡ record { start = at; end = end })) t
-      quoted Malformed h = tt
-      quoted (Found p next) h = inl h
+      quoted : (t : Option Text) → FoundAs (Quoted s at) t → FoundAs (λ p. Quoted s at p ⊎ (p ≡ record { start = at; end = end })) t
+      quoted None h = tt
+      quoted (Some w) h = inl h
 
-      go : (t : Bool) → is_quote (get_or s at 0) ≡ t → FoundAs (NamePart s at) (non_empty (cond t (quoted_at s at) (Found (record { start = at; end = end }) end)))
+      go : (t : Bool) → is_quote (get_or s at 0) ≡ t → FoundAs (NamePart s at) (non_empty (cond t (quoted_at s at) (found (record { start = at; end = end }) end)))
       go true q = some (quoted_at s at) (quoted (quoted_at s at) (quoted-view q))
-      go false q = some (Found (record { start = at; end = end }) end) (inr refl)
+      go false q = some (found (record { start = at; end = end }) end) (inr refl)
 
   pub value-view : FoundAs (ValuePart s at) (value_at s at)
   unfolding value_at closed
@@ -90,16 +90,16 @@ module _ (s : List ℕ) (at : ℕ) where
       end : ℕ
       end = at + trimmed (drop at s)
 
-      alone : (t : Text) → FoundAs (Quoted s at) t → FoundAs (ValuePart s at) (closed s t)
-      alone Malformed h = tt
-      alone (Found p next) h = kept (leb (length s) (skipped Blank s next))
+      alone : (t : Option Text) → FoundAs (Quoted s at) t → FoundAs (ValuePart s at) (closed s t)
+      alone None h = tt
+      alone (Some w) h = kept (leb (length s) (skipped Blank s w.next))
         where
-          kept : (b : Bool) → FoundAs (ValuePart s at) (cond b (Found p next) Malformed)
+          kept : (b : Bool) → FoundAs (ValuePart s at) (cond b (found w.part w.next) None)
           kept true = inl h
           kept false = tt
 
       go : (t : Bool) → is_quote (get_or s at 0) ≡ t
-          → FoundAs (ValuePart s at) (cond t (closed s (quoted_at s at)) (Found (record { start = at; end = end }) (length s)))
+          → FoundAs (ValuePart s at) (cond t (closed s (quoted_at s at)) (found (record { start = at; end = end }) (length s)))
       go true q = alone (quoted_at s at) (quoted-view q)
       go false q = inr (record { bare = q; is = refl })
 

@@ -1,5 +1,6 @@
 -- A view of the user column: its parts are in the line, and the user isn't empty. And where it starts.
 -- Assumes nothing.
+use Rattle.std.specs.Prelude.{Some, None, Option}
 use mathlib.Core.Path.{◌≡◌, refl}
 use mathlib.Core.Bool.{Bool, true, false, cond, not, ◌&&◌, and-eq-true_iff}
 use mathlib.Core.List.{List}
@@ -16,34 +17,33 @@ use Rattle.octets.specs.Runs.{skipped}
 use Rattle.octets.proofs.Runs.{skipped-within, skipped-end}
 use Rattle.line.specs.declared.Part.{Part}
 use Rattle.line.specs.declared.assignment.Text.{Text}
-use Rattle.line.specs.declared.assignment.Text.TheVariants as text
 use Rattle.line.specs.declared.user.Owner.{Owner}
 use Rattle.line.specs.declared.user.Column.{Column}
-use Rattle.line.specs.declared.user.Column.TheVariants.{Named, Malformed}
 use Rattle.line.specs.Limits.{max_account}
 use Rattle.field.specs.Elements.{dash, slash}
-use Rattle.line.specs.Users.{colon, absent, account_at, account_after, and_then, ended, column_at}
+use Rattle.line.specs.Users.{column_of, colon, absent, account_at, account_after, and_then, ended, column_at}
 use Rattle.line.specs.Owners.{named_owner, behind, line_owner}
+use Rattle.line.specs.Assignments.{found}
 
 module _ (s : List ℕ) where
   -- a name, which isn't empty
-  abbrev AccountView : Text → Type 0
-  AccountView text.Malformed = Unit {0}
-  AccountView (text.Found p next) = (p.start < p.end) × (p.end ≤ length s)
+  abbrev AccountView : Option Text → Type 0
+  AccountView None = Unit {0}
+  AccountView (Some w) = (w.part.start < w.part.end) × (w.part.end ≤ length s)
 
   -- one that may be absent
-  abbrev TextWithin : Text → Type 0
-  TextWithin text.Malformed = Unit {0}
-  TextWithin (text.Found p next) = p.end ≤ length s
+  abbrev TextWithin : Option Text → Type 0
+  TextWithin None = Unit {0}
+  TextWithin (Some w) = w.part.end ≤ length s
 
   pub record OwnerWithin (o : Owner) : Type 0 where
     pub user : o.user.end ≤ length s
     pub group : o.group.end ≤ length s
     pub class : o.class.end ≤ length s
 
-  abbrev pub ColumnView : Column → Type 0
-  ColumnView Malformed = Unit {0}
-  ColumnView (Named owner next) = (owner.user.start < owner.user.end) × OwnerWithin owner
+  abbrev pub ColumnView : Option Column → Type 0
+  ColumnView None = Unit {0}
+  ColumnView (Some w) = (w.owner.user.start < w.owner.user.end) × OwnerWithin w.owner
 
   -- a run that isn't empty starts within
   run-within : (at : ℕ) → at < skipped Account s at → skipped Account s at ≤ length s
@@ -62,33 +62,33 @@ module _ (s : List ℕ) where
       rest : Bool
       rest = leb (end - at) max_account && not (eqb (get_or s at 0) dash)
 
-      go : (t : Bool) → (ltb at end && rest) ≡ t → AccountView (cond t (text.Found (record { start = at; end = end }) end) text.Malformed)
+      go : (t : Bool) → (ltb at end && rest) ≡ t → AccountView (cond t (found (record { start = at; end = end }) end) None)
       go true e = let some = ltb-true at end ((and-eq-true_iff (ltb at end) rest).0 e).0 in (some, run-within at some)
       go false e = tt
 
-  within : (t : Text) → AccountView t → TextWithin t
-  within text.Malformed h = tt
-  within (text.Found p next) h = h.1
+  within : (t : Option Text) → AccountView t → TextWithin t
+  within None h = tt
+  within (Some w) h = h.1
 
   after-within : (mark at : ℕ) → TextWithin (account_after mark s at)
   unfolding account_after
   after-within mark at = go (eqb (get_or s at 0) mark)
     where
-      go : (t : Bool) → TextWithin (cond t (account_at s (at + 1)) (text.Found absent at))
+      go : (t : Bool) → TextWithin (cond t (account_at s (at + 1)) (found absent at))
       go true = within (account_at s (at + 1)) (account-view (at + 1))
       go false = omega arith
 
-  then-view : (P : Text → Type 0) (t : Text) (later : Part → ℕ → Column)
-      → P t → ((p : Part) (n : ℕ) → P (text.Found p n) → ColumnView (later p n)) → ColumnView (and_then t later)
+  then-view : (P : Option Text → Type 0) (t : Option Text) (later : Part → ℕ → Option Column)
+      → P t → ((p : Part) (n : ℕ) → P (found p n) → ColumnView (later p n)) → ColumnView (and_then t later)
   unfolding and_then
-  then-view P text.Malformed later h k = tt
-  then-view P (text.Found p next) later h k = k p next h
+  then-view P None later h k = tt
+  then-view P (Some w) later h k = k w.part w.next h
 
   ended-view : (o : Owner) (next : ℕ) → (o.user.start < o.user.end) × OwnerWithin o → ColumnView (ended s o next)
   unfolding ended
   ended-view o next h = go (eqb (skipped Solid s next) next)
     where
-      go : (t : Bool) → ColumnView (cond t (Named o next) Malformed)
+      go : (t : Bool) → ColumnView (cond t (column_of o next) None)
       go true = h
       go false = tt
 
@@ -100,10 +100,10 @@ module _ (s : List ℕ) where
       (λ group after g. then-view TextWithin _ _ (after-within slash after)
       (λ class end c. ended-view _ end (u.0, record { user = u.1; group = g; class = c }))))
 
-  owner-in : (c : Column) → ColumnView c → OwnerWithin (named_owner c)
+  owner-in : (c : Option Column) → ColumnView c → OwnerWithin (named_owner c)
   unfolding named_owner
-  owner-in (Named owner next) h = h.1
-  owner-in Malformed h = record { user = omega arith; group = omega arith; class = omega arith }
+  owner-in (Some w) h = h.1
+  owner-in None h = record { user = omega arith; group = omega arith; class = omega arith }
 
   pub owner-within : OwnerWithin (line_owner s)
   unfolding line_owner

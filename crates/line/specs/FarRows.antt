@@ -1,6 +1,6 @@
 -- Every offset; and long runs of blanks and names, under both kinds and dialects.
 -- Assumes nothing.
-use Rattle.std.specs.Prelude.{ℕ, ◌+◌, ◌/◌, ◌%◌, ◌≡◌, refl, false, List, [], ◌∷◌, ◌++◌, map, replicate, pos, negsuc}
+use Rattle.std.specs.Prelude.{ℕ, ◌+◌, ◌/◌, ◌%◌, ◌≡◌, refl, false, List, [], ◌∷◌, ◌++◌, map, replicate, pos, negsuc, Some, None, Ok, Result}
 use Rattle.octets.specs.Texts.{text}
 use Rattle.octets.specs.Rows.{Hold}
 use Rattle.octets.specs.Sets.{set_of, up_to}
@@ -12,11 +12,10 @@ use Rattle.line.specs.declared.time.When.{When}
 use Rattle.line.specs.declared.time.When.TheVariants.{Reboot, Timed}
 use Rattle.line.specs.declared.Line.{Line}
 use Rattle.line.specs.declared.Line.TheVariants.{Ignored, Setting, Entry}
-use Rattle.line.specs.declared.offset.Zone.TheVariants.{Same}
-use Rattle.line.specs.declared.offset.OffsetAnswer.TheVariants.{Minutes, Malformed}
 use Rattle.line.specs.Offsets.{read_offset}
 use Rattle.line.specs.Lines.{read_line}
 use Rattle.line.specs.Computing.{reading}
+use Rattle.field.specs.declared.Fault.{Fault}
 
 abbrev in_first : Rules
 in_first = record { kind = User; dialect = Rising }
@@ -32,25 +31,25 @@ part start end = record { start = start; end = end }
 abbrev offset_text : ℕ → ℕ → List ℕ
 offset_text sign n = let h = n / 60 in let m = n % 60 in sign ∷ (48 + h / 10) ∷ (48 + h % 10) ∷ 58 ∷ (48 + m / 10) ∷ (48 + m % 10) ∷ []
 
-biased_offset : map (λ n. read_offset (offset_text 43 n)) (up_to 0 1000) ≡ map (λ n. Minutes (pos n)) (up_to 0 840) ++ replicate 160 Malformed
+biased_offset : map (λ n. read_offset (offset_text 43 n)) (up_to 0 1000) ≡ map (λ n. Some (pos n)) (up_to 0 840) ++ replicate 160 None
 unfolding reading
 biased_offset = refl
 
-behind : map (λ n. read_offset (offset_text 45 n)) (up_to 0 1000) ≡ Minutes (pos 0) ∷ map (λ n. Minutes (negsuc n)) (up_to 0 719) ++ replicate 280 Malformed
+behind : map (λ n. read_offset (offset_text 45 n)) (up_to 0 1000) ≡ Some (pos 0) ∷ map (λ n. Some (negsuc n)) (up_to 0 719) ++ replicate 280 None
 unfolding reading
 behind = refl
 
 -- ---- long runs: blanks before a line, between its parts and after a name; and long names
 
-abbrev setting : ℕ → ℕ → ℕ → ℕ → Line
-setting n m v w = Setting (part n m) (part v w) Same
+abbrev setting : ℕ → ℕ → ℕ → ℕ → Result Line Fault
+setting n m v w = Ok (Setting (part n m) (part v w) None)
 
 abbrev blanks : List ℕ
 blanks = replicate 120 32 ++ replicate 120 9
 
 long-blanks : Hold (λ (s : List ℕ). read_line in_first s ∷ read_line in_second s ∷ [])
-    ((blanks ++ text "#", Ignored ∷ Ignored ∷ [])
-    ∷ (blanks ++ text "@reboot" ++ blanks ++ text "u" ++ blanks ++ text "x", Entry Reboot 487 ∷ Entry Reboot 728 ∷ [])
+    ((blanks ++ text "#", Ok Ignored ∷ Ok Ignored ∷ [])
+    ∷ (blanks ++ text "@reboot" ++ blanks ++ text "u" ++ blanks ++ text "x", Ok (Entry Reboot 487) ∷ Ok (Entry Reboot 728) ∷ [])
     ∷ (blanks ++ text "A" ++ blanks ++ text "=" ++ blanks ++ text "b" ++ blanks, setting 240 241 722 723 ∷ setting 240 241 722 723 ∷ [])
     ∷ (text "'" ++ replicate 300 65 ++ text "'" ++ blanks ++ text "=\"" ++ replicate 300 66 ++ text "\" \t ", setting 1 301 544 844 ∷ setting 1 301 544 844 ∷ [])
     ∷ (replicate 300 65 ++ text "=" ++ replicate 300 66, setting 0 300 301 601 ∷ setting 0 300 301 601 ∷ [])
@@ -76,6 +75,6 @@ abbrev wide : List ℕ
 wide = replicate 60 32 ++ replicate 60 9
 
 wide-fields : Hold (λ (rules : Rules). read_line rules (text "0" ++ wide ++ text "0" ++ wide ++ text "1" ++ wide ++ text "1" ++ wide ++ text "1" ++ wide ++ text "u" ++ wide ++ text "x"))
-    ((in_first, Entry new_year 605) ∷ (in_second, Entry new_year 726) ∷ [])
+    ((in_first, Ok (Entry new_year 605)) ∷ (in_second, Ok (Entry new_year 726)) ∷ [])
 unfolding reading
 wide-fields = refl

@@ -1,14 +1,10 @@
 -- The setting `CRON_TZ` and its offset (O1, O2, O3). Name and value are the shown bytes, without quotes.
 -- Assumes nothing.
-use Rattle.std.specs.Prelude.{ℕ, ◌+◌, ◌-◌, ◌*◌, Bool, true, cond, ◌&&◌, ◌||◌, List, length, get_or, eqb, leb, ℤ, pos, neg_ℤ}
+use Rattle.std.specs.Prelude.{ℕ, ◌+◌, ◌-◌, ◌*◌, Bool, true, cond, ◌&&◌, ◌||◌, List, length, get_or, eqb, leb, ℤ, pos, neg_ℤ, Some, None, Option}
 use Rattle.octets.specs.Texts.{text}
 use Rattle.field.specs.Numbers.{is_digit}
 use Rattle.schedule.specs.Local.{OffsetInRange}
 use Rattle.line.specs.Words.{same}
-use Rattle.line.specs.declared.offset.Zone.{Zone}
-use Rattle.line.specs.declared.offset.Zone.TheVariants as zone
-use Rattle.line.specs.declared.offset.OffsetAnswer.{OffsetAnswer}
-use Rattle.line.specs.declared.offset.OffsetAnswer.TheVariants.{Minutes, Malformed}
 
 -- O1: the name, in these letters
 abbrev pub zone_name : List ℕ
@@ -74,19 +70,19 @@ unfoldable pub offset_of : List ℕ → ℤ
 offset_of s = signed (is_behind s) (minutes_of s)
 
 -- O2, O3: any bytes as an offset
-unfoldable pub read_offset : List ℕ → OffsetAnswer
-read_offset s = cond (is_offset s) (Minutes (offset_of s)) Malformed
+unfoldable pub read_offset : List ℕ → Option ℤ
+read_offset s = cond (is_offset s) (Some (offset_of s)) None
 
 -- ---- what a setting says of the offset
 
 -- O3: nothing, or an offset that is allowed
-abbrev pub Zoned : Zone → Type 0
-Zoned zone.Same = Unit {0}
-Zoned (zone.Offset minutes) = OffsetInRange minutes
+abbrev pub Zoned : Option ℤ → Type 0
+Zoned None = Unit {0}
+Zoned (Some minutes) = OffsetInRange minutes
 
 -- O1: what a setting says of the offset, by its shown name and value
-unfoldable pub zone_of : List ℕ → List ℕ → Zone
-zone_of name value = cond (same name zone_name) (zone.Offset (offset_of value)) zone.Same
+unfoldable pub zone_of : List ℕ → List ℕ → Option ℤ
+zone_of name value = cond (same name zone_name) (Some (offset_of value)) None
 
 -- O2, P11: whether a setting isn't R25
 unfoldable pub is_allowed_setting : List ℕ → List ℕ → Bool
@@ -97,6 +93,6 @@ abbrev pub utc : ℤ
 utc = pos 0
 
 -- O1: the offset after a setting, where another was in force before it
-unfoldable pub in_force : Zone → ℤ → ℤ
-in_force zone.Same before = before
-in_force (zone.Offset minutes) before = minutes
+unfoldable pub in_force : Option ℤ → ℤ → ℤ
+in_force None before = before
+in_force (Some minutes) before = minutes

@@ -1,12 +1,11 @@
 -- The user column of a system table's line, found again by its runs of bytes (U4): it comes after one run if the time is a word, and after
 -- five otherwise.
 -- Assumes nothing.
-use Rattle.std.specs.Prelude.{ℕ, zero, suc, cond, List, get_or, eqb}
+use Rattle.std.specs.Prelude.{ℕ, zero, suc, cond, List, get_or, eqb, Some, None, Option}
 use Rattle.octets.specs.declared.class.Class.TheVariants.{Blank, Solid}
 use Rattle.octets.specs.Runs.{skipped}
 use Rattle.line.specs.declared.user.Owner.{Owner}
 use Rattle.line.specs.declared.user.Column.{Column}
-use Rattle.line.specs.declared.user.Column.TheVariants.{Named, Malformed}
 use Rattle.line.specs.Users.{absent, column_at}
 use Rattle.line.specs.Entries.{at_sign}
 
@@ -15,9 +14,9 @@ abbrev pub nobody : Owner
 nobody = record { user = absent; group = absent; class = absent }
 
 -- U4: the column's three parts
-unfoldable pub named_owner : Column → Owner
-named_owner (Named owner next) = owner
-named_owner Malformed = nobody
+unfoldable pub named_owner : Option Column → Owner
+named_owner (Some column) = column.owner
+named_owner None = nobody
 
 -- E3: where a line goes on after so many runs of bytes that aren't blank, each with its blanks
 unfoldable pub behind : ℕ → List ℕ → ℕ → ℕ

@@ -1,16 +1,15 @@
 -- The user column of a system table's entry (U1, U2). Places count from 0 in the line.
 -- Assumes nothing.
-use Rattle.std.specs.Prelude.{ℕ, ◌+◌, ◌-◌, cond, not, ◌&&◌, List, get_or, eqb, leb, ltb}
+use Rattle.std.specs.Prelude.{ℕ, ◌+◌, ◌-◌, cond, not, ◌&&◌, List, get_or, eqb, leb, ltb, Some, None, Option}
 use Rattle.octets.specs.declared.class.Class.TheVariants.{Solid, Account}
 use Rattle.octets.specs.Runs.{skipped}
 use Rattle.field.specs.Elements.{dash, slash}
 use Rattle.line.specs.declared.Part.{Part}
 use Rattle.line.specs.declared.assignment.Text.{Text}
-use Rattle.line.specs.declared.assignment.Text.TheVariants as text
 use Rattle.line.specs.declared.user.Owner.{Owner}
 use Rattle.line.specs.declared.user.Column.{Column}
-use Rattle.line.specs.declared.user.Column.TheVariants.{Named, Malformed}
 use Rattle.line.specs.Limits.{max_account}
+use Rattle.line.specs.Assignments.{found}
 
 -- U1: before the group
 abbrev pub colon : ℕ
@@ -19,34 +18,38 @@ colon = 58
 -- ---- one part
 
 -- U2: the name that starts at a place
-unfoldable pub account_at : List ℕ → ℕ → Text
+unfoldable pub account_at : List ℕ → ℕ → Option Text
 account_at s at =
     let end = skipped Account s at in
     cond (ltb at end && (leb (end - at) max_account && not (eqb (get_or s at 0) dash)))
-    (text.Found (record { start = at; end = end }) end)
-    text.Malformed
+    (found (record { start = at; end = end }) end)
+    None
 
 -- U4: an empty part at place 0
 abbrev pub absent : Part
 absent = record { start = 0; end = 0 }
 
 -- U1: the name after `:` or `/`, absent if that isn't there
-unfoldable pub account_after : ℕ → List ℕ → ℕ → Text
-account_after mark s at = cond (eqb (get_or s at 0) mark) (account_at s (at + 1)) (text.Found absent at)
+unfoldable pub account_after : ℕ → List ℕ → ℕ → Option Text
+account_after mark s at = cond (eqb (get_or s at 0) mark) (account_at s (at + 1)) (found absent at)
 
 -- ---- the three
 
 -- U1: one part, and then the next
-unfoldable pub and_then : Text → (Part → ℕ → Column) → Column
-and_then text.Malformed later = Malformed
-and_then (text.Found part next) later = later part next
+unfoldable pub and_then : Option Text → (Part → ℕ → Option Column) → Option Column
+and_then None later = None
+and_then (Some text) later = later text.part text.next
+
+-- U1: a column, and where the line goes on after it
+abbrev pub column_of : Owner → ℕ → Option Column
+column_of owner next = Some (record { owner = owner; next = next })
 
 -- U1, E3: the column ends here
-unfoldable pub ended : List ℕ → Owner → ℕ → Column
-ended s owner next = cond (eqb (skipped Solid s next) next) (Named owner next) Malformed
+unfoldable pub ended : List ℕ → Owner → ℕ → Option Column
+ended s owner next = cond (eqb (skipped Solid s next) next) (column_of owner next) None
 
 -- U1, U2: the column that starts at a place
-unfoldable pub column_at : List ℕ → ℕ → Column
+unfoldable pub column_at : List ℕ → ℕ → Option Column
 column_at s at =
     and_then (account_at s at)
     (λ user next. and_then (account_after colon s next)

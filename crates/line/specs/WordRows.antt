@@ -1,6 +1,6 @@
 -- What each of the eight words means, in both kinds of table and in any dialect: a time by its sets and stars, and where the command starts.
 -- Assumes nothing.
-use Rattle.std.specs.Prelude.{ℕ, refl, Bool, true, false, List, [], ◌∷◌, ◌++◌}
+use Rattle.std.specs.Prelude.{ℕ, refl, Bool, true, false, List, [], ◌∷◌, ◌++◌, Ok, Result}
 use Rattle.octets.specs.Texts.{text}
 use Rattle.octets.specs.Rows.{Hold}
 use Rattle.octets.specs.Sets.{set_of, up_to}
@@ -12,15 +12,16 @@ use Rattle.line.specs.declared.Line.{Line}
 use Rattle.line.specs.declared.Line.TheVariants.{Entry}
 use Rattle.line.specs.Lines.{read_line}
 use Rattle.line.specs.Computing.{reading}
+use Rattle.field.specs.declared.Fault.{Fault}
 
 -- a word with a command in a user's table, and with a user and a command in a system's
-abbrev in_tables : Dialect → List ℕ → Line × Line
+abbrev in_tables : Dialect → List ℕ → Result Line Fault × Result Line Fault
 in_tables d word =
     (read_line (record { kind = User; dialect = d }) (word ++ text " x"), read_line (record { kind = System; dialect = d }) (word ++ text " u x"))
 
 -- a word of so many bytes
-abbrev entries : When → ℕ → ℕ → Line × Line
-entries when user system = (Entry when user, Entry when system)
+abbrev entries : When → ℕ → ℕ → Result Line Fault × Result Line Fault
+entries when user system = (Ok (Entry when user), Ok (Entry when system))
 
 -- minute 0; hours, days, months and weekdays, and whether each of the four begins with `*`
 abbrev on_the_hour : List ℕ → List ℕ → List ℕ → List ℕ → Bool → Bool → Bool → Bool → When

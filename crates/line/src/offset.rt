@@ -1,33 +1,10 @@
 // Fixed offsets from UTC: the value of a setting `CRON_TZ` (O2, O3).
 ghost use Rattle.std.specs.Prelude.{◌≡◌, ◌-◌, ◌≤◌};
-ghost use Rattle.field.specs.Numbers.{is_digit};
 ghost use Rattle.line.specs.Words.{same};
 ghost use Rattle.line.specs.Offsets.{zone_name, is_formed, two_digits, furthest, signed, read_offset, Zoned, in_force};
 
 use crate::word::is_word;
 use octets::run::byte_at;
-
-// What a setting says of the offset from there on.
-#[derive(Clone, Copy)]
-pub enum Zone {
-    // Nothing.
-    Same,
-    // That it is so many minutes.
-    Offset(i32),
-}
-
-// The offset that a value says.
-#[derive(Clone, Copy)]
-pub enum OffsetAnswer {
-    Minutes(i32),
-    Malformed,
-}
-
-fn is_digit(b: u8) -> bool
-    ensures { result ≡ is_digit b }
-{
-    (b'0' <= b) & (b <= b'9')
-}
 
 // Whether a value is a sign, two digits, a colon and two digits.
 fn is_formed(s: &[u8]) -> bool
@@ -35,9 +12,9 @@ fn is_formed(s: &[u8]) -> bool
 {
     let sign = byte_at(s, 0);
     let signed = (sign == b'+') | (sign == b'-');
-    let hours = is_digit(byte_at(s, 1)) & is_digit(byte_at(s, 2));
+    let hours = byte_at(s, 1).is_ascii_digit() & byte_at(s, 2).is_ascii_digit();
     let colon = byte_at(s, 3) == b':';
-    let minutes = is_digit(byte_at(s, 4)) & is_digit(byte_at(s, 5));
+    let minutes = byte_at(s, 4).is_ascii_digit() & byte_at(s, 5).is_ascii_digit();
     (s.len() == 6) & (signed & (hours & (colon & minutes)))
 }
 
@@ -45,10 +22,7 @@ fn is_formed(s: &[u8]) -> bool
 fn digit(b: u8) -> u32
     ensures { (result ≡ b - 48) × (result ≤ 207) }
 {
-    if b < b'0' {
-        return 0;
-    }
-    (b - b'0') as u32
+    b.saturating_sub(b'0') as u32
 }
 
 fn two_digits(tens: u8, ones: u8) -> u32
@@ -77,8 +51,8 @@ fn signed(behind: bool, minutes: u32) -> i32
     minutes as i32
 }
 
-// The offset that a value says, in minutes.
-pub fn read(s: &[u8]) -> OffsetAnswer
+// The offset that a value says, in minutes, if it says one.
+pub fn read(s: &[u8]) -> Option<i32>
     ensures { result ≡ read_offset s.now }
 {
     let hours = two_digits(byte_at(s, 1), byte_at(s, 2));
@@ -87,9 +61,9 @@ pub fn read(s: &[u8]) -> OffsetAnswer
     let behind = byte_at(s, 0) == b'-';
     let near = (rest <= 59) & (minutes <= furthest(behind));
     if is_formed(s) & near {
-        return OffsetAnswer::Minutes(signed(behind, minutes));
+        return Some(signed(behind, minutes));
     }
-    OffsetAnswer::Malformed
+    None
 }
 
 // Whether a setting of this name says an offset.
@@ -99,13 +73,10 @@ pub fn is_zone(name: &[u8]) -> bool
     is_word(name, b"CRON_TZ")
 }
 
-// The offset after a setting, where another was in force.
-pub fn in_force(zone: Zone, before: i32) -> i32
+// The offset after a setting, which says one or leaves the one that was in force.
+pub fn in_force(zone: Option<i32>, before: i32) -> i32
     requires { Zoned zone }
     ensures { result ≡ in_force zone before }
 {
-    match zone {
-        Zone::Same => before,
-        Zone::Offset(minutes) => minutes,
-    }
+    zone.unwrap_or(before)
 }

@@ -18,9 +18,9 @@ pub struct Owner {
 
 // A column, and where the line goes on after it.
 #[derive(Clone, Copy)]
-pub enum Column {
-    Named { owner: Owner, next: usize },
-    Malformed,
+pub struct Column {
+    pub owner: Owner,
+    pub next: usize,
 }
 
 const ABSENT: Part = Part { start: 0, end: 0 };
@@ -32,57 +32,57 @@ pub const NOBODY: Owner = Owner {
 };
 
 // The name that starts at a place.
-fn account_at(s: &[u8], at: usize) -> Text
+fn account_at(s: &[u8], at: usize) -> Option<Text>
     ensures { result ≡ account_at s.now at }
 {
     let end = skip(s, at, Class::Account);
     if (at < end) & ((end - at <= MAX_ACCOUNT) & (byte_at(s, at) != b'-')) {
-        return Text::Found {
+        return Some(Text {
             part: Part { start: at, end },
             next: end,
-        };
+        });
     }
-    Text::Malformed
+    None
 }
 
 // The name behind a mark, absent where the mark doesn't stand there.
-fn account_after(s: &[u8], at: usize, mark: u8) -> Text
+fn account_after(s: &[u8], at: usize, mark: u8) -> Option<Text>
     requires { 0 < mark }
     ensures { result ≡ account_after mark s.now at }
 {
     if byte_at(s, at) == mark {
         return account_at(s, at + 1);
     }
-    Text::Found {
+    Some(Text {
         part: ABSENT,
         next: at,
-    }
+    })
 }
 
 // The column ends here.
-fn ended(s: &[u8], owner: Owner, next: usize) -> Column
+fn ended(s: &[u8], owner: Owner, next: usize) -> Option<Column>
     ensures { result ≡ ended s.now owner next }
 {
     if skip(s, next, Class::Solid) == next {
-        return Column::Named { owner, next };
+        return Some(Column { owner, next });
     }
-    Column::Malformed
+    None
 }
 
 // The column that starts at a place.
-pub(crate) fn column_at(s: &[u8], at: usize) -> Column
+#[tactic(auto, unfolding(crate::specs::Users::column_at, crate::specs::Users::and_then))]
+pub(crate) fn column_at(s: &[u8], at: usize) -> Option<Column>
     ensures { result ≡ column_at s.now at }
 {
-    let Text::Found { part: user, next } = account_at(s, at) else {
-        return Column::Malformed;
+    let user = account_at(s, at)?;
+    let group = account_after(s, user.next, b':')?;
+    let class = account_after(s, group.next, b'/')?;
+    let owner = Owner {
+        user: user.part,
+        group: group.part,
+        class: class.part,
     };
-    let Text::Found { part: group, next } = account_after(s, next, b':') else {
-        return Column::Malformed;
-    };
-    let Text::Found { part: class, next } = account_after(s, next, b'/') else {
-        return Column::Malformed;
-    };
-    ended(s, Owner { user, group, class }, next)
+    ended(s, owner, class.next)
 }
 
 // Where a line goes on behind so many runs of non-blank bytes, each with its blanks.
@@ -90,10 +90,8 @@ fn behind(l: &[u8], at: usize, runs: usize) -> usize
     ensures { result ≡ behind runs l.now at }
 {
     let mut at = at;
-    let mut left = runs;
-    while 0 < left {
+    for _ in 0..runs {
         at = skip(l, skip(l, at, Class::Solid), Class::Blank);
-        left -= 1;
     }
     at
 }
@@ -113,8 +111,8 @@ pub fn line_owner(l: &[u8]) -> Owner
     ensures { result ≡ line_owner l.now }
 {
     let at = skip(l, 0, Class::Blank);
-    let Column::Named { owner, next: _ } = column_at(l, behind(l, at, time_runs(l, at))) else {
+    let Some(column) = column_at(l, behind(l, at, time_runs(l, at))) else {
         return NOBODY;
     };
-    owner
+    column.owner
 }

@@ -1,20 +1,13 @@
 // `@reboot`, and the words that stand for five fields. The schedules of those fields stand here as numbers, and are read nowhere.
-ghost use Rattle.std.specs.Prelude.{◌≡◌, cond, ◌<◌, length};
+ghost use Rattle.std.specs.Prelude.{◌≡◌, ◌<◌, length};
 ghost use Rattle.line.specs.Words.{same, word_of, word_at};
-ghost use Rattle.line.specs.declared.word.Word.TheVariants.{Known};
 
+use crate::Fault;
 use crate::time::{Time, When};
-use crate::{Fault, UNKNOWN_WORD};
 use octets::class::Class;
 use octets::run::skip;
+use refusal::Refusal;
 use schedule::{Schedule, Stars};
-
-// What a word means, or that there is no such word.
-#[derive(Clone, Copy)]
-pub enum Word {
-    Known(When),
-    Unknown,
-}
 
 // The sets of `*`.
 const EVERY_HOUR: u32 = 16_777_215;
@@ -109,57 +102,54 @@ const HOURLY: Schedule = Schedule {
 pub fn is_word(s: &[u8], word: &[u8]) -> bool
     ensures { result ≡ same s.now word.now }
 {
-    if s.len() == word.len() {
-        let mut at = 0;
-        while at < s.len() {
-            if s[at] != word[at] {
-                return false;
-            }
-            at += 1;
-        }
-        return true;
-    }
-    false
+    s == word
 }
 
-// What the word means, if s is that word; otherwise what the other words gave.
-fn known_or(s: &[u8], word: &[u8], when: When, other: Word) -> Word
-    ensures { result ≡ cond (same s.now word.now) (Known when) other }
-{
-    if is_word(s, word) {
-        return Word::Known(when);
-    }
-    other
-}
-
-// What a whole word means.
-fn meaning(s: &[u8]) -> Word
+// What a whole word means, if it is one of them.
+fn meaning(s: &[u8]) -> Option<When>
     ensures { result ≡ word_of s.now }
 {
-    let w = known_or(s, b"@hourly", When::Timed(HOURLY), Word::Unknown);
-    let w = known_or(s, b"@midnight", When::Timed(DAILY), w);
-    let w = known_or(s, b"@daily", When::Timed(DAILY), w);
-    let w = known_or(s, b"@weekly", When::Timed(WEEKLY), w);
-    let w = known_or(s, b"@monthly", When::Timed(MONTHLY), w);
-    let w = known_or(s, b"@annually", When::Timed(YEARLY), w);
-    let w = known_or(s, b"@yearly", When::Timed(YEARLY), w);
-    known_or(s, b"@reboot", When::Reboot, w)
+    if is_word(s, b"@reboot") {
+        return Some(When::Reboot);
+    }
+    if is_word(s, b"@yearly") {
+        return Some(When::Timed(YEARLY));
+    }
+    if is_word(s, b"@annually") {
+        return Some(When::Timed(YEARLY));
+    }
+    if is_word(s, b"@monthly") {
+        return Some(When::Timed(MONTHLY));
+    }
+    if is_word(s, b"@weekly") {
+        return Some(When::Timed(WEEKLY));
+    }
+    if is_word(s, b"@daily") {
+        return Some(When::Timed(DAILY));
+    }
+    if is_word(s, b"@midnight") {
+        return Some(When::Timed(DAILY));
+    }
+    if is_word(s, b"@hourly") {
+        return Some(When::Timed(HOURLY));
+    }
+    None
 }
 
 // The word that starts at a place: the whole run of non-blank bytes.
-pub(crate) fn read(s: &[u8], at: usize) -> Time
+#[tactic(auto, unfolding(crate::specs::Words::word_at, crate::specs::Words::after_word, octets::specs::Runs::between))]
+pub(crate) fn read(s: &[u8], at: usize) -> Result<Time, Fault>
     requires { at < length s.now }
     ensures { result ≡ word_at s.now at }
 {
     let end = skip(s, at, Class::Solid);
-    let Word::Known(when) = meaning(&s[at..end]) else {
-        return Time::Refused(Fault {
-            number: UNKNOWN_WORD,
-            column: at + 1,
-        });
+    let refused = Fault {
+        refusal: Refusal::UnknownWord,
+        column: at + 1,
     };
-    Time::Read {
+    let when = meaning(&s[at..end]).ok_or(refused)?;
+    Ok(Time {
         when,
         next: skip(s, end, Class::Blank),
-    }
+    })
 }

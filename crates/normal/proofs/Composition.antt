@@ -1,6 +1,8 @@
 -- Normal texts of any length: the text of items is that of each, one after the other; each item's text, byte by byte; quotes just where a bare reading
 -- would differ, double before single; and what the call answers, for any table and buffer.
 -- Assumes nothing.
+use Rattle.refusal.specs.declared.Refusal.TheVariants.{TooShort, TooLong}
+use Rattle.std.specs.Prelude.{Ok, Err}
 use mathlib.Core.Path.{◌≡◌, refl, ap, ◌∙◌}
 use mathlib.Core.Bool.{Bool, true, false, ◌&&◌, and-eq-true_iff}
 use mathlib.Core.List.{List, [], ◌∷◌, ◌++◌, append_assoc}
@@ -8,7 +10,7 @@ use Prim.Native.Nat.{ℕ, ◌+◌, ◌≤◌, ◌<◌}
 use native.Mathlib.Omega.{arith}
 use lib.ListN.{length, drop}
 use lib.Dec.{leb}
-use borrow.Author.Tests.{le-leb, lt-leb, leb-true, ne_eqb}
+use borrow.Author.Tests.{le-leb, lt-leb, leb-true}
 use Rattle.octets.specs.Texts.{text}
 use Rattle.octets.specs.declared.class.Class.TheVariants.{Not}
 use Rattle.octets.specs.Runs.{are_of}
@@ -20,12 +22,13 @@ use Rattle.schedule.specs.declared.Schedule.{Schedule}
 use Rattle.line.specs.Limits.{max_line}
 use Rattle.crontab.specs.Limits.{max_table}
 use Rattle.line.specs.Offsets.{is_allowed_setting}
-use Rattle.crontab.specs.Tables.{table_of}
-use Rattle.normal.specs.declared.NormalAnswer.TheVariants.{Written, Refused}
+use Rattle.crontab.specs.declared.table.TableFault.{TableFault}
+use Rattle.crontab.specs.Tables.{table_of, refusal_in}
 use Rattle.normal.specs.Meanings.{Item, setting, boot, timed, entries_in, of_user, meaning_of, line_items}
 use Rattle.normal.specs.Texts.{double_quote, single_quote, quoted, is_bare_name, is_bare_value, name_text, value_text, schedule_text, item_text, normal_text, are_short, fits}
 use Rattle.normal.specs.Proper.{is_name, is_value, is_item}
-use Rattle.normal.specs.NormalForms.{refused_form, form_over_front, form_of, normal_form}
+use Rattle.normal.specs.NormalForms.{refused_form, form_over_front, form_of, unless_refused, normal_form}
+use Rattle.normal.proofs.Forms.{unless-good}
 use Rattle.normal.proofs.Lines.{line-back}
 use Rattle.normal.proofs.Quotes.{name-bare, value-bare}
 
@@ -163,20 +166,20 @@ module _ (d : Dialect) (s buffer : List ℕ) where
   abbrev normal : List ℕ
   normal = normal_text (meaning_of d s)
 
-  pub form-refuses : ((table_of (of_user d) s).refusal ≡ 0 → ⊥) → normal_form d s buffer ≡ record { answer = Refused (table_of (of_user d) s).refusal; buffer = buffer }
-  unfolding normal_form refused_form
-  form-refuses n = rw (ne_eqb (table_of (of_user d) s).refusal 0 n) refl
+  pub form-refuses : (f : TableFault) → table_of (of_user d) s ≡ Err f → normal_form d s buffer ≡ record { answer = Err f.refusal; buffer = buffer }
+  unfolding normal_form unless_refused refused_form
+  form-refuses f e = rw e refl
 
-  module _ (good : (table_of (of_user d) s).refusal ≡ 0) where
-    pub form-too-long : fits (meaning_of d s) ≡ false → normal_form d s buffer ≡ record { answer = Refused 21; buffer = buffer }
+  module _ (good : refusal_in (table_of (of_user d) s) ≡ 0) where
+    pub form-too-long : fits (meaning_of d s) ≡ false → normal_form d s buffer ≡ record { answer = Err TooLong; buffer = buffer }
     unfolding normal_form form_of refused_form
-    form-too-long f = rw (good, f) refl
+    form-too-long f = unless-good (table_of (of_user d) s) _ buffer good ∙ rw f refl
 
-    pub form-no-room : fits (meaning_of d s) ≡ true → length buffer < length normal → normal_form d s buffer ≡ record { answer = Refused 18; buffer = buffer }
+    pub form-no-room : fits (meaning_of d s) ≡ true → length buffer < length normal → normal_form d s buffer ≡ record { answer = Err TooShort; buffer = buffer }
     unfolding normal_form form_of form_over_front refused_form
-    form-no-room f h = rw (good, f, lt-leb (length normal) (length buffer) h) refl
+    form-no-room f h = unless-good (table_of (of_user d) s) _ buffer good ∙ rw (f, lt-leb (length normal) (length buffer) h) refl
 
     pub form-writes : fits (meaning_of d s) ≡ true → length normal ≤ length buffer
-        → normal_form d s buffer ≡ record { answer = Written (length normal); buffer = normal ++ drop (length normal) buffer }
+        → normal_form d s buffer ≡ record { answer = Ok (length normal); buffer = normal ++ drop (length normal) buffer }
     unfolding normal_form form_of form_over_front over_front
-    form-writes f h = rw (good, f, le-leb (length normal) (length buffer) h) refl
+    form-writes f h = unless-good (table_of (of_user d) s) _ buffer good ∙ rw (f, le-leb (length normal) (length buffer) h) refl

@@ -1,5 +1,6 @@
 -- Entries that are written: a proper schedule and a proper command are read back from their text.
 -- Assumes nothing.
+use Rattle.std.specs.Prelude.{Ok}
 use mathlib.Core.Path.{◌≡◌, refl, ap, ◌∙◌}
 use mathlib.Core.Bool.{Bool, true, false, not, ◌&&◌, and-eq-true_iff}
 use mathlib.Core.Logic.{inl, inr}
@@ -25,9 +26,7 @@ use Rattle.field.proofs.Theorems.{Usual, minute-usual, hour-usual, day-usual, mo
 use Rattle.schedule.specs.declared.Schedule.{Schedule}
 use Rattle.line.specs.declared.time.When.{When}
 use Rattle.line.specs.declared.time.When.TheVariants.{Reboot, Timed}
-use Rattle.line.specs.declared.time.Field.TheVariants as field
-use Rattle.line.specs.declared.time.Time.TheVariants as time
-use Rattle.line.specs.Times.{answered, field_at, after, fields_at}
+use Rattle.line.specs.Times.{time_of, answered, field_at, after, fields_at}
 use Rattle.line.specs.Entries.{time_at, with_command, after_time, entry_at}
 use Rattle.line.specs.Lines.{starts_entry}
 use Rattle.crontab.specs.Computing.{reading}
@@ -81,7 +80,7 @@ field-first (b ∷ t) (inr h) =
 -- read back, and where the line goes on
 record FieldBack (d : Dialect) (l : Limits) (set : ℕ) (star : Bool) (s : List ℕ) (at : ℕ) (rest : List ℕ) : Type 0 where
   next : ℕ
-  is : field_at (in_dialect d l) s at ≡ field.Read (record { set = set; star = star; next = next })
+  is : field_at (in_dialect d l) s at ≡ Ok (record { set = set; star = star; next = next })
   behind : drop next s ≡ rest
 
 module _ (l : Limits) (u : Usual l) (set : ℕ) (star : Bool) (proper : is_field l set star ≡ true) where
@@ -168,7 +167,7 @@ module _ (x : Schedule) where
   -- read back, and where the line goes on
   record TimeBack (d : Dialect) (s : List ℕ) (at : ℕ) (rest : List ℕ) : Type 0 where
     next : ℕ
-    is : fields_at d s at ≡ time.Read (Timed x) next
+    is : fields_at d s at ≡ time_of (Timed x) next
     behind : drop next s ≡ rest
 
   fields_back : (d : Dialect) → is_schedule x ≡ true → (s : List ℕ) (at : ℕ) (rest : List ℕ) → drop at s ≡ schedule_text x ++ 32 ∷ rest → run Blank rest ≡ 0 → TimeBack d s at rest
@@ -201,7 +200,7 @@ command-parts c e =
     let b = (and-eq-true_iff (are_of InLine c) (not (is_blank (get_or c 0 0)))).0 a.1 in
     record { some = leb-true 1 (length c) a.0; clean = b.0; solid = solid-run c (not-true (is_blank (get_or c 0 0)) b.1) }
 
-command-back : (d : Dialect) (s : List ℕ) (when : When) (next : ℕ) (c : List ℕ) → time_at d s 0 ≡ time.Read when next → drop next s ≡ c → 0 < length c
+command-back : (d : Dialect) (s : List ℕ) (when : When) (next : ℕ) (c : List ℕ) → time_at d s 0 ≡ time_of when next → drop next s ≡ c → 0 < length c
     → item_in s (entry_at (of_user d) s 0) ≡ entry_item when c ∷ []
 unfolding entry_at after_time with_command item_in
 command-back d s when next c is here some =
@@ -210,9 +209,9 @@ command-back d s when next c is here some =
 
 -- ---- an entry
 
-reboot-word : (d : Dialect) (c : List ℕ) → run Blank c ≡ 0 → time_at d (text "@reboot " ++ c) 0 ≡ time.Read Reboot 8
+reboot-word : (d : Dialect) (c : List ℕ) → run Blank c ≡ 0 → time_at d (text "@reboot " ++ c) 0 ≡ time_of Reboot 8
 unfolding reading
-reboot-word d c h = ap (λ (n : ℕ). time.Read Reboot (7 + suc n)) h
+reboot-word d c h = ap (λ (n : ℕ). time_of Reboot (7 + suc n)) h
 
 pub boot-back : (d : Dialect) (c : List ℕ) → is_command c ≡ true → item_in (text "@reboot " ++ c) (entry_at (of_user d) (text "@reboot " ++ c) 0) ≡ boot c ∷ []
 unfolding entry_item

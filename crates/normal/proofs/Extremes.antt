@@ -16,7 +16,7 @@ use Rattle.schedule.specs.declared.Schedule.{Schedule}
 use Rattle.crontab.specs.Lines.{lines_of}
 use Rattle.line.specs.Offsets.{utc, is_allowed_setting}
 use Rattle.crontab.specs.Items.{items_of}
-use Rattle.crontab.specs.Tables.{table_of}
+use Rattle.crontab.specs.Tables.{table_of, refusal_in}
 use Rattle.normal.specs.Meanings.{Item, setting, boot, timed, entries_in, of_user, meaning_of, offsets_from, entry_offsets, line_items, items_in}
 use Rattle.normal.specs.Texts.{name_text, value_text, schedule_text, item_text, normal_text, fits}
 use Rattle.normal.specs.Proper.{is_name, is_value, is_command, is_schedule, is_item, are_items}
@@ -26,7 +26,7 @@ use Rattle.normal.proofs.Theorems.{line-proper, line-back, name-bare, value-bare
 
 -- ---- any table that is good in the second dialect
 
-module _ (s : List ℕ) (good : (table_of (of_user Wrapping) s).refusal ≡ 0) where
+module _ (s : List ℕ) (good : refusal_in (table_of (of_user Wrapping) s) ≡ 0) where
   -- meaning-lines, meaning-proper, meaning-few, meaning-offsets
   pub meaning-used :
       (meaning_of Wrapping s ≡ items_in Wrapping (lines_of s))
@@ -40,10 +40,10 @@ module _ (s : List ℕ) (good : (table_of (of_user Wrapping) s).refusal ≡ 0) w
     normal = normal_text (meaning_of Wrapping s)
 
     -- normal-in-either: back in the first, and from there in the second again
-    pub either-used : ((table_of (of_user Rising) normal).refusal ≡ 0) × (meaning_of Rising normal ≡ meaning_of Wrapping s)
+    pub either-used : (refusal_in (table_of (of_user Rising) normal) ≡ 0) × (meaning_of Rising normal ≡ meaning_of Wrapping s)
     either-used = normal-in-either Wrapping Rising s good fit
 
-    pub back-used : ((table_of (of_user Wrapping) normal).refusal ≡ 0) × (meaning_of Wrapping normal ≡ meaning_of Wrapping s)
+    pub back-used : (refusal_in (table_of (of_user Wrapping) normal) ≡ 0) × (meaning_of Wrapping normal ≡ meaning_of Wrapping s)
     back-used = read_back Wrapping s good fit
 
     pub offsets-used : entry_offsets (items_of (of_user Rising) normal) ≡ entry_offsets (items_of (of_user Wrapping) s)
@@ -58,13 +58,13 @@ module _ (s : List ℕ) (good : (table_of (of_user Wrapping) s).refusal ≡ 0) w
     again-used buffer = (form-again Wrapping Rising s buffer good fit, normal-again Wrapping Rising s good fit)
 
     -- equal-texts, the other direction: a table of the first dialect with the same text has the same meaning
-    pub texts-used : (t : List ℕ) → (table_of (of_user Rising) t).refusal ≡ 0 → fits (meaning_of Rising t) ≡ true → normal ≡ normal_text (meaning_of Rising t)
+    pub texts-used : (t : List ℕ) → refusal_in (table_of (of_user Rising) t) ≡ 0 → fits (meaning_of Rising t) ≡ true → normal ≡ normal_text (meaning_of Rising t)
         → meaning_of Wrapping s ≡ meaning_of Rising t
     texts-used t other short same = equal-texts Wrapping Rising s t good other fit short same
 
 -- ---- any table that is good in the first dialect: form-again, normal-again to the second
 
-pub again-back : (s buffer : List ℕ) → (table_of (of_user Rising) s).refusal ≡ 0 → fits (meaning_of Rising s) ≡ true
+pub again-back : (s buffer : List ℕ) → refusal_in (table_of (of_user Rising) s) ≡ 0 → fits (meaning_of Rising s) ≡ true
     → let normal = normal_text (meaning_of Rising s) in (normal_form Wrapping normal buffer ≡ normal_form Rising s buffer) × (normal_text (meaning_of Wrapping normal) ≡ normal)
 again-back s buffer good fit = (form-again Rising Wrapping s buffer good fit, normal-again Rising Wrapping s good fit)
 
@@ -144,11 +144,11 @@ sample = text "'A B'=' c'\n@reboot a\nCRON_TZ=-12:00\n59-0 22-1 * * fri-sun b %\
 abbrev pub sample_text : List ℕ
 sample_text = text "\"A B\"=\" c\"\n@reboot a\nCRON_TZ=-12:00\n0,59 0,1,22,23 * * 0,5,6 b %\nCRON_TZ=+14:00\n0 0 * * 0 c\n"
 
-sample-is : ((table_of (of_user Wrapping) sample).refusal ≡ 0) × (fits (meaning_of Wrapping sample) ≡ true) × (normal_text (meaning_of Wrapping sample) ≡ sample_text)
+sample-is : (refusal_in (table_of (of_user Wrapping) sample) ≡ 0) × (fits (meaning_of Wrapping sample) ≡ true) × (normal_text (meaning_of Wrapping sample) ≡ sample_text)
 unfolding writing
 sample-is = (refl, refl, refl)
 
-pub sample-back : ((table_of (of_user Rising) sample_text).refusal ≡ 0) × (meaning_of Rising sample_text ≡ meaning_of Wrapping sample)
+pub sample-back : (refusal_in (table_of (of_user Rising) sample_text) ≡ 0) × (meaning_of Rising sample_text ≡ meaning_of Wrapping sample)
 sample-back = rw sample-is.2 at (either-used sample sample-is.0 sample-is.1)
 
 -- in the first dialect the text's entries are under UTC, 12 hours behind it and 14 ahead

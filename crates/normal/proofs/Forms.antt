@@ -1,63 +1,62 @@
 -- Laws of a text in a buffer. One walk over items writes as much of it as fits, and tells what refuses it and how long it is; a second such walk
 -- writes it whole.
 -- Assumes nothing.
+use Rattle.std.specs.Prelude.{Option, Some, None, Result, Ok, Err}
 use mathlib.Core.Path.{◌≡◌, refl, sym, ap, ◌∙◌}
 use mathlib.Core.Bool.{Bool, true, false, cond, ◌&&◌, and-true, and-false, and_assoc}
 use mathlib.Core.List.{List, [], ◌++◌, append_assoc, append-nil}
 use Prim.Native.Nat.{ℕ, ◌+◌, ◌-◌, ◌≤◌, ◌<◌}
 use native.Mathlib.Omega.{arith}
 use lib.ListN.{length, length-append}
-use lib.Dec.{eqb, leb}
-use borrow.Author.Tests.{le-leb, lt-leb, leb-true, leb-false, eqb-true, ne_eqb}
+use lib.Dec.{leb}
+use borrow.Author.Tests.{le-leb, lt-leb, leb-true, leb-false}
 use Rattle.octets.specs.Clipped.{last_place, Wrote}
 use Rattle.octets.proofs.Written.{clipped-laid, wrote_none, wrote-next, wrote-onward, wrote-size, wrote-fits, saturated-small, saturated-past}
+use Rattle.refusal.specs.declared.Refusal.{Refusal}
+use Rattle.refusal.specs.declared.Refusal.TheVariants.{TooShort, TooLong}
+use Rattle.refusal.specs.Numbers.{number_of}
+use Rattle.refusal.proofs.Numbers.{number-small, numbers-differ}
 use Rattle.field.specs.declared.Dialect.{Dialect}
 use Rattle.crontab.specs.Limits.{max_table}
 use Rattle.line.specs.Limits.{max_line}
-use Rattle.crontab.specs.Tables.{table_of}
-use Rattle.normal.specs.declared.NormalAnswer.{NormalAnswer}
-use Rattle.normal.specs.declared.NormalAnswer.TheVariants as answer
+use Rattle.crontab.specs.declared.table.TableFault.{TableFault}
+use Rattle.crontab.specs.Tables.{table_of, refusal_in}
 use Rattle.normal.specs.Meanings.{Item, of_user, meaning_of}
 use Rattle.normal.specs.Texts.{normal_text, are_short, fits}
-use Rattle.normal.specs.NormalForms.{refused_form, form_over_front, form_of, normal_form}
-use Rattle.normal.specs.Inner.{measured, form_for, Tried, text_refusal}
+use Rattle.normal.specs.NormalForms.{NormalForm, refused_form, form_over_front, form_of, unless_refused, normal_form}
+use Rattle.normal.specs.Inner.{measured, form_for, Tried, refusal_by, text_refusal}
 
-module _ (refusal : ℕ) (t : List ℕ) where
-  -- a text that is measured is refused by nothing but a buffer
-  pub record Fits (n : ℕ) : Type 0 where
-    pub good : refusal ≡ 0
-    pub length : n ≡ length t
+-- a text that is measured is refused by nothing but a buffer
+pub record Fits (refusal : Option Refusal) (t : List ℕ) (n : ℕ) : Type 0 where
+  pub good : refusal ≡ None
+  pub length : n ≡ length t
 
-  pub written-fits : {n : ℕ} → answer.Written n ≡ measured refusal t → Fits n
-  unfolding measured
-  written-fits {n} e = go (eqb refusal 0) refl e
-    where
-      go : (b : Bool) → eqb refusal 0 ≡ b → answer.Written n ≡ cond b (answer.Written (length t)) (answer.Refused refusal) → Fits n
-      go true p e = record { good = eqb-true refusal 0 p; length = cc }
-      go false p e = let z : ◌≡◌ {A = ℕ} 0 1 = cc in absurd (omega arith)
+pub written-fits : (refusal : Option Refusal) (t : List ℕ) {n : ℕ} → Ok n ≡ measured refusal t → Fits refusal t n
+unfolding measured
+written-fits None t e = record { good = refl; length = cc }
+written-fits (Some refusal) t e = cc
 
-  module _ (buffer : List ℕ) {n : ℕ} where
-    pub form-short : answer.Written n ≡ measured refusal t → length buffer < n → refused_form 18 buffer ≡ form_for refusal t buffer
-    unfolding form_for form_over_front
-    form-short e h = let f = written-fits e in rw (f.good, lt-leb (length t) (length buffer) (omega (arith, f.length)))
+pub form-short : (refusal : Option Refusal) (t buffer : List ℕ) {n : ℕ} → Ok n ≡ measured refusal t → length buffer < n
+    → refused_form TooShort buffer ≡ form_for refusal t buffer
+unfolding form_for form_over_front
+form-short refusal t buffer e h =
+    let f = written-fits refusal t e in
+    rw (f.good, lt-leb (length t) (length buffer) (omega (arith, f.length)))
 
-    pub form-refused : answer.Refused n ≡ measured refusal t → refused_form n buffer ≡ form_for refusal t buffer
-    unfolding measured form_for
-    form-refused e = go (eqb refusal 0) e
-      where
-        go : (b : Bool) → answer.Refused n ≡ cond b (answer.Written (length t)) (answer.Refused refusal)
-            → refused_form n buffer ≡ cond b (form_over_front t buffer) (refused_form refusal buffer)
-        go true e = let z : ◌≡◌ {A = ℕ} 1 0 = cc in absurd (omega arith)
-        go false e = let z : n ≡ refusal = cc in rw z
+pub form-refused : (refusal : Option Refusal) (t buffer : List ℕ) {why : Refusal} → Err why ≡ measured refusal t → refused_form why buffer ≡ form_for refusal t buffer
+unfolding measured form_for
+form-refused None t buffer e = cc
+form-refused (Some refusal) t buffer {why} e = let z : why ≡ refusal = cc in rw z
 
-    -- a second walk writes the text whole
-    pub form-written : answer.Written n ≡ measured refusal t → n ≤ length buffer → {r : NormalAnswer} {now : List ℕ} → Tried refusal t buffer r now
-        → (r ≡ (form_for refusal t buffer).answer) × (now ≡ (form_for refusal t buffer).buffer)
-    unfolding form_for form_over_front
-    form-written e h w =
-        let f = written-fits e in
-        let room : length t ≤ length buffer = omega (arith, f.length) in
-        rw (f.good, le-leb (length t) (length buffer) room) (w.is ∙ sym e ∙ ap answer.Written f.length, w.text f.good ∙ clipped-laid t buffer room)
+-- a second walk writes the text whole
+pub form-written : (refusal : Option Refusal) (t buffer : List ℕ) {n : ℕ} → Ok n ≡ measured refusal t → n ≤ length buffer
+    → {r : Result ℕ Refusal} {now : List ℕ} → Tried refusal t buffer r now
+    → (r ≡ (form_for refusal t buffer).answer) × (now ≡ (form_for refusal t buffer).buffer)
+unfolding form_for form_over_front
+form-written refusal t buffer e h w =
+    let f = written-fits refusal t e in
+    let room : length t ≤ length buffer = omega (arith, f.length) in
+    rw (f.good, le-leb (length t) (length buffer) room) (w.is ∙ sym e ∙ ap Ok f.length, w.text f.good ∙ clipped-laid t buffer room)
 
 -- ---- a text in parts, written as far as it fits
 
@@ -120,8 +119,8 @@ module _ {items left : List Item} {before : List ℕ} {at : ℕ} {now : List ℕ
       }
 
   -- what is answered where nothing else refuses it
-  pub judged-ends : left ≡ [] → {refusal : ℕ} → refusal ≡ cond (fits items) 0 21
-      → Tried refusal (normal_text items) before (cond (short && leb at max_table) (answer.Written at) (answer.Refused 21)) now
+  pub judged-ends : left ≡ [] → {refusal : Option Refusal} → refusal ≡ cond (fits items) None (Some TooLong)
+      → Tried refusal (normal_text items) before (cond (short && leb at max_table) (Ok at) (Err TooLong)) now
   unfolding measured fits are_short normal_text
   judged-ends e r =
       let none : normal_text left ≡ [] = ap normal_text e in
@@ -138,73 +137,79 @@ module _ {items left : List Item} {before : List ℕ} {at : ℕ} {now : List ℕ
         text = λ z. whole.bytes;
       }
     where
-      lines : (a : Bool) → let number : ℕ = cond a 0 21 in
-          cond a (answer.Written (length (normal_text items))) (answer.Refused 21) ≡ cond (eqb number 0) (answer.Written (length (normal_text items))) (answer.Refused number)
+      lines : (a : Bool) → cond a (Ok (length (normal_text items))) (Err TooLong) ≡ measured (cond a None (Some TooLong)) (normal_text items)
       lines true = refl
       lines false = refl
 
       go : (b : Bool) → leb (length (normal_text items)) max_table ≡ b
           → (length (normal_text items) ≤ max_table → (at ≡ length (normal_text items)) × ((short && true) ≡ are_short items))
-          → let number : ℕ = cond (are_short items && b) 0 21 in
-          cond (short && b) (answer.Written at) (answer.Refused 21) ≡ cond (eqb number 0) (answer.Written (length (normal_text items))) (answer.Refused number)
+          → cond (short && b) (Ok at) (Err TooLong) ≡ measured (cond (are_short items && b) None (Some TooLong)) (normal_text items)
       go true e f =
           let x = f (leb-true _ max_table e) in
           rw (x.1, x.0, and-true (are_short items)) (lines (are_short items))
       go false e f = rw (and-false short, and-false (are_short items))
 
--- what is refused, by another number
-pub refused-measured : {refusal n : ℕ} (t : List ℕ) → n ≡ refusal → (n ≡ 0 → ⊥) → answer.Refused n ≡ measured refusal t
+pub refused-measured : {refusal : Option Refusal} {why : Refusal} (t : List ℕ) → Some why ≡ refusal → Err why ≡ measured refusal t
 unfolding measured
-refused-measured {refusal} {n} t e some = rw (← e, ne_eqb n 0 some)
+refused-measured t e = rw (← e)
 
 -- two texts that are refused alike
-pub resized : (refusal : ℕ) (t u : List ℕ) {n : ℕ} → answer.Written n ≡ measured refusal t → answer.Written (length u) ≡ measured refusal u
+pub resized : (refusal : Option Refusal) (t u : List ℕ) {n : ℕ} → Ok n ≡ measured refusal t → Ok (length u) ≡ measured refusal u
 unfolding measured
 resized refusal t u e = rw (written-fits refusal t e).good
 
-pub refused-alike : (refusal : ℕ) (t u : List ℕ) {n : ℕ} → answer.Refused n ≡ measured refusal t → answer.Refused n ≡ measured refusal u
+pub refused-alike : (refusal : Option Refusal) (t u : List ℕ) {why : Refusal} → Err why ≡ measured refusal t → Err why ≡ measured refusal u
 unfolding measured
-refused-alike refusal t u {n} e = go (eqb refusal 0) e
-  where
-    go : (b : Bool) → answer.Refused n ≡ cond b (answer.Written (length t)) (answer.Refused refusal) → answer.Refused n ≡ cond b (answer.Written (length u)) (answer.Refused refusal)
-    go true e = let z : ◌≡◌ {A = ℕ} 1 0 = cc in absurd (omega arith)
-    go false e = e
+refused-alike None t u e = cc
+refused-alike (Some refusal) t u e = e
 
-pub refused-tried : {refusal n : ℕ} {t before now : List ℕ} → n ≡ refusal → (n ≡ 0 → ⊥) → length now ≡ length before → Tried refusal t before (answer.Refused n) now
-refused-tried e some same = record { is = refused-measured _ e some; size = same; text = λ h. absurd (some (e ∙ h)) }
+pub refused-tried : {refusal : Option Refusal} {why : Refusal} {t before now : List ℕ} → Some why ≡ refusal → length now ≡ length before → Tried refusal t before (Err why) now
+refused-tried {why = why} e same = record { is = refused-measured _ e; size = same; text = λ h. let z : Some why ≡ None = e ∙ h in cc }
 
 -- ---- a table's normal text
 
--- 21 after what refuses the table
-pub by-refusals : (refusal : ℕ) (fit : Bool) (t buffer : List ℕ)
-    → cond (eqb refusal 0) (cond fit (form_over_front t buffer) (refused_form 21 buffer)) (refused_form refusal buffer) ≡ form_for (cond (eqb refusal 0) (cond fit 0 21) refusal) t buffer
-unfolding form_for
-by-refusals refusal fit t buffer = go (eqb refusal 0) fit refl
-  where
-    go : (a b : Bool) → eqb refusal 0 ≡ a
-        → let number : ℕ = cond a (cond b 0 21) refusal in
-        cond a (cond b (form_over_front t buffer) (refused_form 21 buffer)) (refused_form refusal buffer) ≡ cond (eqb number 0) (form_over_front t buffer) (refused_form number buffer)
-    go true true e = refl
-    go true false e = refl
-    go false b e = rw e
+-- R21 after what refuses the table
+pub by-refusals : {A : Type 0} (table : Result A TableFault) (fit : Bool) (t buffer : List ℕ)
+    → unless_refused table (cond fit (form_over_front t buffer) (refused_form TooLong buffer)) buffer ≡ form_for (refusal_by table fit) t buffer
+unfolding unless_refused form_for refusal_by
+by-refusals (Ok x) true t buffer = refl
+by-refusals (Ok x) false t buffer = refl
+by-refusals (Err f) fit t buffer = refl
 
 pub normal-form-is : (d : Dialect) (s buffer : List ℕ) → normal_form d s buffer ≡ form_for (text_refusal d s) (normal_text (meaning_of d s)) buffer
 unfolding normal_form form_of text_refusal
-normal-form-is d s buffer = by-refusals (table_of (of_user d) s).refusal (fits (meaning_of d s)) (normal_text (meaning_of d s)) buffer
+normal-form-is d s buffer = by-refusals (table_of (of_user d) s) (fits (meaning_of d s)) (normal_text (meaning_of d s)) buffer
 
-pub text-refused : (d : Dialect) (s : List ℕ) (n : ℕ) → n ≡ (table_of (of_user d) s).refusal → (n ≡ 0 → ⊥) → n ≡ text_refusal d s
-unfolding text_refusal
-text-refused d s n e some = rw (← e, ne_eqb n 0 some)
+-- a good table isn't refused
+pub unless-good : {A : Type 0} (table : Result A TableFault) (form : NormalForm) (buffer : List ℕ) → refusal_in table ≡ 0 → unless_refused table form buffer ≡ form
+unfolding unless_refused
+unless-good (Ok x) form buffer good = refl
+unless-good (Err f) form buffer good = absurd (omega (arith, good, number-small f.refusal))
 
-pub text-good : (d : Dialect) (s : List ℕ) → (table_of (of_user d) s).refusal ≡ 0 → text_refusal d s ≡ cond (fits (meaning_of d s)) 0 21
+refused-by : {A : Type 0} (table : Result A TableFault) (fit : Bool) (why : Refusal) → number_of why ≡ refusal_in table → Some why ≡ refusal_by table fit
+unfolding refusal_by
+refused-by (Ok x) fit why e = absurd (omega (arith, e, number-small why))
+refused-by (Err f) fit why e = ap Some (numbers-differ why f.refusal e)
+
+pub text-refused : (d : Dialect) (s : List ℕ) (why : Refusal) → number_of why ≡ refusal_in (table_of (of_user d) s) → Some why ≡ text_refusal d s
 unfolding text_refusal
-text-good d s good = rw good
+text-refused d s why e = refused-by (table_of (of_user d) s) (fits (meaning_of d s)) why e
+
+good-by : {A : Type 0} (table : Result A TableFault) (fit : Bool) → refusal_in table ≡ 0 → refusal_by table fit ≡ cond fit None (Some TooLong)
+unfolding refusal_by
+good-by (Ok x) fit good = refl
+good-by (Err f) fit good = absurd (omega (arith, good, number-small f.refusal))
+
+pub text-good : (d : Dialect) (s : List ℕ) → refusal_in (table_of (of_user d) s) ≡ 0 → text_refusal d s ≡ cond (fits (meaning_of d s)) None (Some TooLong)
+unfolding text_refusal
+text-good d s good = good-by (table_of (of_user d) s) (fits (meaning_of d s)) good
 
 -- what nothing refuses is a good table's
-pub text-passed : (d : Dialect) (s : List ℕ) → text_refusal d s ≡ 0 → (table_of (of_user d) s).refusal ≡ 0
+passed-by : {A : Type 0} (table : Result A TableFault) (fit : Bool) → refusal_by table fit ≡ None → refusal_in table ≡ 0
+unfolding refusal_by
+passed-by (Ok x) fit e = refl
+passed-by (Err f) fit e = cc
+
+pub text-passed : (d : Dialect) (s : List ℕ) → text_refusal d s ≡ None → refusal_in (table_of (of_user d) s) ≡ 0
 unfolding text_refusal
-text-passed d s e = go (eqb (table_of (of_user d) s).refusal 0) refl e
-  where
-    go : (b : Bool) → eqb (table_of (of_user d) s).refusal 0 ≡ b → cond b (cond (fits (meaning_of d s)) 0 21) (table_of (of_user d) s).refusal ≡ 0 → (table_of (of_user d) s).refusal ≡ 0
-    go true p e = eqb-true (table_of (of_user d) s).refusal 0 p
-    go false p e = e
+text-passed d s e = passed-by (table_of (of_user d) s) (fits (meaning_of d s)) e

@@ -1,5 +1,6 @@
 -- What each kind of line gives, and how a name and a value are written, by their bytes alone.
 -- Assumes nothing.
+use Rattle.std.specs.Prelude.{Ok, Err}
 use mathlib.Core.Path.{◌≡◌, refl, sym, ap, ◌∙◌}
 use mathlib.Core.Bool.{Bool, true, false, cond, not, ◌&&◌, ◌||◌, and-false, and-eq-true_iff, or-true, true≢false}
 use mathlib.Core.List.{List, [], ◌∷◌, ◌++◌}
@@ -27,19 +28,19 @@ use Rattle.normal.specs.Texts.{quoted, starts_other, is_bare_name, is_bare_value
 -- ---- a line
 
 module _ (d : Dialect) (s : List ℕ) where
-  pub setting-items : {name value : _} {zone : _} → content_of (of_user d) s ≡ line.Setting name value zone → line_items d s ≡ setting (part_bytes s name) (part_bytes s value) ∷ []
+  pub setting-items : {name value : _} {zone : _} → content_of (of_user d) s ≡ Ok (line.Setting name value zone) → line_items d s ≡ setting (part_bytes s name) (part_bytes s value) ∷ []
   unfolding line_items item_in
   setting-items e = rw e refl
 
-  pub entry-items : {when : _} {start : ℕ} → content_of (of_user d) s ≡ line.Entry when start → line_items d s ≡ entry_item when (between s start (length s)) ∷ []
+  pub entry-items : {when : _} {start : ℕ} → content_of (of_user d) s ≡ Ok (line.Entry when start) → line_items d s ≡ entry_item when (between s start (length s)) ∷ []
   unfolding line_items item_in
   entry-items e = rw e refl
 
-  pub ignored-items : content_of (of_user d) s ≡ line.Ignored → line_items d s ≡ []
+  pub ignored-items : content_of (of_user d) s ≡ Ok line.Ignored → line_items d s ≡ []
   unfolding line_items item_in
   ignored-items e = rw e refl
 
-  pub refused-items : {f : _} → content_of (of_user d) s ≡ line.Refused f → line_items d s ≡ []
+  pub refused-items : {f : _} → content_of (of_user d) s ≡ Err f → line_items d s ≡ []
   unfolding line_items item_in
   refused-items e = rw e refl
 

@@ -1,5 +1,6 @@
 -- Laws of a line: the item that it means is a proper one, and a proper item is read back from its text, which has no newline and no byte 0.
 -- Assumes nothing.
+use Rattle.std.specs.Prelude.{Ok, Err, Result}
 use mathlib.Core.Path.{◌≡◌, refl, ap, ◌∙◌}
 use mathlib.Core.Bool.{Bool, true, false, cond, ◌||◌, true≢false, and-eq-true_iff, ◌&&◌}
 use mathlib.Core.List.{List, [], ◌∷◌, ◌++◌}
@@ -32,6 +33,7 @@ use Rattle.normal.proofs.Settings.{name-proper, value-proper}
 use Rattle.normal.proofs.SettingTexts.{name-parts, name-starts, setting-back}
 use Rattle.normal.proofs.Entries.{command-proper, entry-items}
 use Rattle.normal.proofs.EntryTexts.{field-clean, command-parts, boot-back, timed-starts, timed-back}
+use Rattle.field.specs.declared.Fault.{Fault}
 
 -- ---- what is read is proper
 
@@ -39,14 +41,14 @@ pub line-proper : (d : Dialect) (s : List ℕ) → are_of InLine s ≡ true → 
 unfolding line_items item_in are_items is_item starts_other
 line-proper d s clean = go (content_of (of_user d) s) (content-view (of_user d) s)
   where
-    go : (x : Line) → ContentView (of_user d) s x → are_items (item_in s x) ≡ true
-    go line.Ignored w = refl
-    go (line.Refused f) w = refl
-    go (line.Setting name value zone) w =
+    go : (x : Result Line Fault) → ContentView (of_user d) s x → are_items (item_in s x) ≡ true
+    go (Ok line.Ignored) w = refl
+    go (Err f) w = refl
+    go (Ok (line.Setting name value _)) w =
         let n = name-proper s clean (content_start s) (rw (w.own.0, w.own.1)) w.named in
         let v = value-proper s clean (skipped Blank s w.before) (blank-end s w.before) w.valued in
         rw (n, v, w.allowed)
-    go (line.Entry when start) w =
+    go (Ok (line.Entry when start)) w =
         let t = rw w.time at (time-view d s (content_start s)) in
         entry-items when (between s start (length s)) t.sets (command-proper s clean start w.some (rw w.command t.solid))
 
@@ -63,7 +65,7 @@ setting-first : (d : Dialect) (s : List ℕ) (b : ℕ) → starts_other b ≡ fa
 unfolding content_from starts_other
 setting-first d s b e = go (eqb b 35) (starts_entry b) e
   where
-    go : (t u : Bool) → (t || u) ≡ false → cond t line.Ignored (cond u (entry_at (of_user d) s 0) (setting_at s 0)) ≡ setting_at s 0
+    go : (t u : Bool) → (t || u) ≡ false → cond t (Ok line.Ignored) (cond u (entry_at (of_user d) s 0) (setting_at s 0)) ≡ setting_at s 0
     go false false e = refl
     go true u e = absurd (true≢false e)
     go false true e = absurd (true≢false e)

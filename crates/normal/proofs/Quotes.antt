@@ -1,5 +1,7 @@
 -- Quotes stand only where a bare reading would differ: a name or a value that is read as itself when it stands bare is written bare.
 -- Assumes nothing.
+use Rattle.refusal.specs.declared.Refusal.TheVariants.{NoCommand, BadSetting}
+use Rattle.std.specs.Prelude.{Some, None, Option, Ok, Err, Result}
 use mathlib.Core.Path.{◌≡◌, refl, sym, ap, ◌∙◌}
 use mathlib.Core.Bool.{Bool, true, false, cond, not, true≢false}
 use mathlib.Core.Logic.{◌⊎◌, inl, inr}
@@ -22,17 +24,12 @@ use Rattle.line.specs.declared.Part.{Part}
 use Rattle.line.specs.declared.time.When.{When}
 use Rattle.line.specs.declared.time.When.TheVariants.{Reboot, Timed}
 use Rattle.line.specs.declared.time.Time.{Time}
-use Rattle.line.specs.declared.time.Time.TheVariants as time
 use Rattle.line.specs.declared.assignment.Text.{Text}
-use Rattle.line.specs.declared.assignment.Text.TheVariants.{Found, Malformed}
 use Rattle.line.specs.declared.Line.{Line}
 use Rattle.line.specs.declared.Line.TheVariants as line
-use Rattle.line.specs.Assignments.{quoted_at, non_empty, name_at, closed, value_at, after_equals, after_name, setting_at, after_offset, with_offset, zoned, part_bytes}
+use Rattle.line.specs.Assignments.{found, quoted_at, non_empty, name_at, closed, value_at, after_equals, after_name, setting_at, after_offset, with_offset, zoned, part_bytes}
 use Rattle.line.specs.Words.{same}
 use Rattle.line.specs.Offsets.{zone_name, is_offset, offset_of, read_offset}
-use Rattle.line.specs.declared.offset.Zone.TheVariants.{Same}
-use Rattle.line.specs.declared.offset.OffsetAnswer.TheVariants as offset
-use Rattle.line.specs.declared.offset.OffsetAnswer.TheVariants.{Minutes}
 use Rattle.line.specs.Entries.{time_at, with_command, after_time, entry_at}
 use Rattle.line.specs.Lines.{starts_entry, content_from, content_of}
 use Rattle.normal.specs.Meanings.{Item, setting, of_user, entry_item, item_in, line_items}
@@ -40,40 +37,41 @@ use Rattle.normal.specs.Texts.{starts_other, is_bare_name, is_bare_value, name_t
 use Rattle.normal.specs.Proper.{is_name}
 use Rattle.normal.proofs.Settings.{bare-name}
 use Rattle.normal.proofs.SettingTexts.{name-starts, NameBack, name_back, equals-blank}
+use Rattle.field.specs.declared.Fault.{Fault}
 
 -- ---- what a line that means a setting says
 
 -- it is that setting
-abbrev Means : List ℕ → List ℕ → List ℕ → Line → Type 0
-Means s n v line.Ignored = ⊥
-Means s n v (line.Setting name value zone) = (part_bytes s name ≡ n) × (part_bytes s value ≡ v)
-Means s n v (line.Entry when start) = ⊥
-Means s n v (line.Refused f) = ⊥
+abbrev Means : List ℕ → List ℕ → List ℕ → Result Line Fault → Type 0
+Means s n v (Ok line.Ignored) = ⊥
+Means s n v (Ok (line.Setting name value _)) = (part_bytes s name ≡ n) × (part_bytes s value ≡ v)
+Means s n v (Ok (line.Entry when start)) = ⊥
+Means s n v (Err f) = ⊥
 
 no-entry : (when : When) (c n v : List ℕ) (is : List Item) → entry_item when c ∷ is ≡ setting n v ∷ is → ⊥
 unfolding entry_item
 no-entry Reboot c n v is e = let z : ◌≡◌ {A = ℕ} 0 1 = cc in omega arith
 no-entry (Timed x) c n v is e = let z : ◌≡◌ {A = ℕ} 0 1 = cc in omega arith
 
-means : (s n v : List ℕ) (x : Line) → item_in s x ≡ setting n v ∷ [] → Means s n v x
+means : (s n v : List ℕ) (x : Result Line Fault) → item_in s x ≡ setting n v ∷ [] → Means s n v x
 unfolding item_in
-means s n v line.Ignored e = omega (arith, ap length e)
-means s n v (line.Setting name value zone) e = (cc, cc)
-means s n v (line.Entry when start) e = no-entry when _ n v [] e
-means s n v (line.Refused f) e = omega (arith, ap length e)
+means s n v (Ok line.Ignored) e = omega (arith, ap length e)
+means s n v (Ok (line.Setting name value _)) e = (cc, cc)
+means s n v (Ok (line.Entry when start)) e = no-entry when _ n v [] e
+means s n v (Err f) e = omega (arith, ap length e)
 
 -- no entry does
 entry-means : (d : Dialect) (s n v : List ℕ) (at : ℕ) → Means s n v (entry_at (of_user d) s at) → ⊥
 unfolding entry_at after_time with_command
 entry-means d s n v at = go (time_at d s at)
   where
-    command : (b : Bool) (when : When) (next : ℕ) → Means s n v (cond b (line.Entry when next) (line.Refused (record { number = 9; column = length s + 1 }))) → ⊥
+    command : (b : Bool) (when : When) (next : ℕ) → Means s n v (cond b (Ok (line.Entry when next)) (Err (record { refusal = NoCommand; column = length s + 1 }))) → ⊥
     command true when next h = h
     command false when next h = h
 
-    go : (t : Time) → Means s n v (after_time (of_user d) s t) → ⊥
-    go (time.Refused f) h = h
-    go (time.Read when next) h = command (ltb next (length s)) when next h
+    go : (t : Result Time Fault) → Means s n v (after_time (of_user d) s t) → ⊥
+    go (Err f) h = h
+    go (Ok t) h = command (ltb t.next (length s)) t.when t.next h
 
 record Setting (s n v : List ℕ) (at : ℕ) : Type 0 where
   own : starts_other (get_or s at 0) ≡ false
@@ -87,7 +85,7 @@ line-setting d s n v e = go (leb (length s) (skipped Blank s 0)) (eqb (get_or s 
     at = skipped Blank s 0
 
     go : (a b c : Bool) → eqb (get_or s at 0) 35 ≡ b → starts_entry (get_or s at 0) ≡ c
-        → Means s n v (cond a line.Ignored (cond b line.Ignored (cond c (entry_at (of_user d) s at) (setting_at s at)))) → Setting s n v at
+        → Means s n v (cond a (Ok line.Ignored) (cond b (Ok line.Ignored) (cond c (entry_at (of_user d) s at) (setting_at s at)))) → Setting s n v at
     go true b c p q h = absurd h
     go false true c p q h = absurd h
     go false false true p q h = absurd (entry-means d s n v at h)
@@ -99,7 +97,7 @@ unfolding zoned with_offset read_offset after_offset
 zoned-says s n v at name value = go (same (part_bytes s name) zone_name) (is_offset (part_bytes s value))
   where
     go : (a b : Bool)
-        → Means s n v (cond a (after_offset at name value (cond b (Minutes (offset_of (part_bytes s value))) offset.Malformed)) (line.Setting name value Same))
+        → Means s n v (cond a (after_offset at name value (cond b (Some (offset_of (part_bytes s value))) None)) (Ok (line.Setting name value None)))
         → (part_bytes s name ≡ n) × (part_bytes s value ≡ v)
     go true true h = h
     go true false h = absurd h
@@ -107,32 +105,32 @@ zoned-says s n v at name value = go (same (part_bytes s name) zone_name) (is_off
 
 -- ---- a name
 
-abbrev Named : List ℕ → List ℕ → Text → Type 0
-Named s n Malformed = ⊥
-Named s n (Found part next) = part_bytes s part ≡ n
+abbrev Named : List ℕ → List ℕ → Option Text → Type 0
+Named s n None = ⊥
+Named s n (Some w) = part_bytes s w.part ≡ n
 
 module _ (s n v : List ℕ) (at : ℕ) where
-  equals-says : (start : ℕ) (name : Part) (t : Text) → Means s n v (after_equals s at start name t) → part_bytes s name ≡ n
+  equals-says : (start : ℕ) (name : Part) (t : Option Text) → Means s n v (after_equals s at start name t) → part_bytes s name ≡ n
   unfolding after_equals
-  equals-says start name Malformed h = absurd h
-  equals-says start name (Found value next) h = (zoned-says s n v start name value h).0
+  equals-says start name None h = absurd h
+  equals-says start name (Some w) h = (zoned-says s n v start name w.part h).0
 
-  name-says : (t : Text) → Means s n v (after_name s at t) → Named s n t
+  name-says : (t : Option Text) → Means s n v (after_name s at t) → Named s n t
   unfolding after_name
-  name-says Malformed h = h
-  name-says (Found name next) h = go (eqb (get_or s (skipped Blank s next) 0) 61) h
+  name-says None h = h
+  name-says (Some w) h = go (eqb (get_or s (skipped Blank s w.next) 0) 61) h
     where
       go : (b : Bool)
-          → Means s n v (cond b (after_equals s at (skipped Blank s (skipped Blank s next + 1)) name (value_at s (skipped Blank s (skipped Blank s next + 1)))) (line.Refused (record { number = 11; column = at + 1 })))
-          → part_bytes s name ≡ n
-      go true h = equals-says _ name _ h
+          → Means s n v (cond b (after_equals s at (skipped Blank s (skipped Blank s w.next + 1)) w.part (value_at s (skipped Blank s (skipped Blank s w.next + 1)))) (Err (record { refusal = BadSetting; column = at + 1 })))
+          → part_bytes s w.part ≡ n
+      go true h = equals-says _ w.part _ h
       go false h = absurd h
 
-  found-named : (part : Part) (next : ℕ) → Named s n (non_empty (Found part next)) → (part.start < part.end) × (part_bytes s part ≡ n)
+  found-named : (part : Part) (next : ℕ) → Named s n (non_empty (found part next)) → (part.start < part.end) × (part_bytes s part ≡ n)
   unfolding non_empty
   found-named part next h = go (ltb part.start part.end) refl h
     where
-      go : (b : Bool) → ltb part.start part.end ≡ b → Named s n (cond b (Found part next) Malformed) → (part.start < part.end) × (part_bytes s part ≡ n)
+      go : (b : Bool) → ltb part.start part.end ≡ b → Named s n (cond b (found part next) None) → (part.start < part.end) × (part_bytes s part ≡ n)
       go true e h = (ltb-true part.start part.end e, h)
       go false e h = absurd h
 
@@ -149,7 +147,7 @@ module _ (s n v : List ℕ) (at : ℕ) where
       end = skipped (Not q) s (at + 1)
 
       go : (a b : Bool) → is_quote q ≡ a
-          → Named s n (non_empty (cond a (cond b (Found (record { start = at + 1; end = end }) (end + 1)) Malformed) (Found (record { start = at; end = skipped Name s at }) (skipped Name s at))))
+          → Named s n (non_empty (cond a (cond b (found (record { start = at + 1; end = end }) (end + 1)) None) (found (record { start = at; end = skipped Name s at }) (skipped Name s at))))
           → (is_bare_name n ≡ true) ⊎ ((is_quote q ≡ true) × (are_of (Not q) n ≡ true))
       go true true e h =
           let f = found-named (record { start = at + 1; end = end }) (end + 1) h in
@@ -214,12 +212,12 @@ name-bare d n v rest e =
 -- ---- a value
 
 module _ (s v : List ℕ) where
-  closed-named : (t : Text) → Named s v (closed s t) → Named s v t
+  closed-named : (t : Option Text) → Named s v (closed s t) → Named s v t
   unfolding closed
-  closed-named Malformed h = h
-  closed-named (Found part next) h = go (leb (length s) (skipped Blank s next)) h
+  closed-named None h = h
+  closed-named (Some w) h = go (leb (length s) (skipped Blank s w.next)) h
     where
-      go : (b : Bool) → Named s v (cond b (Found part next) Malformed) → part_bytes s part ≡ v
+      go : (b : Bool) → Named s v (cond b (found w.part w.next) None) → part_bytes s w.part ≡ v
       go true h = h
       go false h = absurd h
 
@@ -230,7 +228,7 @@ module _ (s v : List ℕ) where
       end : ℕ
       end = skipped (Not (get_or s at 0)) s (at + 1)
 
-      go : (b : Bool) → Named s v (cond b (Found (record { start = at + 1; end = end }) (end + 1)) Malformed) → length v ≤ length s - (at + 1)
+      go : (b : Bool) → Named s v (cond b (found (record { start = at + 1; end = end }) (end + 1)) None) → length v ≤ length s - (at + 1)
       go true h = omega (arith, (between-length s (at + 1) end).0, ap length h)
       go false h = absurd h
 
@@ -249,7 +247,7 @@ module _ (s v : List ℕ) where
       size : length s ≡ from + length v
       size = omega (arith, length-drop from s, ap length here)
 
-      go : (b : Bool) → is_quote (get_or s at 0) ≡ b → Named s v (cond b (closed s (quoted_at s at)) (Found (record { start = at; end = end }) (length s)))
+      go : (b : Bool) → is_quote (get_or s at 0) ≡ b → Named s v (cond b (closed s (quoted_at s at)) (found (record { start = at; end = end }) (length s)))
           → (skipped Blank s from ≡ from) × (is_quote (get_or s from 0) ≡ false) × (trimmed v ≡ length v)
       go true e h = absurd (let l = quoted-length at (closed-named (quoted_at s at) h) in omega (arith, size, skipped-from Blank s from))
       go false e h =
@@ -276,10 +274,10 @@ value-alone s (b ∷ w) from inside here h =
     bare-made (b ∷ w) (solid-first b w none) (rw (byte-here st) at r.1) r.2
 
 module _ (s n v : List ℕ) where
-  value-says : (at start : ℕ) (name : Part) (t : Text) → Means s n v (after_equals s at start name t) → Named s v t
+  value-says : (at start : ℕ) (name : Part) (t : Option Text) → Means s n v (after_equals s at start name t) → Named s v t
   unfolding after_equals
-  value-says at start name Malformed h = h
-  value-says at start name (Found value next) h = (zoned-says s n v start name value h).1
+  value-says at start name None h = h
+  value-says at start name (Some w) h = (zoned-says s n v start name w.part h).1
 
   behind-equals : NameBack s 0 n v → Means s n v (setting_at s 0) → is_bare_value v ≡ true
   unfolding setting_at after_name

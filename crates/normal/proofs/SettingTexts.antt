@@ -1,5 +1,6 @@
 -- Settings that are written: a proper name and a proper value are read back from their texts.
 -- Assumes nothing.
+use Rattle.std.specs.Prelude.{Some, None, Option, Ok}
 use mathlib.Core.Path.{◌≡◌, refl, sym, ap, ◌∙◌}
 use mathlib.Core.Bool.{Bool, true, false, cond, not, ◌&&◌, ◌||◌, true≢false, and-eq-true_iff}
 use mathlib.Core.List.{List, [], ◌∷◌, ◌++◌, append_assoc, append-nil}
@@ -16,14 +17,10 @@ use Rattle.octets.proofs.Runs.{skipped-from}
 use Rattle.octets.proofs.Places.{solid-run, not-skipped, Stands, drop_past, between-here, skipped-here, byte-here, within-here}
 use Rattle.line.specs.declared.Part.{Part}
 use Rattle.line.specs.declared.assignment.Text.{Text}
-use Rattle.line.specs.declared.assignment.Text.TheVariants.{Found}
 use Rattle.line.specs.declared.Line.TheVariants as line
-use Rattle.line.specs.Assignments.{quoted_at, non_empty, name_at, closed, value_at, after_equals, after_name, setting_at, after_offset, with_offset, zoned, part_bytes}
+use Rattle.line.specs.Assignments.{found, quoted_at, non_empty, name_at, closed, value_at, after_equals, after_name, setting_at, after_offset, with_offset, zoned, part_bytes}
 use Rattle.line.specs.Words.{same}
 use Rattle.line.specs.Offsets.{zone_name, is_offset, offset_of, read_offset, is_allowed_setting}
-use Rattle.line.specs.declared.offset.Zone.TheVariants.{Same}
-use Rattle.line.specs.declared.offset.OffsetAnswer.TheVariants as offset
-use Rattle.line.specs.declared.offset.OffsetAnswer.TheVariants.{Minutes}
 use Rattle.field.specs.Numbers.{is_digit}
 use Rattle.line.specs.Lines.{starts_entry}
 use Rattle.normal.specs.Meanings.{setting, item_in}
@@ -51,7 +48,7 @@ choose s e = go (are_of (Not 34) s) refl e
 -- a text in quotes that stands at a place, and then the rest
 record QuotedBack (s : List ℕ) (at : ℕ) (t rest : List ℕ) : Type 0 where
   first : is_quote (get_or s at 0) ≡ true
-  is : quoted_at s at ≡ Found (record { start = at + 1; end = at + 1 + length t }) (at + 1 + length t + 1)
+  is : quoted_at s at ≡ found (record { start = at + 1; end = at + 1 + length t }) (at + 1 + length t + 1)
   shown : between s (at + 1) (at + 1 + length t) ≡ t
   behind : drop (at + 1 + length t + 1) s ≡ rest
 
@@ -129,10 +126,10 @@ name-starts n e = go n (is_bare_name n) refl (name-parts n e)
 -- ---- a name that stands at a place, before `=`
 
 -- a text that is found, with its bytes
-pub record Shows (s : List ℕ) (t : Text) (bytes : List ℕ) : Type 0 where
+pub record Shows (s : List ℕ) (t : Option Text) (bytes : List ℕ) : Type 0 where
   pub part : Part
   pub next : ℕ
-  pub is : t ≡ Found part next
+  pub is : t ≡ found part next
   pub shown : part_bytes s part ≡ bytes
 
 -- and what comes behind it
@@ -144,7 +141,7 @@ name-ends : (rest : List ℕ) → run Name (61 ∷ rest) ≡ 0
 unfolding run of_class is_blank is_quote
 name-ends rest = refl
 
-non-empty : (start end next : ℕ) → start < end → non_empty (Found (record { start = start; end = end }) next) ≡ Found (record { start = start; end = end }) next
+non-empty : (start end next : ℕ) → start < end → non_empty (found (record { start = start; end = end }) next) ≡ found (record { start = start; end = end }) next
 unfolding non_empty
 non-empty start end next h = rw (lt-ltb start end h)
 
@@ -268,7 +265,7 @@ unfolding zoned with_offset read_offset after_offset item_in is_allowed_setting
 zoned-back s n v at name value e f z = rw (e, f) (go (same n zone_name) (is_offset v) z)
   where
     go : (a b : Bool) → cond a b true ≡ true
-        → item_in s (cond a (after_offset at name value (cond b (Minutes (offset_of v)) offset.Malformed)) (line.Setting name value Same)) ≡ setting n v ∷ []
+        → item_in s (cond a (after_offset at name value (cond b (Some (offset_of v)) None)) (Ok (line.Setting name value None))) ≡ setting n v ∷ []
     go true true z = rw (e, f)
     go true false z = absurd (true≢false (sym z))
     go false b z = rw (e, f)

@@ -6,23 +6,26 @@ use mathlib.Core.Bool.{◌&&◌}
 use mathlib.Core.List.{List, ◌++◌}
 use Prim.Native.Nat.{ℕ, ◌+◌}
 use lib.ListN.{length}
+use native.Mathlib.Omega.{arith}
 use lib.Dec.{leb}
+use Rattle.std.specs.Prelude.{Result}
+use Rattle.refusal.specs.Numbers.{number_of}
+use Rattle.refusal.proofs.Numbers.{number-small}
 use Rattle.field.specs.declared.Dialect.{Dialect}
-use Rattle.line.specs.declared.Fault.{Fault}
+use Rattle.field.specs.declared.Fault.{Fault}
 use Rattle.line.specs.Limits.{max_line}
 use Rattle.crontab.specs.declared.item.Cursor.{Cursor}
 use Rattle.crontab.specs.declared.item.Item as line
-use Rattle.crontab.specs.declared.item.Item.TheVariants.{Refused}
 use Rattle.crontab.specs.declared.item.Step.{Step}
-use Rattle.crontab.specs.declared.table.Verdict.{Verdict}
-use Rattle.crontab.specs.Inner.{items_at, given, StepIs}
-use Rattle.crontab.specs.Tables.{table_of}
+use Rattle.crontab.specs.Inner.{items_at, given, StepIs, StepFault}
+use Rattle.crontab.specs.Tables.{table_of, refusal_in}
 use Rattle.crontab.proofs.Sound.{SoundItems}
 use Rattle.crontab.proofs.Tables.{verdict_from}
 use Rattle.normal.specs.Meanings.{Item, of_user}
 use Rattle.normal.specs.Texts.{are_short}
 use Rattle.normal.specs.Inner.{Within, line_text}
-use Rattle.normal.proofs.Walks.{Kept, not-refused, given-within, given-some, given-sound, given-verdict, given-short, Going, InParts, items_left}
+use Rattle.normal.proofs.Walks.{given-within, given-sound, given-verdict, given-short, Going, InParts, items_left}
+use Rattle.crontab.specs.declared.table.TableFault.{TableFault}
 
 module _ {d : Dialect} {s : List ℕ} {c : Cursor} {r : Step} (step : StepIs (of_user d) s c r) (going : Going d s c) where
   here : SoundItems (of_user d) s going.line c.count (given c.line r.item (items_at (of_user d) s r.next))
@@ -31,37 +34,35 @@ module _ {d : Dialect} {s : List ℕ} {c : Cursor} {r : Step} (step : StepIs (of
   pub going-within : Within s r.item
   going-within = given-within (of_user d) s c.line going.line c.count (items_at (of_user d) s r.next) r.item here
 
-  verdict-next : Kept r.item → verdict_from r.next.count (items_at (of_user d) s r.next) ≡ verdict_from c.count (items_at (of_user d) s c)
-  verdict-next kept =
+  verdict-next : verdict_from r.next.count (items_at (of_user d) s r.next) ≡ verdict_from c.count (items_at (of_user d) s c)
+  verdict-next =
       ap (λ (k : ℕ). verdict_from k (items_at (of_user d) s r.next)) step.counts
-      ∙ given-verdict s c.line c.count (items_at (of_user d) s r.next) r.item kept ∙ rw step.gives
+      ∙ given-verdict s c.line c.count (items_at (of_user d) s r.next) r.item ∙ rw step.gives
 
-  pub going_next : Kept r.item → Going d s r.next
-  going_next kept =
-      let next = given-sound (of_user d) s c.line going.line c.count (items_at (of_user d) s r.next) r.item kept here in
+  pub going_next : Going d s r.next
+  going_next =
+      let next = given-sound (of_user d) s c.line going.line c.count (items_at (of_user d) s r.next) r.item here in
       record {
         reached = step.reached;
         line = next.0;
         sound = rw (← step.counts) at next.1;
-        verdict = ap (λ (v : Verdict). v.refusal) (verdict-next kept) ∙ going.verdict;
+        verdict = ap (λ (v : Result ℕ TableFault). refusal_in v) verdict-next ∙ going.verdict;
       }
 
+module _ {d : Dialect} {s : List ℕ} {c : Cursor} {f : Fault} (bad : StepFault (of_user d) s c f) (going : Going d s c) where
   -- a line that is refused refuses the table
-  pub going-refused : {f : Fault} → r.item ≡ Refused f → f.number ≡ (table_of (of_user d) s).refusal
-  unfolding given verdict_from
-  going-refused is = sym (rw (step.gives, is)) ∙ going.verdict
-
-  pub refused-some : {f : Fault} → r.item ≡ Refused f → f.number ≡ 0 → ⊥
-  refused-some {f} is = given-some (of_user d) s c.line going.line c.count (items_at (of_user d) s r.next) f (rw is at here)
+  pub going-refused : number_of f.refusal ≡ refusal_in (table_of (of_user d) s)
+  unfolding verdict_from
+  going-refused = sym (rw bad.gives) ∙ going.verdict
 
   -- and a good one has none
-  pub going-kept : (table_of (of_user d) s).refusal ≡ 0 → Kept r.item
-  going-kept good = not-refused r.item (λ f is. refused-some is (going-refused is ∙ good))
+  pub going-kept : refusal_in (table_of (of_user d) s) ≡ 0 → ⊥
+  going-kept good = omega (arith, going-refused, good, number-small f.refusal)
 
-module _ {d : Dialect} {s : List ℕ} {c : Cursor} {r : Step} (step : StepIs (of_user d) s c r) (kept : Kept r.item) where
+module _ {d : Dialect} {s : List ℕ} {c : Cursor} {r : Step} (step : StepIs (of_user d) s c r) where
   pub parts_next : {part : line.Item → List ℕ} {all : List Item → List ℕ} → InParts s part all
       → part r.item ++ all (items_left d s r.next) ≡ all (items_left d s c)
-  parts_next parts = parts.next c.line (items_at (of_user d) s r.next) r.item kept ∙ rw step.gives
+  parts_next parts = parts.next c.line (items_at (of_user d) s r.next) r.item ∙ rw step.gives
 
   pub short-next : (leb (length (line_text s r.item)) (max_line + 1) && are_short (items_left d s r.next)) ≡ are_short (items_left d s c)
-  short-next = given-short s c.line 0 (items_at (of_user d) s r.next) r.item kept ∙ rw step.gives
+  short-next = given-short s c.line 0 (items_at (of_user d) s r.next) r.item ∙ rw step.gives

@@ -1,6 +1,7 @@
 -- Laws of a table by its lines: a good table means what its lines mean, one after the other, and lines that are the texts of proper items make
 -- a good table.
 -- Assumes nothing.
+use Rattle.std.specs.Prelude.{Option, Ok, Err, Result}
 use mathlib.Core.Path.{◌≡◌, refl, sym, ap, ◌∙◌}
 use mathlib.Core.Bool.{Bool, true, false, cond, not, ◌&&◌, and-eq-true_iff}
 use mathlib.Core.List.{List, [], ◌∷◌, ◌++◌, map, append-nil}
@@ -9,9 +10,10 @@ use native.Mathlib.Omega.{arith}
 use lib.ListN.{length, drop}
 use lib.Seq.{take_all}
 use lib.IntN.{ℤ}
+use Rattle.refusal.specs.declared.Refusal.TheVariants.{LineTooLong, TooManyEntries}
+use Rattle.refusal.proofs.Numbers.{number-small}
 use Rattle.field.specs.declared.Dialect.{Dialect}
 use Rattle.line.specs.declared.Rules.{Rules}
-use Rattle.line.specs.declared.offset.Zone.{Zone}
 use Rattle.line.specs.Offsets.{utc, zone_of, in_force}
 use lib.Dec.{eqb, leb, ltb}
 use borrow.Author.Tests.{ltb-true, ltb-false, lt-ltb, le-ltb, leb-true, not-true}
@@ -33,7 +35,7 @@ use Rattle.line.specs.Lines.{content_of, byte_fault, read_line}
 use Rattle.crontab.specs.Items.{Items, placed, moved, after_line, items_from, items_of}
 use Rattle.crontab.specs.Items as items
 use Rattle.line.specs.Assignments.{part_bytes}
-use Rattle.crontab.specs.Tables.{refused_table, empty_table, with_entry, with_items, table_of}
+use Rattle.crontab.specs.Tables.{refused_table, empty_table, with_entry, with_items, table_of, refusal_in}
 use Rattle.crontab.proofs.Theorems.{LinesAt, lines_at, table-short}
 use Rattle.line.proofs.Theorems.{Inside, LineView, line_view}
 use Rattle.crontab.proofs.Sound.{SoundItems, items-sound}
@@ -41,28 +43,29 @@ use Rattle.normal.specs.Meanings.{Item, setting, boot, timed, entry_item, entrie
 use Rattle.normal.specs.Texts.{item_text, normal_text, are_short}
 use Rattle.normal.specs.Proper.{is_item, are_items}
 use Rattle.normal.proofs.Lines as lines
+use Rattle.field.specs.declared.Fault.{Fault}
 
 -- ---- items without a fault
 
 abbrev pub Clean : Items → Type 0
 Clean items.done = Unit {0}
-Clean (items.fault number line column) = ⊥
+Clean (items.fault refusal line column) = ⊥
 Clean (items.setting line name value later) = Clean later
 Clean (items.entry e later) = Clean later
 
-pub good-clean : (rules : Rules) (s : List ℕ) (m k : ℕ) (t : Table) (x : Items) → SoundItems rules s m k x → (with_items t x).refusal ≡ 0 → Clean x
+pub good-clean : (rules : Rules) (s : List ℕ) (m k : ℕ) (t : Table) (x : Items) → SoundItems rules s m k x → refusal_in (with_items t x) ≡ 0 → Clean x
 unfolding with_items refused_table
 good-clean rules s m k t items.done h e = tt
-good-clean rules s m k t (items.fault number line column) h e = omega (arith, h.0.from, e)
+good-clean rules s m k t (items.fault refusal line column) h e = omega (arith, e, number-small refusal)
 good-clean rules s m k t (items.setting line name value later) h e = good-clean rules s (line + 1) k t later h.2 e
 good-clean rules s m k t (items.entry x later) h e = good-clean rules s (x.line + 1) (k + 1) (with_entry t x) later h.2 e
 
-clean-good : (t : Table) (x : Items) → t.refusal ≡ 0 → Clean x → (with_items t x).refusal ≡ 0
+clean-good : (t : Table) (x : Items) → Clean x → refusal_in (with_items t x) ≡ 0
 unfolding with_items with_entry
-clean-good t items.done e h = e
-clean-good t (items.fault number line column) e h = absurd h
-clean-good t (items.setting line name value later) e h = clean-good t later e h
-clean-good t (items.entry x later) e h = clean-good (with_entry t x) later e h
+clean-good t items.done h = refl
+clean-good t (items.fault refusal line column) h = absurd h
+clean-good t (items.setting line name value later) h = clean-good t later h
+clean-good t (items.entry x later) h = clean-good (with_entry t x) later h
 
 -- ---- lines
 
@@ -87,11 +90,11 @@ lines-free (b ∷ s) = go (eqb b 10) refl (lines-free s)
 
 -- ---- a line that isn't refused
 
-abbrev Read : Line → Type 0
-Read line.Ignored = Unit {0}
-Read (line.Setting name value zone) = Unit {0}
-Read (line.Entry when start) = Unit {0}
-Read (line.Refused f) = ⊥
+abbrev Read : Result Line Fault → Type 0
+Read (Ok line.Ignored) = Unit {0}
+Read (Ok (line.Setting name value _)) = Unit {0}
+Read (Ok (line.Entry when start)) = Unit {0}
+Read (Err f) = ⊥
 
 whole-are : (s : List ℕ) → length s ≤ run InLine s → are_of InLine s ≡ true
 whole-are s h = rw take_all at (run-are InLine s)
@@ -101,8 +104,8 @@ unfolding read_line skipped
 line_read d s h = go (ltb max_line (length s)) (ltb (0 + run InLine s) (length s)) refl h
   where
     go : (a b : Bool) → ltb (0 + run InLine s) (length s) ≡ b
-        → Read (cond a (line.Refused (record { number = 2; column = 1001 })) (cond b (line.Refused (byte_fault s)) (content_of (of_user d) s)))
-        → (cond a (line.Refused (record { number = 2; column = 1001 })) (cond b (line.Refused (byte_fault s)) (content_of (of_user d) s)) ≡ content_of (of_user d) s)
+        → Read (cond a (Err (record { refusal = LineTooLong; column = 1001 })) (cond b (Err (byte_fault s)) (content_of (of_user d) s)))
+        → (cond a (Err (record { refusal = LineTooLong; column = 1001 })) (cond b (Err (byte_fault s)) (content_of (of_user d) s)) ≡ content_of (of_user d) s)
         × (are_of InLine s ≡ true)
     go true b e h = absurd h
     go false true e h = absurd h
@@ -123,7 +126,7 @@ entry-one Reboot c is = refl
 entry-one (Timed x) c is = refl
 
 -- what a line gives where no fault follows, behind k entries
-record Given (s l : List ℕ) (k : ℕ) (x : Line) (later : ℕ → ℤ → Items) (all : Items) : Type 0 where
+record Given (s l : List ℕ) (k : ℕ) (x : Result Line Fault) (later : ℕ → ℤ → Items) (all : Items) : Type 0 where
   count : ℕ
   offset : ℤ
   read : Read x
@@ -136,12 +139,12 @@ module _ (s l : List ℕ) (at : ℕ) (here : Stands s at l (drop (at + length l)
   part-here : (p : Part) → Inside (length l) p → part_bytes s (moved at p) ≡ part_bytes l p
   part-here p i = between-part here p.start p.end i.order i.within
 
-  line-given : (rules : Rules) (n k : ℕ) (o : ℤ) (x : Line) (later : ℕ → ℤ → Items) → LineView rules l x → Clean (after_line at n (length l) k o x later)
+  line-given : (rules : Rules) (n k : ℕ) (o : ℤ) (x : Result Line Fault) (later : ℕ → ℤ → Items) → LineView rules l x → Clean (after_line at n (length l) k o x later)
       → Given s l k x later (after_line at n (length l) k o x later)
   unfolding after_line item_in meanings entries_in
-  line-given rules n k o line.Ignored later p h =
+  line-given rules n k o (Ok line.Ignored) later p h =
       record { count = k; offset = o; read = tt; clean = h; counts = omega arith; few = λ f. f; means = refl }
-  line-given rules n k o (line.Setting name value zone) later p h =
+  line-given rules n k o (Ok (line.Setting name value zone)) later p h =
       record {
         count = k;
         offset = in_force zone o;
@@ -151,11 +154,11 @@ module _ (s l : List ℕ) (at : ℕ) (here : Stands s at l (drop (at + length l)
         few = λ f. f;
         means = rw (part-here name p.1.name_in, part-here value p.1.value_in);
       }
-  line-given rules n k o (line.Refused f) later p h = absurd h
-  line-given rules n k o (line.Entry when start) later p h = go (ltb k max_entries) refl h
+  line-given rules n k o (Err f) later p h = absurd h
+  line-given rules n k o (Ok (line.Entry when start)) later p h = go (ltb k max_entries) refl h
     where
-      go : (t : Bool) → ltb k max_entries ≡ t → Clean (cond t (items.entry (placed at n (length l) o when start) (later (k + 1) o)) (items.fault 12 n 1))
-          → Given s l k (line.Entry when start) later (cond t (items.entry (placed at n (length l) o when start) (later (k + 1) o)) (items.fault 12 n 1))
+      go : (t : Bool) → ltb k max_entries ≡ t → Clean (cond t (items.entry (placed at n (length l) o when start) (later (k + 1) o)) (items.fault TooManyEntries n 1))
+          → Given s l k (Ok (line.Entry when start)) later (cond t (items.entry (placed at n (length l) o when start) (later (k + 1) o)) (items.fault TooManyEntries n 1))
       go true e h =
           record {
             count = k + 1;
@@ -221,29 +224,29 @@ items-of : (d : Dialect) (s : List ℕ) → length s ≤ max_table → items_of 
 unfolding items_of
 items-of d s h = rw (le-ltb max_table (length s) h)
 
-good-items : (d : Dialect) (s : List ℕ) → (table_of (of_user d) s).refusal ≡ 0 → Clean (table_items d s)
+good-items : (d : Dialect) (s : List ℕ) → refusal_in (table_of (of_user d) s) ≡ 0 → Clean (table_items d s)
 unfolding table_of
 good-items d s e =
     let i = items-of d s (table-short (of_user d) s e) in
     rw i at (good-clean (of_user d) s 1 0 empty_table (items_of (of_user d) s) (items-sound (of_user d) s) e)
 
-items-good : (d : Dialect) (s : List ℕ) → length s ≤ max_table → Clean (table_items d s) → (table_of (of_user d) s).refusal ≡ 0
-unfolding table_of empty_table refused_table
-items-good d s short h = rw (items-of d s short) (clean-good empty_table (table_items d s) refl h)
+items-good : (d : Dialect) (s : List ℕ) → length s ≤ max_table → Clean (table_items d s) → refusal_in (table_of (of_user d) s) ≡ 0
+unfolding table_of
+items-good d s short h = rw (items-of d s short) (clean-good empty_table (table_items d s) h)
 
 meant : (d : Dialect) (s : List ℕ) → Clean (table_items d s) → Meant d s 0 (lines_of s) (table_items d s)
 meant d s h = lines-meant d s (is_cut s) 0 1 0 utc (lines_of s) (lines_at s 0 s refl) (lines-free s) h
 
 -- a good table means what its lines mean
-pub meaning-lines : (d : Dialect) (s : List ℕ) → (table_of (of_user d) s).refusal ≡ 0 → meaning_of d s ≡ items_in d (lines_of s)
+pub meaning-lines : (d : Dialect) (s : List ℕ) → refusal_in (table_of (of_user d) s) ≡ 0 → meaning_of d s ≡ items_in d (lines_of s)
 unfolding meaning_of
 meaning-lines d s e = rw (items-of d s (table-short (of_user d) s e)) (meant d s (good-items d s e)).means
 
 -- and has proper items, no more entries than there may be
-pub meaning-proper : (d : Dialect) (s : List ℕ) → (table_of (of_user d) s).refusal ≡ 0 → are_items (meaning_of d s) ≡ true
+pub meaning-proper : (d : Dialect) (s : List ℕ) → refusal_in (table_of (of_user d) s) ≡ 0 → are_items (meaning_of d s) ≡ true
 meaning-proper d s e = rw (meaning-lines d s e) (meant d s (good-items d s e)).proper
 
-pub meaning-few : (d : Dialect) (s : List ℕ) → (table_of (of_user d) s).refusal ≡ 0 → entries_in (meaning_of d s) ≤ max_entries
+pub meaning-few : (d : Dialect) (s : List ℕ) → refusal_in (table_of (of_user d) s) ≡ 0 → entries_in (meaning_of d s) ≤ max_entries
 meaning-few d s e = rw (meaning-lines d s e) (let f = (meant d s (good-items d s e)).few (omega arith) in omega arith)
 
 -- ---- lines that are the texts of proper items
@@ -284,18 +287,18 @@ items-written d (i ∷ is) h =
     let t = (and-eq-true_iff (is_item i) (are_items is)).0 h in
     rw (lines.line-back d i t.0, items-written d is t.1)
 
--- a line that means an item, behind so few entries that it is no 12
-line_kept : (at n size k : ℕ) (o : ℤ) (l : List ℕ) (x : Line) (i : Item) (later : ℕ → ℤ → Items) → item_in l x ≡ i ∷ [] → k + entries_in (i ∷ []) ≤ max_entries
+-- a line that means an item, behind so few entries that it isn't refused with R12
+line_kept : (at n size k : ℕ) (o : ℤ) (l : List ℕ) (x : Result Line Fault) (i : Item) (later : ℕ → ℤ → Items) → item_in l x ≡ i ∷ [] → k + entries_in (i ∷ []) ≤ max_entries
     → ((next : ℤ) → Clean (later (k + entries_in (i ∷ [])) next)) → Clean (after_line at n size k o x later)
 unfolding after_line item_in entries_in
-line_kept at n size k o l line.Ignored i later e few h = absurd (omega (arith, ap length e))
-line_kept at n size k o l (line.Setting name value zone) i later e few h =
+line_kept at n size k o l (Ok line.Ignored) i later e few h = absurd (omega (arith, ap length e))
+line_kept at n size k o l (Ok (line.Setting name value zone)) i later e few h =
     let q : k + entries_in (i ∷ []) ≡ k = omega (arith, ap entries_in e) in
     rw q at (h (in_force zone o))
-line_kept at n size k o l (line.Entry when start) i later e few h =
+line_kept at n size k o l (Ok (line.Entry when start)) i later e few h =
     let q : k + entries_in (i ∷ []) ≡ k + 1 = omega (arith, ap entries_in e, entry-one when (between l start (length l)) []) in
     rw (lt-ltb k max_entries (omega arith)) (rw q at (h o))
-line_kept at n size k o l (line.Refused f) i later e few h = absurd (omega (arith, ap length e))
+line_kept at n size k o l (Err f) i later e few h = absurd (omega (arith, ap length e))
 
 line-means : (d : Dialect) (i : Item) → is_item i ≡ true → item_in (item_text i) (content_of (of_user d) (item_text i)) ≡ i ∷ []
 unfolding line_items
@@ -316,7 +319,7 @@ kept d at n k o (i ∷ is) p q few =
 
 -- proper items that fit make a good table, which means them
 module _ (d : Dialect) (is : List Item) (proper : are_items is ≡ true) (short : are_short is ≡ true) (small : length (normal_text is) ≤ max_table) (few : entries_in is ≤ max_entries) where
-  pub written-good : (table_of (of_user d) (normal_text is)).refusal ≡ 0
+  pub written-good : refusal_in (table_of (of_user d) (normal_text is)) ≡ 0
   written-good =
       items-good d (normal_text is) small (rw (written-uncut is, lines-written is proper) (kept d 0 1 0 utc is proper short (omega arith)))
 
@@ -330,9 +333,9 @@ unfolding offsets_from entry_item
 entry-under o Reboot c is = refl
 entry-under o (Timed x) c is = refl
 
-setting-under : (o : ℤ) (n v : List ℕ) (zone : Zone) (is : List Item) → zone ≡ zone_of n v → offsets_from o (setting n v ∷ is) ≡ offsets_from (in_force zone o) is
+setting-under : (o : ℤ) (n v : List ℕ) (zone : Option ℤ) (is : List Item) → zone ≡ zone_of n v → offsets_from o (setting n v ∷ is) ≡ offsets_from (in_force zone o) is
 unfolding offsets_from
-setting-under o n v zone is e = ap (λ (z : Zone). offsets_from (in_force z o) is) (sym e)
+setting-under o n v _ is e = ap (λ (z : Option ℤ). offsets_from (in_force z o) is) (sym e)
 
 -- entries are under the offset that the settings before them say
 lines-under : (d : Dialect) (s : List ℕ) (c : Bool) (at n k : ℕ) (o : ℤ) (ls : List (List ℕ)) → LinesAt s at ls → Clean (items_from (of_user d) c at n k o ls)
@@ -346,24 +349,24 @@ lines-under d s c at n k o (l ∷ ls) lie h =
     later : ℕ → ℤ → Items
     later j next = items_from (of_user d) c (at + length l + 1) (n + 1) j next ls
 
-    go : (x : Line) → read_line (of_user d) l ≡ x → LineView (of_user d) l x → Clean (after_line at n (length l) k o x later)
+    go : (x : Result Line Fault) → read_line (of_user d) l ≡ x → LineView (of_user d) l x → Clean (after_line at n (length l) k o x later)
         → ((j : ℕ) (next : ℤ) → Clean (later j next) → entry_offsets (later j next) ≡ offsets_from next (meanings s (later j next)))
         → entry_offsets (after_line at n (length l) k o x later) ≡ offsets_from o (meanings s (after_line at n (length l) k o x later))
-    go line.Ignored e p h more = more k o h
-    go (line.Setting name value zone) e p h more =
+    go (Ok line.Ignored) e p h more = more k o h
+    go (Ok (line.Setting name value zone)) e p h more =
         let z = p.1.offset in
         rw (part-here s l at lie.0 name p.1.name_in, part-here s l at lie.0 value p.1.value_in)
         (more k (in_force zone o) h ∙ sym (setting-under o (part_bytes l name) (part_bytes l value) zone (meanings s (later k (in_force zone o))) z))
-    go (line.Refused f) e p h more = absurd h
-    go (line.Entry when start) e p h more = entry (ltb k max_entries) h
+    go (Err f) e p h more = absurd h
+    go (Ok (line.Entry when start)) e p h more = entry (ltb k max_entries) h
       where
-        entry : (t : Bool) → Clean (cond t (items.entry (placed at n (length l) o when start) (later (k + 1) o)) (items.fault 12 n 1))
-            → let x = cond t (items.entry (placed at n (length l) o when start) (later (k + 1) o)) (items.fault 12 n 1) in
+        entry : (t : Bool) → Clean (cond t (items.entry (placed at n (length l) o when start) (later (k + 1) o)) (items.fault TooManyEntries n 1))
+            → let x = cond t (items.entry (placed at n (length l) o when start) (later (k + 1) o)) (items.fault TooManyEntries n 1) in
             entry_offsets x ≡ offsets_from o (meanings s x)
         entry true h = rw (more (k + 1) o h) (sym (entry-under o when _ (meanings s (later (k + 1) o))))
         entry false h = absurd h
 
-pub meaning-offsets : (d : Dialect) (s : List ℕ) → (table_of (of_user d) s).refusal ≡ 0 → entry_offsets (items_of (of_user d) s) ≡ offsets_from utc (meaning_of d s)
+pub meaning-offsets : (d : Dialect) (s : List ℕ) → refusal_in (table_of (of_user d) s) ≡ 0 → entry_offsets (items_of (of_user d) s) ≡ offsets_from utc (meaning_of d s)
 unfolding meaning_of
 meaning-offsets d s e =
     rw (items-of d s (table-short (of_user d) s e)) (lines-under d s (is_cut s) 0 1 0 utc (lines_of s) (lines_at s 0 s refl) (good-items d s e))

@@ -24,17 +24,20 @@
 --   form-refuses, form-too-long, form-no-room, form-writes: what the call answers, one equation for each way
 -- Extremes uses them for the second dialect, and for a table with quoted settings, offsets and a range over the join.
 -- Assumes nothing.
+use Rattle.std.specs.Prelude.{Result, Ok, Err}
 use mathlib.Core.Path.{◌≡◌, refl, sym, ap, ◌∙◌}
 use mathlib.Core.Bool.{Bool, true, false, cond, and-eq-true_iff}
 use mathlib.Core.List.{List, ◌++◌, [], ◌∷◌}
 use Prim.Native.Nat.{ℕ, ◌≤◌, ◌<◌}
 use native.Mathlib.Omega.{arith}
 use lib.ListN.{length, drop, length-append, length-drop}
-use lib.Dec.{eqb, leb}
-use borrow.Author.Tests.{leb-true, eqb-false}
+use lib.Dec.{leb}
+use borrow.Author.Tests.{leb-true}
 use Rattle.octets.specs.OverFront.{over_front}
-use Rattle.octets.specs.Refusals.{IsRefusal}
-use Rattle.crontab.proofs.Theorems.{table-sound}
+use Rattle.refusal.specs.declared.Refusal.{Refusal}
+use Rattle.refusal.specs.declared.Refusal.TheVariants.{TooShort, TooLong}
+use Rattle.refusal.specs.Numbers.{number_of, IsRefusal}
+use Rattle.refusal.proofs.Numbers.{number-small}
 use Rattle.octets.specs.LittleEndian.{width}
 use Rattle.field.specs.declared.Dialect.{Dialect}
 use Rattle.field.specs.Limits.{minute_limits, hour_limits, day_limits, month_limits, weekday_limits}
@@ -45,13 +48,14 @@ use Rattle.crontab.specs.Limits.{max_table}
 pub use Rattle.field.proofs.Theorems.{shortest-step}
 use Rattle.line.specs.Offsets.{utc}
 use Rattle.crontab.specs.Items.{items_of}
-use Rattle.crontab.specs.Tables.{table_of}
-use Rattle.normal.specs.declared.NormalAnswer.{NormalAnswer}
-use Rattle.normal.specs.declared.NormalAnswer.TheVariants.{Written, Refused}
+use Rattle.crontab.specs.declared.table.Table.{Table}
+use Rattle.crontab.specs.declared.table.TableFault.{TableFault}
+use Rattle.crontab.specs.Tables.{table_of, refusal_in}
 use Rattle.normal.specs.Meanings.{Item, of_user, meaning_of, offsets_from, entry_offsets}
 use Rattle.normal.specs.Texts.{schedule_text, normal_text, are_short, fits}
 use Rattle.normal.specs.Proper.{is_schedule}
-use Rattle.normal.specs.NormalForms.{NormalForm, refused_form, form_over_front, form_of, normal_form}
+use Rattle.normal.specs.NormalForms.{NormalForm, refused_form, form_over_front, form_of, unless_refused, normal_form}
+use Rattle.normal.proofs.Forms.{unless-good}
 use Rattle.normal.proofs.EntryTexts.{schedule-parts}
 pub use Rattle.normal.proofs.Lines.{line-proper, line-back, item-clean}
 pub use Rattle.normal.proofs.Quotes.{name-bare, value-bare}
@@ -73,8 +77,8 @@ fits-parts is e =
     record { short = t.0; small = leb-true (length (normal_text is)) max_table t.1 }
 
 -- the normal text of a table in a dialect is a good table in either, which means the same
-pub normal-in-either : (d e : Dialect) (s : List ℕ) → (table_of (of_user d) s).refusal ≡ 0 → fits (meaning_of d s) ≡ true
-    → ((table_of (of_user e) (normal_text (meaning_of d s))).refusal ≡ 0) × (meaning_of e (normal_text (meaning_of d s)) ≡ meaning_of d s)
+pub normal-in-either : (d e : Dialect) (s : List ℕ) → refusal_in (table_of (of_user d) s) ≡ 0 → fits (meaning_of d s) ≡ true
+    → (refusal_in (table_of (of_user e) (normal_text (meaning_of d s))) ≡ 0) × (meaning_of e (normal_text (meaning_of d s)) ≡ meaning_of d s)
 normal-in-either d e s good fit =
     let f = fits-parts (meaning_of d s) fit in
     let p = meaning-proper d s good in
@@ -82,12 +86,12 @@ normal-in-either d e s good fit =
     (written-good e (meaning_of d s) p f.short f.small n, written-means e (meaning_of d s) p f.short f.small n)
 
 -- reading it back gives the same meaning
-pub read_back : (d : Dialect) (s : List ℕ) → (table_of (of_user d) s).refusal ≡ 0 → fits (meaning_of d s) ≡ true
-    → ((table_of (of_user d) (normal_text (meaning_of d s))).refusal ≡ 0) × (meaning_of d (normal_text (meaning_of d s)) ≡ meaning_of d s)
+pub read_back : (d : Dialect) (s : List ℕ) → refusal_in (table_of (of_user d) s) ≡ 0 → fits (meaning_of d s) ≡ true
+    → (refusal_in (table_of (of_user d) (normal_text (meaning_of d s))) ≡ 0) × (meaning_of d (normal_text (meaning_of d s)) ≡ meaning_of d s)
 read_back d = normal-in-either d d
 
 -- and the same offsets
-pub offsets-back : (d e : Dialect) (s : List ℕ) → (table_of (of_user d) s).refusal ≡ 0 → fits (meaning_of d s) ≡ true
+pub offsets-back : (d e : Dialect) (s : List ℕ) → refusal_in (table_of (of_user d) s) ≡ 0 → fits (meaning_of d s) ≡ true
     → entry_offsets (items_of (of_user e) (normal_text (meaning_of d s))) ≡ entry_offsets (items_of (of_user d) s)
 offsets-back d e s good fit =
     let b = normal-in-either d e s good fit in
@@ -98,12 +102,12 @@ pub equal-meanings : (d e : Dialect) (s t : List ℕ) → meaning_of d s ≡ mea
 equal-meanings d e s t q = ap normal_text q
 
 -- and equal bytes have equal meanings
-pub equal-texts : (d e : Dialect) (s t : List ℕ) → (table_of (of_user d) s).refusal ≡ 0 → (table_of (of_user e) t).refusal ≡ 0 → fits (meaning_of d s) ≡ true → fits (meaning_of e t) ≡ true
+pub equal-texts : (d e : Dialect) (s t : List ℕ) → refusal_in (table_of (of_user d) s) ≡ 0 → refusal_in (table_of (of_user e) t) ≡ 0 → fits (meaning_of d s) ≡ true → fits (meaning_of e t) ≡ true
     → normal_text (meaning_of d s) ≡ normal_text (meaning_of e t) → meaning_of d s ≡ meaning_of e t
 equal-texts d e s t p q f g same = sym (normal-in-either d d s p f).1 ∙ ap (meaning_of d) same ∙ (normal-in-either e d t q g).1
 
 -- a normal text is written as itself
-pub normal-again : (d e : Dialect) (s : List ℕ) → (table_of (of_user d) s).refusal ≡ 0 → fits (meaning_of d s) ≡ true
+pub normal-again : (d e : Dialect) (s : List ℕ) → refusal_in (table_of (of_user d) s) ≡ 0 → fits (meaning_of d s) ≡ true
     → normal_text (meaning_of e (normal_text (meaning_of d s))) ≡ normal_text (meaning_of d s)
 normal-again d e s good fit = ap normal_text (normal-in-either d e s good fit).1
 
@@ -139,16 +143,16 @@ schedule-long s e =
 
 -- ---- the call
 
-good-form : (d : Dialect) (s buffer : List ℕ) → (table_of (of_user d) s).refusal ≡ 0 → normal_form d s buffer ≡ form_of (meaning_of d s) buffer
+good-form : (d : Dialect) (s buffer : List ℕ) → refusal_in (table_of (of_user d) s) ≡ 0 → normal_form d s buffer ≡ form_of (meaning_of d s) buffer
 unfolding normal_form
-good-form d s buffer good = rw good
+good-form d s buffer good = unless-good (table_of (of_user d) s) (form_of (meaning_of d s) buffer) buffer good
 
 -- the whole answer and every byte
-pub equal-forms : (d e : Dialect) (s t buffer : List ℕ) → (table_of (of_user d) s).refusal ≡ 0 → (table_of (of_user e) t).refusal ≡ 0 → meaning_of d s ≡ meaning_of e t
+pub equal-forms : (d e : Dialect) (s t buffer : List ℕ) → refusal_in (table_of (of_user d) s) ≡ 0 → refusal_in (table_of (of_user e) t) ≡ 0 → meaning_of d s ≡ meaning_of e t
     → normal_form d s buffer ≡ normal_form e t buffer
 equal-forms d e s t buffer p q same = good-form d s buffer p ∙ ap (λ (is : List Item). form_of is buffer) same ∙ sym (good-form e t buffer q)
 
-pub form-again : (d e : Dialect) (s buffer : List ℕ) → (table_of (of_user d) s).refusal ≡ 0 → fits (meaning_of d s) ≡ true
+pub form-again : (d e : Dialect) (s buffer : List ℕ) → refusal_in (table_of (of_user d) s) ≡ 0 → fits (meaning_of d s) ≡ true
     → normal_form e (normal_text (meaning_of d s)) buffer ≡ normal_form d s buffer
 form-again d e s buffer good fit =
     let b = normal-in-either d e s good fit in
@@ -157,43 +161,42 @@ form-again d e s buffer good fit =
 -- ---- what comes back
 
 -- of a buffer as it was and as it is: a refusal has its number, and changes no byte; what is written has at most so many bytes
-abbrev pub Told : ℕ → List ℕ → NormalAnswer → List ℕ → Type 0
-Told most before (Written size) now = (size ≤ most) × (size ≤ length before) × (length now ≡ length before)
-Told most before (Refused number) now = IsRefusal number × (now ≡ before)
+abbrev pub Told : ℕ → List ℕ → Result ℕ Refusal → List ℕ → Type 0
+Told most before (Ok size) now = (size ≤ most) × (size ≤ length before) × (length now ≡ length before)
+Told most before (Err refusal) now = IsRefusal (number_of refusal) × (now ≡ before)
 
 abbrev pub FormBounded : ℕ → List ℕ → NormalForm → Type 0
 FormBounded most before f = Told most before f.answer f.buffer
 
-pub refused-told : (most number : ℕ) (buffer : List ℕ) → IsRefusal number → FormBounded most buffer (refused_form number buffer)
+pub refused-told : (most : ℕ) (refusal : Refusal) (buffer : List ℕ) → FormBounded most buffer (refused_form refusal buffer)
 unfolding refused_form
-refused-told most number buffer h = (h, refl)
+refused-told most refusal buffer = (number-small refusal, refl)
 
 pub laid-told : (most : ℕ) (t buffer : List ℕ) → length t ≤ most → FormBounded most buffer (form_over_front t buffer)
 unfolding form_over_front refused_form over_front
 laid-told most t buffer small = go (leb (length t) (length buffer)) refl
   where
     form : Bool → NormalForm
-    form b = cond b (record { answer = Written (length t); buffer = t ++ drop (length t) buffer }) (record { answer = Refused 18; buffer = buffer })
+    form b = cond b (record { answer = Ok (length t); buffer = t ++ drop (length t) buffer }) (record { answer = Err TooShort; buffer = buffer })
 
     go : (b : Bool) → leb (length t) (length buffer) ≡ b → FormBounded most buffer (form b)
     go true e =
         let room = leb-true (length t) (length buffer) e in
         (small, room, omega (arith, length-append t (drop (length t) buffer), length-drop (length t) buffer))
-    go false e = (omega arith, refl)
+    go false e = (number-small TooShort, refl)
 
 pub items-told : (is : List Item) (buffer : List ℕ) → FormBounded max_table buffer (form_of is buffer)
 unfolding form_of
 items-told is buffer = go (fits is) refl
   where
-    go : (b : Bool) → fits is ≡ b → FormBounded max_table buffer (cond b (form_over_front (normal_text is) buffer) (refused_form 21 buffer))
+    go : (b : Bool) → fits is ≡ b → FormBounded max_table buffer (cond b (form_over_front (normal_text is) buffer) (refused_form TooLong buffer))
     go true e = laid-told max_table (normal_text is) buffer (fits-parts is e).small
-    go false e = refused-told max_table 21 buffer (omega arith)
+    go false e = refused-told max_table TooLong buffer
 
 pub form-told : (d : Dialect) (s buffer : List ℕ) → FormBounded max_table buffer (normal_form d s buffer)
-unfolding normal_form
-form-told d s buffer = go (eqb (table_of (of_user d) s).refusal 0) refl
+unfolding normal_form unless_refused
+form-told d s buffer = go (table_of (of_user d) s)
   where
-    go : (b : Bool) → eqb (table_of (of_user d) s).refusal 0 ≡ b
-        → FormBounded max_table buffer (cond b (form_of (meaning_of d s) buffer) (refused_form (table_of (of_user d) s).refusal buffer))
-    go true e = items-told (meaning_of d s) buffer
-    go false e = refused-told max_table (table_of (of_user d) s).refusal buffer (omega (arith, eqb-false (table_of (of_user d) s).refusal 0 e, (table-sound (of_user d) s).number))
+    go : (table : Result Table TableFault) → FormBounded max_table buffer (unless_refused table (form_of (meaning_of d s) buffer) buffer)
+    go (Ok t) = items-told (meaning_of d s) buffer
+    go (Err f) = refused-told max_table f.refusal buffer

@@ -1,5 +1,7 @@
 -- The laws of the normal form for any table and buffer, and of the quotes for any bytes: what they need is all that is said here.
 -- Assumes nothing.
+use Rattle.refusal.specs.declared.Refusal.TheVariants.{TooShort, TooLong}
+use Rattle.std.specs.Prelude.{Ok, Err}
 use mathlib.Core.Path.{◌≡◌}
 use mathlib.Core.Bool.{true, false}
 use mathlib.Core.List.{List, [], ◌∷◌, ◌++◌}
@@ -11,8 +13,8 @@ use Rattle.octets.specs.declared.class.Class.TheVariants.{Not}
 use Rattle.octets.specs.Runs.{are_of}
 use Rattle.field.specs.declared.Dialect.{Dialect}
 use Rattle.field.specs.declared.Dialect.TheVariants.{Wrapping}
-use Rattle.crontab.specs.Tables.{table_of}
-use Rattle.normal.specs.declared.NormalAnswer.TheVariants.{Written, Refused}
+use Rattle.crontab.specs.declared.table.TableFault.{TableFault}
+use Rattle.crontab.specs.Tables.{table_of, refusal_in}
 use Rattle.normal.specs.Meanings.{Item, of_user, meaning_of}
 use Rattle.normal.specs.Texts.{is_bare_name, is_bare_value, name_text, value_text, item_text, normal_text, fits}
 use Rattle.normal.specs.NormalForms.{normal_form}
@@ -25,22 +27,22 @@ module _ (d : Dialect) (s buffer : List ℕ) where
   normal = normal_text (meaning_of d s)
 
   abbrev refusal : ℕ
-  refusal = (table_of (of_user d) s).refusal
+  refusal = refusal_in (table_of (of_user d) s)
 
   -- form-refuses, form-too-long, form-no-room, form-writes
   pub form-used :
-      ((refusal ≡ 0 → ⊥) → normal_form d s buffer ≡ record { answer = Refused refusal; buffer = buffer })
-      × (refusal ≡ 0 → fits (meaning_of d s) ≡ false → normal_form d s buffer ≡ record { answer = Refused 21; buffer = buffer })
-      × (refusal ≡ 0 → fits (meaning_of d s) ≡ true → length buffer < length normal → normal_form d s buffer ≡ record { answer = Refused 18; buffer = buffer })
+      ((f : TableFault) → table_of (of_user d) s ≡ Err f → normal_form d s buffer ≡ record { answer = Err f.refusal; buffer = buffer })
+      × (refusal ≡ 0 → fits (meaning_of d s) ≡ false → normal_form d s buffer ≡ record { answer = Err TooLong; buffer = buffer })
+      × (refusal ≡ 0 → fits (meaning_of d s) ≡ true → length buffer < length normal → normal_form d s buffer ≡ record { answer = Err TooShort; buffer = buffer })
       × (refusal ≡ 0 → fits (meaning_of d s) ≡ true → length normal ≤ length buffer
-      → normal_form d s buffer ≡ record { answer = Written (length normal); buffer = normal ++ drop (length normal) buffer })
+      → normal_form d s buffer ≡ record { answer = Ok (length normal); buffer = normal ++ drop (length normal) buffer })
   form-used = (form-refuses d s buffer, form-too-long d s buffer, form-no-room d s buffer, form-writes d s buffer)
 
 -- in the second dialect, with just enough room, and with a byte less
-pub form-room : (s buffer : List ℕ) → (table_of (of_user Wrapping) s).refusal ≡ 0 → fits (meaning_of Wrapping s) ≡ true
+pub form-room : (s buffer : List ℕ) → refusal_in (table_of (of_user Wrapping) s) ≡ 0 → fits (meaning_of Wrapping s) ≡ true
     → let normal = normal_text (meaning_of Wrapping s) in
-    (length buffer ≡ length normal → normal_form Wrapping s buffer ≡ record { answer = Written (length normal); buffer = normal })
-    × (length buffer + 1 ≡ length normal → normal_form Wrapping s buffer ≡ record { answer = Refused 18; buffer = buffer })
+    (length buffer ≡ length normal → normal_form Wrapping s buffer ≡ record { answer = Ok (length normal); buffer = normal })
+    × (length buffer + 1 ≡ length normal → normal_form Wrapping s buffer ≡ record { answer = Err TooShort; buffer = buffer })
 form-room s buffer good fit =
     let normal = normal_text (meaning_of Wrapping s) in (
       (λ e. rw (fills normal buffer e) at (form-writes Wrapping s buffer good fit (omega (arith, e)))),

@@ -15,9 +15,8 @@ use Rattle.octets.specs.Clipped.{Wrote}
 use Rattle.schedule.specs.declared.Schedule.{Schedule}
 use Rattle.line.specs.declared.Part.{Part}
 use Rattle.crontab.specs.declared.entry.Entry as entry
-use Rattle.line.specs.declared.Fault.{Fault}
 use Rattle.crontab.specs.declared.item.Item as line
-use Rattle.crontab.specs.declared.item.Item.TheVariants.{Nothing, Setting, Entry, Refused}
+use Rattle.crontab.specs.declared.item.Item.TheVariants.{Nothing, Setting, Entry}
 use Rattle.line.specs.declared.time.When.{When}
 use Rattle.line.specs.declared.time.When.TheVariants.{Reboot, Timed}
 use Rattle.line.specs.Assignments.{part_bytes}
@@ -82,10 +81,6 @@ module _ (s : List ℕ) (x : line.Item) where
   pub line-none : x ≡ Nothing → line_text s x ≡ []
   unfolding line_text
   line-none is = rw is
-
-  pub line_refused : {f : Fault} → x ≡ Refused f → line_text s x ≡ []
-  unfolding line_text
-  line_refused is = rw is
 
   module _ {name value : Part} (is : x ≡ Setting name value) where
     pub setting-within : Within s x → PartOf s name.start name.end × PartOf s value.start value.end

@@ -2,14 +2,14 @@
 -- each value of the five fields, written back in both dialects; and lines and tables as long as they may be, and one byte longer.
 -- In the comments `?` is the byte that is tried.
 -- Assumes nothing.
-use Rattle.std.specs.Prelude.{ℕ, ◌+◌, ◌/◌, ◌%◌, ◌≡◌, refl, Bool, true, false, cond, List, [], ◌∷◌, ◌++◌, map, replicate, ltb}
+use Rattle.std.specs.Prelude.{ℕ, ◌+◌, ◌/◌, ◌%◌, ◌≡◌, refl, Bool, true, false, cond, List, [], ◌∷◌, ◌++◌, map, replicate, ltb, Result, Ok, Err}
+use Rattle.refusal.specs.declared.Refusal.{Refusal}
+use Rattle.refusal.specs.declared.Refusal.TheVariants.{OutOfLimits, Reversed, BadSetting, TooShort, TooLong, CutTable}
 use Rattle.octets.specs.Texts.{text}
 use Rattle.octets.specs.Rows.{Hold}
 use Rattle.octets.specs.AllBytes.{Range, LeadAmong, Lead, one, range, each, one_of, trying}
 use Rattle.octets.specs.Sets.{set_of, up_to}
 use Rattle.field.specs.declared.Dialect.TheVariants.{Rising, Wrapping}
-use Rattle.normal.specs.declared.NormalAnswer.{NormalAnswer}
-use Rattle.normal.specs.declared.NormalAnswer.TheVariants.{Written, Refused}
 use Rattle.normal.specs.Meanings.{Item, setting, boot, timed, entries_in, meaning_of, line_items}
 use Rattle.normal.specs.Texts.{item_text, normal_text, are_short, fits}
 use Rattle.normal.specs.Proper.{is_name, is_value, is_command, is_item, are_items}
@@ -280,14 +280,14 @@ tables : Hold (λ (i : Item). fits (replicate 49 (boot (replicate 992 97)) ++ i 
 unfolding writing
 tables = refl
 
--- the call in both dialects: a table's refusal, then 21, then 18; refused, the buffer stays
-abbrev calls : List ℕ × List ℕ → List (NormalAnswer × List ℕ)
+-- the call in both dialects: a table's refusal, then R21, then R18; refused, the buffer stays
+abbrev calls : List ℕ × List ℕ → List ((Result ℕ Refusal) × List ℕ)
 calls (s, buffer) =
     let f = normal_form Rising s buffer in
     let g = normal_form Wrapping s buffer in
     (f.answer, f.buffer) ∷ (g.answer, g.buffer) ∷ []
 
-abbrev same : NormalAnswer → List ℕ → List (NormalAnswer × List ℕ)
+abbrev same : Result ℕ Refusal → List ℕ → List ((Result ℕ Refusal) × List ℕ)
 same answer buffer = (answer, buffer) ∷ (answer, buffer) ∷ []
 
 -- a line that is written in 178 bytes and n more
@@ -295,15 +295,15 @@ abbrev long : ℕ → List ℕ
 long n = text "0-59 * * * * " ++ replicate n 97 ++ text "\n"
 
 refusals : Hold calls
-    (((long 822, text "12"), same (Refused 18) (text "12"))
-    ∷ ((long 823, text "12"), same (Refused 21) (text "12"))
-    ∷ ((long 823 ++ text "A\n", text "12"), same (Refused 11) (text "12"))
-    ∷ ((text "A= b", text "12"), same (Refused 26) (text "12"))
+    (((long 822, text "12"), same (Err TooShort) (text "12"))
+    ∷ ((long 823, text "12"), same (Err TooLong) (text "12"))
+    ∷ ((long 823 ++ text "A\n", text "12"), same (Err BadSetting) (text "12"))
+    ∷ ((text "A= b", text "12"), same (Err CutTable) (text "12"))
     -- by the dialect: 7 and 6 are refused in one of them only
-    ∷ ((text "0 0 1 1 1-0 x\n", text "1"), (Refused 7, text "1") ∷ (Refused 18, text "1") ∷ [])
-    ∷ ((text "0 0 1 1 7 x\n", text "1"), (Refused 18, text "1") ∷ (Refused 6, text "1") ∷ [])
+    ∷ ((text "0 0 1 1 1-0 x\n", text "1"), (Err Reversed, text "1") ∷ (Err TooShort, text "1") ∷ [])
+    ∷ ((text "0 0 1 1 7 x\n", text "1"), (Err TooShort, text "1") ∷ (Err OutOfLimits, text "1") ∷ [])
     -- written, and the bytes after it stay
-    ∷ ((text "@reboot  x\n", text "12345678901234"), same (Written 10) (text "@reboot x\n1234"))
+    ∷ ((text "@reboot  x\n", text "12345678901234"), same (Ok 10) (text "@reboot x\n1234"))
     ∷ [])
 unfolding writing
 refusals = refl

@@ -1,11 +1,11 @@
 -- Normal forms by table bytes (P2 to P7), checked by computing: rows of a table and its normal text.
 -- Assumes nothing.
-use Rattle.std.specs.Prelude.{ℕ, zero, suc, refl, true, false, List, [], ◌∷◌, ◌++◌, replicate, ℤ, pos, negsuc}
+use Rattle.std.specs.Prelude.{ℕ, zero, suc, refl, true, false, List, [], ◌∷◌, ◌++◌, replicate, ℤ, pos, negsuc, Result, Ok, Err}
+use Rattle.refusal.specs.declared.Refusal.{Refusal}
+use Rattle.refusal.specs.declared.Refusal.TheVariants.{BadSetting, TooShort, TooLong, CutTable}
 use Rattle.octets.specs.Texts.{text}
 use Rattle.octets.specs.Rows.{Hold}
 use Rattle.field.specs.declared.Dialect.TheVariants.{Rising, Wrapping}
-use Rattle.normal.specs.declared.NormalAnswer.{NormalAnswer}
-use Rattle.normal.specs.declared.NormalAnswer.TheVariants.{Written, Refused}
 use Rattle.line.specs.Offsets.{utc}
 use Rattle.crontab.specs.Items.{items_of}
 use Rattle.normal.specs.Meanings.{of_user, meaning_of, offsets_from, entry_offsets}
@@ -78,7 +78,7 @@ tables = refl
 
 -- ---- the call: a table and a buffer, and what comes back with the buffer as it is then
 
-abbrev call : List ℕ × List ℕ → NormalAnswer × List ℕ
+abbrev call : List ℕ × List ℕ → Result ℕ Refusal × List ℕ
 call (s, buffer) = let f = normal_form Rising s buffer in (f.answer, f.buffer)
 
 -- a line of 13 bytes and n more, which is written in 178 and n
@@ -92,23 +92,23 @@ lines (suc n) = long 822 ++ 10 ∷ lines n
 
 calls : Hold call
     -- the bytes after it stay
-    (((text "A = b\n", text "123456"), (Written 4, text "A=b\n56"))
+    (((text "A = b\n", text "123456"), (Ok 4, text "A=b\n56"))
     -- just enough room, and a byte less
-    ∷ ((text "A = b\n", text "1234"), (Written 4, text "A=b\n"))
-    ∷ ((text "A = b\n", text "123"), (Refused 18, text "123"))
+    ∷ ((text "A = b\n", text "1234"), (Ok 4, text "A=b\n"))
+    ∷ ((text "A = b\n", text "123"), (Err TooShort, text "123"))
     -- nothing needs no room
-    ∷ ((text "#\n", []), (Written 0, []))
-    ∷ (([], text "1"), (Written 0, text "1"))
+    ∷ ((text "#\n", []), (Ok 0, []))
+    ∷ (([], text "1"), (Ok 0, text "1"))
     -- the table's refusal comes first
-    ∷ ((text "A\n", text "123"), (Refused 11, text "123"))
-    ∷ ((text "A = b", text "123"), (Refused 26, text "123"))
-    ∷ ((long 823 ++ text "\nA\n", []), (Refused 11, []))
+    ∷ ((text "A\n", text "123"), (Err BadSetting, text "123"))
+    ∷ ((text "A = b", text "123"), (Err CutTable, text "123"))
+    ∷ ((long 823 ++ text "\nA\n", []), (Err BadSetting, []))
     -- a line as long as it may be, and a byte more, which comes before a short buffer
-    ∷ ((long 822 ++ text "\n", text "1"), (Refused 18, text "1"))
-    ∷ ((long 823 ++ text "\n", text "1"), (Refused 21, text "1"))
+    ∷ ((long 822 ++ text "\n", text "1"), (Err TooShort, text "1"))
+    ∷ ((long 823 ++ text "\n", text "1"), (Err TooLong, text "1"))
     -- a table that is written in 49,049 bytes and 103, which it may have, and in one more
-    ∷ ((lines 49 ++ text "@reboot " ++ replicate 94 97 ++ text "\n", text "1"), (Refused 18, text "1"))
-    ∷ ((lines 49 ++ text "@reboot " ++ replicate 95 97 ++ text "\n", text "1"), (Refused 21, text "1"))
+    ∷ ((lines 49 ++ text "@reboot " ++ replicate 94 97 ++ text "\n", text "1"), (Err TooShort, text "1"))
+    ∷ ((lines 49 ++ text "@reboot " ++ replicate 95 97 ++ text "\n", text "1"), (Err TooLong, text "1"))
     ∷ [])
 unfolding lines writing
 calls = refl

@@ -1,6 +1,6 @@
 -- What a user table means (P1): its settings and entries as one sequence, as bytes without their places.
 -- Assumes nothing.
-use Rattle.std.specs.Prelude.{ℕ, suc, List, [], ◌∷◌, ◌++◌, length, ℤ}
+use Rattle.std.specs.Prelude.{ℕ, suc, List, [], ◌∷◌, ◌++◌, length, ℤ, Ok, Err, Result}
 use Rattle.octets.specs.Runs.{between}
 use Rattle.schedule.specs.declared.Schedule.{Schedule}
 use Rattle.field.specs.declared.Dialect.{Dialect}
@@ -15,6 +15,7 @@ use Rattle.crontab.specs.Items.{Items, items_of}
 use Rattle.crontab.specs.Items as items
 use Rattle.line.specs.Assignments.{part_bytes}
 use Rattle.line.specs.Offsets.{zone_of, in_force}
+use Rattle.field.specs.declared.Fault.{Fault}
 
 -- P1: a setting or an entry
 pub data Item : Type 0 where
@@ -45,7 +46,7 @@ of_user d = record { kind = User; dialect = d }
 -- P1: the items of a table's bytes, up to its end or to the fault that refuses it
 unfoldable pub meanings : List ℕ → Items → List Item
 meanings s items.done = []
-meanings s (items.fault number line column) = []
+meanings s (items.fault refusal line column) = []
 meanings s (items.setting line name value later) = setting (part_bytes s name) (part_bytes s value) ∷ meanings s later
 meanings s (items.entry e later) = entry_item e.when (between s e.start e.end) ∷ meanings s later
 
@@ -65,18 +66,18 @@ offsets_from o (timed s command ∷ is) = o ∷ offsets_from o is
 -- P10: as a table's entries have them
 unfoldable pub entry_offsets : Items → List ℤ
 entry_offsets items.done = []
-entry_offsets (items.fault number line column) = []
+entry_offsets (items.fault refusal line column) = []
 entry_offsets (items.setting line name value later) = entry_offsets later
 entry_offsets (items.entry e later) = e.offset ∷ entry_offsets later
 
 -- ---- a line, whatever its length: none or one
 
 -- P11: what a line means
-unfoldable pub item_in : List ℕ → Line → List Item
-item_in s line.Ignored = []
-item_in s (line.Setting name value zone) = setting (part_bytes s name) (part_bytes s value) ∷ []
-item_in s (line.Entry when start) = entry_item when (between s start (length s)) ∷ []
-item_in s (line.Refused f) = []
+unfoldable pub item_in : List ℕ → Result Line Fault → List Item
+item_in s (Ok line.Ignored) = []
+item_in s (Ok (line.Setting name value _)) = setting (part_bytes s name) (part_bytes s value) ∷ []
+item_in s (Ok (line.Entry when start)) = entry_item when (between s start (length s)) ∷ []
+item_in s (Err f) = []
 
 -- P11: a line's bytes, in a dialect
 unfoldable pub line_items : Dialect → List ℕ → List Item

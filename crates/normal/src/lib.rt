@@ -11,32 +11,17 @@ ghost use Rattle.std.specs.Prelude.{◌≡◌};
 ghost use Rattle.normal.specs.NormalForms.{normal_form};
 
 use field::Dialect;
+use refusal::Refusal;
 
-// The refusals, by their numbers (R18, R21).
-pub const TOO_SHORT: u8 = 18;
-
-pub const TOO_LONG: u8 = 21;
-
-// What comes back: how many bytes were written to the front of the buffer, or why none was.
-#[derive(Clone, Copy)]
-pub enum NormalAnswer {
-    Written { size: usize },
-    Refused { number: u8 },
-}
-
-// Writes the normal text of a table in a dialect to the front of a buffer; where it is refused, writes nothing.
-pub fn normal_form(table: &[u8], dialect: Dialect, text: &mut [u8]) -> NormalAnswer
+// Writes the normal text of a table in a dialect to the front of a buffer, and answers its length; where it is refused, writes nothing.
+pub fn normal_form(table: &[u8], dialect: Dialect, text: &mut [u8]) -> Result<usize, Refusal>
     ensures answer { result ≡ (normal_form dialect table.now text.old).answer }
     ensures text { text.new ≡ (normal_form dialect table.now text.old).buffer }
 {
     let mut none: [u8; 1] = [0];
-    match table::write(table, dialect, &mut none) {
-        NormalAnswer::Written { size } => {
-            if text.len() < size {
-                return NormalAnswer::Refused { number: TOO_SHORT };
-            }
-            table::write(table, dialect, text)
-        }
-        NormalAnswer::Refused { number } => NormalAnswer::Refused { number },
+    let size = table::write(table, dialect, &mut none)?;
+    if text.len() < size {
+        return Err(Refusal::TooShort);
     }
+    table::write(table, dialect, text)
 }

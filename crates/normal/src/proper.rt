@@ -7,7 +7,6 @@ ghost use Rattle.line.specs.Offsets.{is_offset, is_allowed_setting};
 use crate::setting::{is_bare_name, is_bare_value};
 use field::format::is_field;
 use line::offset;
-use line::offset::OffsetAnswer;
 use octets::class::{Class, is_in};
 use octets::run::{byte_at, skip};
 use schedule::Schedule;
@@ -51,10 +50,7 @@ pub fn is_command(command: &[u8]) -> bool
 fn is_offset(value: &[u8]) -> bool
     ensures { result ≡ is_offset value.now }
 {
-    match offset::read(value) {
-        OffsetAnswer::Minutes(_) => true,
-        OffsetAnswer::Malformed => false,
-    }
+    offset::read(value).is_some()
 }
 
 // Whether the value of a setting `CRON_TZ` is an offset; any other setting may have any value.

@@ -35,6 +35,5 @@ pub fn write(s: &[u8], item: Item, out: &mut [u8], at: usize) -> usize
             let next = entry::write(when, command, out, at);
             write::byte(out, next, b'\n')
         }
-        Item::Refused(_) => at,
     }
 }

@@ -7,7 +7,6 @@ use native.Mathlib.Omega.{arith}
 use lib.ListN.{length, get_or}
 use Rattle.octets.specs.Texts.{text}
 use Rattle.octets.specs.Clipped.{clipped_front, clipped, saturated, Wrote}
-use Rattle.octets.specs.Refusals.{IsRefusal}
 use Rattle.octets.proofs.Each.{Each}
 use Rattle.octets.proofs.LittleEndian.{Bytes}
 use Rattle.octets.proofs.Places.{Stands}
@@ -36,10 +35,6 @@ not-wrote = (
   (λ w. let e = ap (λ (s : List ℕ). get_or s 2 0) w.bytes in omega (arith, e)),
   (λ w. omega (arith, w.place)),
 )
-
--- a refusal isn't 0, and has eight bits
-not-refusal : IsRefusal 1 × IsRefusal 255 × (IsRefusal 0 → ⊥) × (IsRefusal 256 → ⊥)
-not-refusal = ((omega arith, omega arith), (omega arith, omega arith), (λ h. omega (arith, h.0)), (λ h. omega (arith, h.1)))
 
 -- at every place
 not-bytes : (Bytes (256 ∷ []) → ⊥) × (Bytes (255 ∷ 256 ∷ []) → ⊥)

@@ -11,5 +11,4 @@ pub mod Sets
 pub mod LittleEndian
 pub mod AllBytes
 pub mod BitSets
-pub mod Refusals
 pub mod Examples

@@ -32,12 +32,10 @@ pub fn below(words: &[u64], n: usize) -> usize
     ensures { result ≡ count_below (has_member words.now) n }
 {
     let mut count = 0;
-    let mut k = 0;
-    while k < n {
+    for k in 0..n {
         if has(words, k) {
             count += 1;
         }
-        k += 1;
     }
     count
 }
@@ -47,15 +45,13 @@ pub fn ranked(words: &[u64], n: usize, rank: usize) -> usize
     ensures { result ≡ from (is_ranked (has_member words.now) rank) n 0 }
 {
     let mut seen = 0;
-    let mut k = 0;
-    while k < n {
+    for k in 0..n {
         if has(words, k) {
             if seen == rank {
                 return k;
             }
             seen += 1;
         }
-        k += 1;
     }
     n
 }

@@ -34,9 +34,7 @@ pub fn is_quote(b: u8) -> bool
 fn is_account(b: u8) -> bool
     ensures { result ≡ is_account b }
 {
-    let letter = ((b'a' <= b) & (b <= b'z')) | ((b'A' <= b) & (b <= b'Z'));
-    let digit = (b'0' <= b) & (b <= b'9');
-    letter | (digit | ((b == b'_') | ((b == b'-') | (b == b'.'))))
+    b.is_ascii_alphanumeric() | ((b == b'_') | ((b == b'-') | (b == b'.')))
 }
 
 // Control bytes: none but newline and tab are text.

@@ -7,5 +7,4 @@ pub mod class;
 pub mod little_endian;
 pub mod run;
 pub mod set;
-pub mod size;
 pub mod write;

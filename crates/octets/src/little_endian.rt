@@ -6,22 +6,14 @@ ghost use Rattle.octets.specs.LittleEndian.{little_endian, number_of, width};
 
 use crate::write::{after, byte};
 
-fn wide(b: u8) -> u64
-    ensures { result ≡ b }
-{
-    b as u64
-}
-
 // The number of so many bytes at a place. It is put together from its high byte on.
 pub fn read(s: &[u8], at: usize, size: usize) -> u64
     requires { (at + size ≤ length s.now) × (size ≤ 8) }
     ensures { (result ≡ number_of (between s.now at (at + size))) × (result < width size) }
 {
-    let mut i = at + size;
     let mut n: u64 = 0;
-    while at < i {
-        i -= 1;
-        n = n * 256 + wide(s[i]);
+    for i in (at..at + size).rev() {
+        n = n * 256 + u64::from(s[i]);
     }
     n
 }
@@ -34,12 +26,10 @@ pub fn write(out: &mut [u8], at: usize, n: u64, size: usize) -> usize
         return after(at, size);
     }
     let mut next = at;
-    let mut i = 0;
     let mut rest = n;
-    while i < size {
+    for _i in 0..size {
         next = byte(out, next, (rest % 256) as u8);
         rest /= 256;
-        i += 1;
     }
     next
 }

@@ -8,16 +8,14 @@ use crate::class::{Class, is_blank, is_in};
 pub fn byte_at(s: &[u8], at: usize) -> u8
     ensures { result ≡ get_or s.now at 0 }
 {
-    if at < s.len() {
-        return s[at];
-    }
-    0
+    s.get(at).copied().unwrap_or(0)
 }
 
 // Where the run of such bytes that starts at a place ends.
 pub fn skip(s: &[u8], from: usize, class: Class) -> usize
     ensures { (result ≡ skipped class s.now from) × (from ≤ result) × (result ≤ from + (length s.now - from)) }
 {
+    // The hottest loop: as a `for`, which answers the greater of two places at its end, it was a tenth slower.
     let mut at = from;
     while at < s.len() {
         if is_in(class, s[at]) {
@@ -33,16 +31,10 @@ pub fn skip(s: &[u8], from: usize, class: Class) -> usize
 pub fn trimmed_end(s: &[u8], from: usize) -> usize
     ensures { result ≡ from + trimmed (drop from s.now) }
 {
-    if s.len() <= from {
-        return from;
-    }
-    let mut end = s.len();
-    while from < end {
-        if is_blank(s[end - 1]) {
-            end -= 1;
-        } else {
-            return end;
+    for last in (from..s.len()).rev() {
+        if !is_blank(s[last]) {
+            return last + 1;
         }
     }
-    end
+    from
 }

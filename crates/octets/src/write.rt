@@ -1,30 +1,13 @@
 // Texts written at a place of a lent buffer, as far as they fit. The place after the text is answered whether it fits or not.
-ghost use Rattle.std.specs.Prelude.{◌≡◌, [], ◌∷◌, ◌+◌, ◌-◌, length};
+ghost use Rattle.std.specs.Prelude.{◌≡◌, [], ◌∷◌, ◌+◌, length};
 ghost use Rattle.octets.specs.Digits.{number_text};
 ghost use Rattle.octets.specs.Clipped.{saturated, Wrote};
-
-use crate::size::lesser;
-
-const LAST_PLACE: usize = 18446744073709551615;
 
 // So many places on, or the last one: the place after a text of so many bytes.
 pub fn after(at: usize, n: usize) -> usize
     ensures { result ≡ saturated (at + n) }
 {
-    if n <= LAST_PLACE - at {
-        return at + n;
-    }
-    LAST_PLACE
-}
-
-// How many bytes a buffer of so many has from a place on.
-fn left(size: usize, at: usize) -> usize
-    ensures { result ≡ size - at }
-{
-    if at < size {
-        return size - at;
-    }
-    0
+    at.saturating_add(n)
 }
 
 // One byte.
@@ -42,11 +25,9 @@ pub fn byte(out: &mut [u8], at: usize, b: u8) -> usize
 pub fn copy(out: &mut [u8], at: usize, part: &[u8]) -> usize
     ensures { Wrote at part.now out.old result out.new }
 {
-    let fit = lesser(part.len(), left(out.len(), at));
-    let mut i = 0;
-    while i < fit {
+    let fit = part.len().min(out.len().saturating_sub(at));
+    for i in 0..fit {
         out[at + i] = part[i];
-        i += 1;
     }
     after(at, part.len())
 }

@@ -10,6 +10,7 @@ use lib.Seq.{length-take-le, drop-drop}
 use lib.Dec.{eqb, T, eqb→eq}
 use mir.Val.{bool_byte}
 use borrow.Author.Tests.{le-leb, lt-ltb, eq-eqb}
+use Rattle.refusal.specs.declared.Refusal.TheVariants.{Meaningless}
 use Rattle.octets.specs.Runs.{between}
 use Rattle.octets.specs.Sets.{has_bit}
 use Rattle.octets.specs.LittleEndian.{little_endian, number_of, width}
@@ -144,7 +145,7 @@ module _ (name value : List ℕ) (short : length name < width 2) where
       )
 
 -- an item has its own kind
-own-kind : (i : Item) → meant (kind_of i) (i ∷ []) ≡ cond (is_item i) (means i) (refused 24)
+own-kind : (i : Item) → meant (kind_of i) (i ∷ []) ≡ cond (is_item i) (means i) (refused Meaningless)
 unfolding meant
 own-kind i = rw (eq-eqb (kind_of i) (kind_of i) refl)
 
@@ -161,7 +162,7 @@ content-back (setting name value) e = go (same name zone_name)
     go true = ap (meant 4) (setting-back name value e)
     go false = ap (meant 3) (setting-back name value e)
 
-pub body_back : (i : Item) → Encodable i → content_of (kind_of i) (body_of i) ≡ cond (is_item i) (means i) (refused 24)
+pub body_back : (i : Item) → Encodable i → content_of (kind_of i) (body_of i) ≡ cond (is_item i) (means i) (refused Meaningless)
 body_back i e = content-back i e ∙ own-kind i
 
 -- ---- a body that means an item is that item's

@@ -11,7 +11,7 @@ use Rattle.field.specs.declared.Dialect.{Dialect}
 use Rattle.line.specs.declared.time.When.{When}
 use Rattle.line.specs.declared.time.When.TheVariants.{Reboot, Timed}
 use Rattle.crontab.specs.declared.item.Item as line
-use Rattle.crontab.specs.declared.item.Item.TheVariants.{Nothing, Setting, Entry, Refused}
+use Rattle.crontab.specs.declared.item.Item.TheVariants.{Nothing, Setting, Entry}
 use Rattle.crontab.specs.Limits.{max_table}
 use Rattle.crontab.specs.Items.{Items}
 use Rattle.line.specs.Assignments.{part_bytes}
@@ -20,7 +20,7 @@ use Rattle.crontab.specs.Tables.{table_of}
 use Rattle.normal.specs.Meanings.{entry_item, of_user, meanings, meaning_of}
 use Rattle.normal.specs.Texts.{fits}
 use Rattle.normal.specs.Inner.{PartOf, Within, form_for, text_refusal}
-use Rattle.normal.proofs.Walks.{Kept, InParts}
+use Rattle.normal.proofs.Walks.{InParts}
 use Rattle.normal.proofs.Forms.{by-refusals}
 use Rattle.records.specs.Formats.{records_of}
 use Rattle.records.specs.Calls.{compiled}
@@ -29,13 +29,12 @@ use Rattle.records.proofs.Packing.{setting-length, boot-length, timed-length}
 
 -- ---- line by line
 
-given-record : (s : List ℕ) (n : ℕ) (later : Items) (x : line.Item) → Kept x
+given-record : (s : List ℕ) (n : ℕ) (later : Items) (x : line.Item)
     → record_part s x ++ records_of (meanings s later) ≡ records_of (meanings s (given n x later))
 unfolding given record_part meanings records_of
-given-record s n later Nothing kept = refl
-given-record s n later (Setting name value) kept = refl
-given-record s n later (Entry e) kept = refl
-given-record s n later (Refused f) kept = absurd kept
+given-record s n later Nothing = refl
+given-record s n later (Setting name value) = refl
+given-record s n later (Entry e) = refl
 
 pub record-parts : (s : List ℕ) → InParts s (record_part s) records_of
 unfolding records_of
@@ -57,10 +56,9 @@ module _ (s : List ℕ) (short : length s ≤ max_table) where
       go : (when : When) → e.when ≡ when → length (between s e.start e.end) ≤ max_table → length (item_record (entry_item e.when (between s e.start e.end))) ≤ 2 * max_table + 24
       go Reboot is h = omega (arith, boot-length e.when (between s e.start e.end) is)
       go (Timed x) is h = omega (arith, timed-length e.when (between s e.start e.end) is)
-  record-short (Refused f) w = omega arith
 
 -- ---- what comes back
 
 pub compiled-is : (d : Dialect) (s buffer : List ℕ) → compiled d s buffer ≡ form_for (text_refusal d s) (records_of (meaning_of d s)) buffer
 unfolding compiled text_refusal
-compiled-is d s buffer = by-refusals (table_of (of_user d) s).refusal (fits (meaning_of d s)) (records_of (meaning_of d s)) buffer
+compiled-is d s buffer = by-refusals (table_of (of_user d) s) (fits (meaning_of d s)) (records_of (meaning_of d s)) buffer

@@ -1,6 +1,9 @@
 -- Records one after the other, of any number and length: a good list is read in front of whatever comes after it, which then says what it says alone, with
 -- later numbers; what each kind of bad record is refused for; and what the two calls answer, for any bytes and buffers.
 -- Assumes nothing.
+use Rattle.refusal.specs.declared.Refusal.{Refusal}
+use Rattle.refusal.specs.declared.Refusal.TheVariants.{CutShort, UnknownKind, TooLong, TooShort, TooManyEntries}
+use Rattle.std.specs.Prelude.{Some, None, Ok, Err}
 use mathlib.Core.Path.{◌≡◌, refl, ap, ◌∙◌}
 use mathlib.Core.Bool.{true, false, cond, and-eq-true_iff}
 use mathlib.Core.List.{List, [], ◌∷◌, ◌++◌, append_assoc}
@@ -14,16 +17,17 @@ use Rattle.octets.specs.OverFront.{over_front}
 use Rattle.octets.specs.Runs.{between}
 use Rattle.octets.specs.LittleEndian.{number_of}
 use Rattle.field.specs.declared.Dialect.{Dialect}
-use Rattle.crontab.specs.Tables.{table_of}
-use Rattle.normal.specs.declared.NormalAnswer.TheVariants.{Written, Refused}
+use Rattle.crontab.specs.declared.table.TableFault.{TableFault}
+use Rattle.crontab.specs.Tables.{table_of, refusal_in}
 use Rattle.normal.specs.Meanings.{Item, entries_in, of_user, meaning_of}
 use Rattle.normal.specs.Texts.{normal_text, fits}
 use Rattle.normal.specs.Proper.{is_item, are_items}
-use Rattle.normal.specs.NormalForms.{refused_form, form_over_front, form_of}
+use Rattle.normal.specs.NormalForms.{refused_form, form_over_front, form_of, unless_refused}
+use Rattle.normal.proofs.Forms.{unless-good}
 use Rattle.records.specs.Formats.{record_of, kind_of, body_of, records_of}
 use Rattle.records.specs.Readings.{number_at, length_at, is_skipped, Records, Content, skipped, refused, means, content_of, is_cut, split, Decoded, after_record, decode_from, decode, decoded_items, decoded_refusal, decoded_fault}
 use Rattle.records.specs.Readings as said
-use Rattle.records.specs.Calls.{compiled, text_of, decompiled, record_fault}
+use Rattle.records.specs.Calls.{compiled, text_of, unless_bad, decompiled, record_fault}
 use Rattle.records.specs.Writers.{longest_body, Framed}
 use Rattle.records.proofs.Bodies.{body_back}
 use Rattle.records.proofs.Means.{encodable}
@@ -89,7 +93,7 @@ later-fault k n (said.next kind body later) h =
         → decoded_fault (after_record (n + k) c (decode_from (n + k + 1) later))
         ≡ cond (eqb (decoded_fault (after_record n c (decode_from (n + 1) later))) 0) 0 (k + decoded_fault (after_record n c (decode_from (n + 1) later)))
     go skipped e = e
-    go (refused number) e = rw (ne_eqb n 0 (λ q. omega (arith, q))) (omega arith)
+    go (refused refusal) e = rw (ne_eqb n 0 (λ q. omega (arith, q))) (omega arith)
     go (means i) e = e
 
 -- the records of any items that lines can mean, in front of any bytes: the items, and then those of the bytes; the bytes' refusal; and its record counts on
@@ -107,31 +111,31 @@ records-joined is tail proper h =
       ap decoded_fault e ∙ then-fault is x ∙ later-fault (length is) 1 (split tail) (omega arith),
     )
 
--- ---- bad records: 22 by the two bytes of the length, 23 by the kind
+-- ---- bad records: R22 by the two bytes of the length, R23 by the kind
 
 length-is : (a b : ℕ) (s : List ℕ) → length_at (a ∷ b ∷ s) ≡ a + 256 * b
 unfolding number_at between number_of
 length-is a b s = omega arith
 
-cut-decoded : (n : ℕ) (s : List ℕ) → 0 < length s → is_cut s ≡ true → decode_from n (split s) ≡ said.fault 22 n
+cut-decoded : (n : ℕ) (s : List ℕ) → 0 < length s → is_cut s ≡ true → decode_from n (split s) ≡ said.fault CutShort n
 unfolding decode_from
 cut-decoded n s h e = rw (split-cut s h e) refl
 
 -- no length
-pub cut-one : (n b : ℕ) → decode_from n (split (b ∷ [])) ≡ said.fault 22 n
+pub cut-one : (n b : ℕ) → decode_from n (split (b ∷ [])) ≡ said.fault CutShort n
 cut-one n b = cut-decoded n (b ∷ []) (omega arith) (cut-none (b ∷ []) (omega arith))
 
 -- one below 2
-pub cut_below : (n a b : ℕ) (s : List ℕ) → a + 256 * b < 2 → decode_from n (split (a ∷ b ∷ s)) ≡ said.fault 22 n
+pub cut_below : (n a b : ℕ) (s : List ℕ) → a + 256 * b < 2 → decode_from n (split (a ∷ b ∷ s)) ≡ said.fault CutShort n
 cut_below n a b s h = cut-decoded n (a ∷ b ∷ s) (omega arith) (cut_small (a ∷ b ∷ s) (omega (arith, length-is a b s)))
 
 -- fewer bytes than it says
-pub cut_short_lem : (n a b : ℕ) (s : List ℕ) → length s < a + 256 * b → decode_from n (split (a ∷ b ∷ s)) ≡ said.fault 22 n
+pub cut_short_lem : (n a b : ℕ) (s : List ℕ) → length s < a + 256 * b → decode_from n (split (a ∷ b ∷ s)) ≡ said.fault CutShort n
 cut_short_lem n a b s h = cut-decoded n (a ∷ b ∷ s) (omega arith) (cut-past (a ∷ b ∷ s) (omega (arith, length-is a b s)))
 
 -- a kind below 32,768 that isn't 1 to 4, and one from there on, whatever the body and whatever comes after it
 module _ (n kind : ℕ) (body rest : List ℕ) (short : length body ≤ longest_body) where
-  pub kind-unknown : kind < 32768 → (1 ≤ kind → kind ≤ 4 → ⊥) → decode_from n (split (record_of kind body ++ rest)) ≡ said.fault 23 n
+  pub kind-unknown : kind < 32768 → (1 ≤ kind → kind ≤ 4 → ⊥) → decode_from n (split (record_of kind body ++ rest)) ≡ said.fault UnknownKind n
   unfolding after_record is_skipped
   kind-unknown h other =
       decoded-record n (record { kind = kind; body = body }) rest (record { kind = omega arith; body = short })
@@ -149,47 +153,47 @@ module _ (d : Dialect) (s buffer : List ℕ) where
   abbrev sent : List ℕ
   sent = records_of (meaning_of d s)
 
-  pub compile-refuses : ((table_of (of_user d) s).refusal ≡ 0 → ⊥) → compiled d s buffer ≡ record { answer = Refused (table_of (of_user d) s).refusal; buffer = buffer }
-  unfolding compiled refused_form
-  compile-refuses n = rw (ne_eqb (table_of (of_user d) s).refusal 0 n) refl
+  pub compile-refuses : (f : TableFault) → table_of (of_user d) s ≡ Err f → compiled d s buffer ≡ record { answer = Err f.refusal; buffer = buffer }
+  unfolding compiled unless_refused refused_form
+  compile-refuses f e = rw e refl
 
-  module _ (good : (table_of (of_user d) s).refusal ≡ 0) where
-    pub compile-too-long : fits (meaning_of d s) ≡ false → compiled d s buffer ≡ record { answer = Refused 21; buffer = buffer }
+  module _ (good : refusal_in (table_of (of_user d) s) ≡ 0) where
+    pub compile-too-long : fits (meaning_of d s) ≡ false → compiled d s buffer ≡ record { answer = Err TooLong; buffer = buffer }
     unfolding compiled refused_form
-    compile-too-long f = rw (good, f) refl
+    compile-too-long f = unless-good (table_of (of_user d) s) _ buffer good ∙ rw f refl
 
-    pub compile-no-room : fits (meaning_of d s) ≡ true → length buffer < length sent → compiled d s buffer ≡ record { answer = Refused 18; buffer = buffer }
+    pub compile-no-room : fits (meaning_of d s) ≡ true → length buffer < length sent → compiled d s buffer ≡ record { answer = Err TooShort; buffer = buffer }
     unfolding compiled form_over_front refused_form
-    compile-no-room f h = rw (good, f, lt-leb (length sent) (length buffer) h) refl
+    compile-no-room f h = unless-good (table_of (of_user d) s) _ buffer good ∙ rw (f, lt-leb (length sent) (length buffer) h) refl
 
     pub compile-writes : fits (meaning_of d s) ≡ true → length sent ≤ length buffer
-        → compiled d s buffer ≡ record { answer = Written (length sent); buffer = sent ++ drop (length sent) buffer }
+        → compiled d s buffer ≡ record { answer = Ok (length sent); buffer = sent ++ drop (length sent) buffer }
     unfolding compiled form_over_front over_front
-    compile-writes f h = rw (good, f, le-leb (length sent) (length buffer) h) refl
+    compile-writes f h = unless-good (table_of (of_user d) s) _ buffer good ∙ rw (f, le-leb (length sent) (length buffer) h) refl
 
 module _ (s buffer : List ℕ) where
   abbrev items : List Item
   items = decoded_items (decode s)
 
-  pub decompile-refuses : (decoded_refusal (decode s) ≡ 0 → ⊥) → decompiled s buffer ≡ record { answer = Refused (decoded_refusal (decode s)); buffer = buffer }
-  unfolding decompiled refused_form
-  decompile-refuses n = rw (ne_eqb (decoded_refusal (decode s)) 0 n) refl
+  pub decompile-refuses : (refusal : Refusal) → decoded_refusal (decode s) ≡ Some refusal → decompiled s buffer ≡ record { answer = Err refusal; buffer = buffer }
+  unfolding decompiled unless_bad refused_form
+  decompile-refuses refusal e = rw e refl
 
-  module _ (good : decoded_refusal (decode s) ≡ 0) where
-    pub decompile-too-many : 512 < entries_in items → decompiled s buffer ≡ record { answer = Refused 12; buffer = buffer }
-    unfolding decompiled text_of refused_form
+  module _ (good : decoded_refusal (decode s) ≡ None) where
+    pub decompile-too-many : 512 < entries_in items → decompiled s buffer ≡ record { answer = Err TooManyEntries; buffer = buffer }
+    unfolding decompiled unless_bad text_of refused_form
     decompile-too-many h = rw (good, lt-leb (entries_in items) 512 h) refl
 
     module _ (few : entries_in items ≤ 512) where
-      pub decompile-too-long : fits items ≡ false → decompiled s buffer ≡ record { answer = Refused 21; buffer = buffer }
-      unfolding decompiled text_of form_of refused_form
+      pub decompile-too-long : fits items ≡ false → decompiled s buffer ≡ record { answer = Err TooLong; buffer = buffer }
+      unfolding decompiled unless_bad text_of form_of refused_form
       decompile-too-long f = rw (good, le-leb (entries_in items) 512 few, f) refl
 
-      pub decompile-no-room : fits items ≡ true → length buffer < length (normal_text items) → decompiled s buffer ≡ record { answer = Refused 18; buffer = buffer }
-      unfolding decompiled text_of form_of form_over_front refused_form
+      pub decompile-no-room : fits items ≡ true → length buffer < length (normal_text items) → decompiled s buffer ≡ record { answer = Err TooShort; buffer = buffer }
+      unfolding decompiled unless_bad text_of form_of form_over_front refused_form
       decompile-no-room f h = rw (good, le-leb (entries_in items) 512 few, f, lt-leb (length (normal_text items)) (length buffer) h) refl
 
       pub decompile-writes : fits items ≡ true → length (normal_text items) ≤ length buffer
-          → decompiled s buffer ≡ record { answer = Written (length (normal_text items)); buffer = normal_text items ++ drop (length (normal_text items)) buffer }
-      unfolding decompiled text_of form_of form_over_front over_front
+          → decompiled s buffer ≡ record { answer = Ok (length (normal_text items)); buffer = normal_text items ++ drop (length (normal_text items)) buffer }
+      unfolding decompiled unless_bad text_of form_of form_over_front over_front
       decompile-writes f h = rw (good, le-leb (entries_in items) 512 few, f, le-leb (length (normal_text items)) (length buffer) h) refl

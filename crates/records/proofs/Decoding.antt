@@ -1,7 +1,9 @@
 -- What bytes say, record by record: items that are written are said again; records of skipped kinds say nothing; a later writer's items are said, or the
 -- bytes are refused.
 -- Assumes nothing.
+use Rattle.refusal.specs.declared.Refusal.TheVariants.{UnknownKind, Meaningless}
 use Rattle.line.specs.Words.{same as equal}
+use Rattle.std.specs.Prelude.{Some, None}
 use mathlib.Core.Path.{◌≡◌, refl, ap}
 use mathlib.Core.Bool.{Bool, true, false, cond, and-eq-true_iff}
 use mathlib.Core.List.{List, [], ◌∷◌, ◌++◌, append_assoc}
@@ -41,7 +43,7 @@ pub record Alike (a b : Decoded) : Type 0 where
 after-alike : (m n : ℕ) (c : Content) {a b : Decoded} → Alike a b → Alike (after_record m c a) (after_record n c b)
 unfolding after_record decoded_items decoded_refusal
 after-alike m n skipped x = x
-after-alike m n (refused number) x = record { items = refl; refusal = refl }
+after-alike m n (refused refusal) x = record { items = refl; refusal = refl }
 after-alike m n (means i) x = record { items = ap (λ (is : List Item). i ∷ is) x.items; refusal = x.refusal }
 
 pub from-alike : (m n : ℕ) (rs : Records) → Alike (decode_from m rs) (decode_from n rs)
@@ -85,13 +87,13 @@ pub record Shown (x : Decoded) (xs : List Sent) : Type 0 where
   pub proper : are_items (decoded_items x) ≡ true
   pub none : ChangesNone xs
 
-pub unknown : (kind : ℕ) (body : List ℕ) → is_skipped kind ≡ false → (1 ≤ kind → kind ≤ 4 → ⊥) → content_of kind body ≡ refused 23
+pub unknown : (kind : ℕ) (body : List ℕ) → is_skipped kind ≡ false → (1 ≤ kind → kind ≤ 4 → ⊥) → content_of kind body ≡ refused UnknownKind
 unfolding content_of
 unknown kind body e other =
     let past : (k : ℕ) → 1 ≤ k → k ≤ 4 → eqb kind k ≡ false = λ k low high. ne_eqb kind k (λ q. other (omega (arith, q)) (omega (arith, q))) in
     rw (e, past 1 (omega arith) (omega arith), past 2 (omega arith) (omega arith), past 3 (omega arith) (omega arith), past 4 (omega arith) (omega arith))
 
-pub sent-decoded : (n : ℕ) (xs : List Sent) → Writer xs → decoded_refusal (decode_from n (split (bytes_of (as_records xs)))) ≡ 0
+pub sent-decoded : (n : ℕ) (xs : List Sent) → Writer xs → decoded_refusal (decode_from n (split (bytes_of (as_records xs)))) ≡ None
     → Shown (decode_from n (split (bytes_of (as_records xs)))) xs
 unfolding bytes_of as_records as_record items_sent decode_from decoded_items decoded_refusal are_items meant after_record
 sent-decoded n [] h e = rw split-none (record { items = refl; proper = refl; none = tt })
@@ -102,12 +104,12 @@ sent-decoded n (same i ∷ xs) h e =
     later : Decoded
     later = decode_from (n + 1) (split (bytes_of (as_records xs)))
 
-    go : (t : Bool) → is_item i ≡ t → decoded_refusal (after_record n (cond t (means i) (refused 24)) later) ≡ 0 → (decoded_refusal later ≡ 0 → Shown later xs)
-        → Shown (after_record n (cond t (means i) (refused 24)) later) (same i ∷ xs)
+    go : (t : Bool) → is_item i ≡ t → decoded_refusal (after_record n (cond t (means i) (refused Meaningless)) later) ≡ None → (decoded_refusal later ≡ None → Shown later xs)
+        → Shown (after_record n (cond t (means i) (refused Meaningless)) later) (same i ∷ xs)
     go true p e more =
         let m = more e in
         record { items = ap (λ (is : List Item). i ∷ is) m.items; proper = rw p m.proper; none = m.none }
-    go false p e more = absurd (omega (arith, e))
+    go false p e more = cc
 sent-decoded n (new r ∷ xs) h e =
     rw (decoded-record n r (bytes_of (as_records xs)) h.1)
     (go (is_skipped r.kind) refl (rw (decoded-record n r (bytes_of (as_records xs)) h.1) at e) (sent-decoded (n + 1) xs h.2))
@@ -115,20 +117,20 @@ sent-decoded n (new r ∷ xs) h e =
     later : Decoded
     later = decode_from (n + 1) (split (bytes_of (as_records xs)))
 
-    go : (t : Bool) → is_skipped r.kind ≡ t → decoded_refusal (after_record n (content_of r.kind r.body) later) ≡ 0
-        → (decoded_refusal later ≡ 0 → Shown later xs) → Shown (after_record n (content_of r.kind r.body) later) (new r ∷ xs)
+    go : (t : Bool) → is_skipped r.kind ≡ t → decoded_refusal (after_record n (content_of r.kind r.body) later) ≡ None
+        → (decoded_refusal later ≡ None → Shown later xs) → Shown (after_record n (content_of r.kind r.body) later) (new r ∷ xs)
     go true p e more =
         let c = skipped-content r.kind r.body p in
         let m = more (rw c at e) in
         rw c (record { items = m.items; proper = m.proper; none = (skipped-kind r.kind p, m.none) })
-    go false p e more = absurd (omega (arith, rw (unknown r.kind r.body p h.0) at e))
+    go false p e more = let z : Some UnknownKind ≡ None = rw (unknown r.kind r.body p h.0) at e in cc
 
 -- ---- what is written
 
 -- it says these items, and isn't refused
 pub record Says (x : Decoded) (is : List Item) : Type 0 where
   pub items : decoded_items x ≡ is
-  pub refusal : decoded_refusal x ≡ 0
+  pub refusal : decoded_refusal x ≡ None
 
 abbrev pub Sendable : List Item → Type 0
 Sendable [] = Unit {0}

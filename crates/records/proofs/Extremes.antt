@@ -1,6 +1,8 @@
 -- The theorems of records, each used where it says most: each of the four kinds and both directions, the second dialect, any buffers, a list with
 -- every kind of record and bytes after it. A theorem that said less would not give these.
 -- Assumes nothing.
+use Rattle.refusal.specs.declared.Refusal.TheVariants.{Meaningless}
+use Rattle.std.specs.Prelude.{Ok}
 use mathlib.Core.Path.{◌≡◌, refl}
 use mathlib.Core.Bool.{true, false}
 use mathlib.Core.List.{List, [], ◌∷◌, ◌++◌}
@@ -10,8 +12,7 @@ use lib.ListN.{length, take, replicate}
 use Rattle.octets.specs.Texts.{text}
 use Rattle.octets.proofs.LittleEndian.{Bytes}
 use Rattle.field.specs.declared.Dialect.TheVariants.{Rising, Wrapping}
-use Rattle.crontab.specs.Tables.{table_of}
-use Rattle.normal.specs.declared.NormalAnswer.TheVariants.{Written}
+use Rattle.crontab.specs.Tables.{table_of, refusal_in}
 use Rattle.normal.specs.Meanings.{Item, setting, boot, timed, of_user, meaning_of}
 use Rattle.normal.specs.Texts.{normal_text}
 use Rattle.normal.specs.NormalForms.{normal_form}
@@ -24,15 +25,15 @@ use Rattle.records.proofs.Theorems.{means-no-line, decompile-compile, decompile-
 -- ---- means-no-line: of each kind, in the second dialect, for every body that a record can have
 
 module _ (body : List ℕ) (bytes : Bytes body) (short : length body ≤ 65533) where
-  -- 24, and no line means it
+  -- R24, and no line means it
   abbrev NoLine : ℕ → Type 0
   NoLine kind = (line : List ℕ) → LineMeans Wrapping kind body line → ⊥
 
   pub no-line-used :
-      (content_of 1 body ≡ refused 24 → NoLine 1)
-      × (content_of 2 body ≡ refused 24 → NoLine 2)
-      × (content_of 3 body ≡ refused 24 → NoLine 3)
-      × (content_of 4 body ≡ refused 24 → NoLine 4)
+      (content_of 1 body ≡ refused Meaningless → NoLine 1)
+      × (content_of 2 body ≡ refused Meaningless → NoLine 2)
+      × (content_of 3 body ≡ refused Meaningless → NoLine 3)
+      × (content_of 4 body ≡ refused Meaningless → NoLine 4)
   no-line-used = (
     (means-no-line Wrapping 1 body bytes short (omega arith) (omega arith)).0,
     (means-no-line Wrapping 2 body bytes short (omega arith) (omega arith)).0,
@@ -41,10 +42,10 @@ module _ (body : List ℕ) (bytes : Bytes body) (short : length body ≤ 65533) 
   )
 
   pub no-line-refused :
-      (NoLine 1 → content_of 1 body ≡ refused 24)
-      × (NoLine 2 → content_of 2 body ≡ refused 24)
-      × (NoLine 3 → content_of 3 body ≡ refused 24)
-      × (NoLine 4 → content_of 4 body ≡ refused 24)
+      (NoLine 1 → content_of 1 body ≡ refused Meaningless)
+      × (NoLine 2 → content_of 2 body ≡ refused Meaningless)
+      × (NoLine 3 → content_of 3 body ≡ refused Meaningless)
+      × (NoLine 4 → content_of 4 body ≡ refused Meaningless)
   no-line-refused = (
     (means-no-line Wrapping 1 body bytes short (omega arith) (omega arith)).1,
     (means-no-line Wrapping 2 body bytes short (omega arith) (omega arith)).1,
@@ -54,7 +55,7 @@ module _ (body : List ℕ) (bytes : Bytes body) (short : length body ≤ 65533) 
 
 -- ---- decompile-compile, compile-decompile: any table of the second dialect, and any buffers
 
-module _ (s records texts again : List ℕ) (size : ℕ) (wrote : (compiled Wrapping s records).answer ≡ Written size) where
+module _ (s records texts again : List ℕ) (size : ℕ) (wrote : (compiled Wrapping s records).answer ≡ Ok size) where
   abbrev sent : List ℕ
   sent = take size (compiled Wrapping s records).buffer
 
@@ -62,11 +63,11 @@ module _ (s records texts again : List ℕ) (size : ℕ) (wrote : (compiled Wrap
   decompile-used = decompile-compile Wrapping s records texts size wrote
 
   -- where there is just enough room
-  pub decompile-just : length texts ≡ length (normal_text (meaning_of Wrapping s)) → (decompiled sent texts).answer ≡ Written (length texts)
+  pub decompile-just : length texts ≡ length (normal_text (meaning_of Wrapping s)) → (decompiled sent texts).answer ≡ Ok (length texts)
   decompile-just e = rw e (decompile-written Wrapping s records texts size wrote (omega (arith, e)))
 
   -- the text, compiled in the first dialect, gives the same records
-  pub compile-used : (size' : ℕ) → (decompiled sent texts).answer ≡ Written size' → compiled Rising (take size' (decompiled sent texts).buffer) again ≡ compiled Wrapping s again
+  pub compile-used : (size' : ℕ) → (decompiled sent texts).answer ≡ Ok size' → compiled Rising (take size' (decompiled sent texts).buffer) again ≡ compiled Wrapping s again
   compile-used size' e = compile-decompile Wrapping Rising s records texts again size size' wrote e
 
 -- ---- a list with every kind of record: 1 to 4, two that are skipped, the first and the last of those
@@ -126,14 +127,14 @@ every-kept = (
 )
 
 -- it is read, in just enough room, to its settings and entries
-pub every-read : let f = decompiled (bytes_of (as_records every)) (replicate 48 0) in (f.answer ≡ Written 48) × (f.buffer ≡ every_text)
+pub every-read : let f = decompiled (bytes_of (as_records every)) (replicate 48 0) in (f.answer ≡ Ok 48) × (f.buffer ≡ every_text)
 unfolding as_records as_record bytes_of coding
 every-read = (refl, refl)
 
 -- later-writer: whatever the buffer, what is shown means them in the second dialect too
-pub later-used : (buffer : List ℕ) (size : ℕ) → (decompiled (bytes_of (as_records every)) buffer).answer ≡ Written size
+pub later-used : (buffer : List ℕ) (size : ℕ) → (decompiled (bytes_of (as_records every)) buffer).answer ≡ Ok size
     → let shown = take size (decompiled (bytes_of (as_records every)) buffer).buffer in
-    ((table_of (of_user Wrapping) shown).refusal ≡ 0)
+    (refusal_in (table_of (of_user Wrapping) shown) ≡ 0)
     × (meaning_of Wrapping shown ≡ setting (text "A B") (text " c") ∷ boot (text "y") ∷ setting (text "CRON_TZ") (text "-12:00") ∷ daily ∷ [])
 unfolding items_sent
 later-used buffer size e = let w = later-writer Wrapping every buffer size every-kept e in (w.0, w.1)

@@ -27,7 +27,7 @@ none-bad n (said.next kind body later) h = go (content_of kind body) (none-bad (
         → (decoded_fault (after_record n c (decode_from (n + 1) later)) ≡ 0 → NotBad c × NoneBad later)
         × (NotBad c × NoneBad later → decoded_fault (after_record n c (decode_from (n + 1) later)) ≡ 0)
     go skipped more = (λ e. (tt, more.0 e), λ b. more.1 b.1)
-    go (refused number) more = (λ e. absurd (omega arith), λ b. absurd b.0)
+    go (refused refusal) more = (λ e. absurd (omega arith), λ b. absurd b.0)
     go (means i) more = (λ e. (tt, more.0 e), λ b. more.1 b.1)
 
 pub fault-none : (s : List ℕ) → (record_fault s ≡ 0 → NoneBad (split s)) × (NoneBad (split s) → record_fault s ≡ 0)
@@ -76,7 +76,7 @@ lower-tail m n (said.next kind body later) = go (content_of kind body) (next (lo
     go : (c : Content) → Lowered m n [] (decoded_fault (decode_from (m + 1) later)) (decoded_fault (decode_from (n + 1) later))
         → Lowered m n [] (decoded_fault (after_record m c (decode_from (m + 1) later))) (decoded_fault (after_record n c (decode_from (n + 1) later)))
     go skipped more = more
-    go (refused number) more = lower-here m n []
+    go (refused refusal) more = lower-here m n []
     go (means i) more = more
 
 lowered : (m n : ℕ) (rs : List Record) (tail : List ℕ) → All Framed rs
@@ -96,7 +96,7 @@ lowered m n (r ∷ rs) tail h =
     judged : (c : Content) → leb skipped_from r.kind ≡ false → Lowered (m + 1) (n + 1) rs (decoded_fault left) (decoded_fault (right (n + 1)))
         → Lowered m n (r ∷ rs) (decoded_fault (after_record m c left)) (decoded_fault (after_record n c (right (n + 1))))
     judged skipped k more = past-kept m n r rs _ _ k more
-    judged (refused number) k more = lower-here m n (r ∷ rs)
+    judged (refused refusal) k more = lower-here m n (r ∷ rs)
     judged (means i) k more = past-kept m n r rs _ _ k more
 
     go : (t : Bool) → is_skipped r.kind ≡ t → ((k : ℕ) → Lowered (m + 1) k rs (decoded_fault left) (decoded_fault (right k)))

@@ -6,6 +6,7 @@ pub mod Faults
 pub mod Packing
 pub mod Compiling
 pub mod Readers
+pub mod RecordRefusals
 pub mod Decompiling
 pub mod ByteLayout
 pub mod Composition

@@ -1,6 +1,7 @@
 -- The theorems of records for any number of them: n records of skipped kinds, n entries, n faults later. A theorem that held for a few records alone would not
 -- give these.
 -- Assumes nothing.
+use Rattle.std.specs.Prelude.{Ok}
 use mathlib.Core.Path.{◌≡◌, refl, ap, ◌∙◌}
 use mathlib.Core.Bool.{true}
 use mathlib.Core.List.{List, [], ◌∷◌, ◌++◌, append_assoc}
@@ -10,8 +11,7 @@ use native.Mathlib.Nat.{add-zero}
 use lib.ListN.{length, take}
 use Rattle.octets.specs.Texts.{text}
 use Rattle.field.specs.declared.Dialect.{Dialect}
-use Rattle.crontab.specs.Tables.{table_of}
-use Rattle.normal.specs.declared.NormalAnswer.TheVariants.{Written}
+use Rattle.crontab.specs.Tables.{table_of, refusal_in}
 use Rattle.normal.specs.Meanings.{Item, boot, of_user, meaning_of}
 use Rattle.normal.specs.Proper.{are_items}
 use Rattle.records.specs.Formats.{record_of, records_of}
@@ -125,8 +125,8 @@ unfolding items_sent
 sends_items zero = refl
 sends_items (suc n) = ap (λ (is : List Item). boot (text "y") ∷ is) (sends_items n)
 
-pub later-many : (d : Dialect) (n : ℕ) (buffer : List ℕ) (size : ℕ) → (decompiled (bytes_of (as_records (sends n))) buffer).answer ≡ Written size
-    → let shown = take size (decompiled (bytes_of (as_records (sends n))) buffer).buffer in ((table_of (of_user d) shown).refusal ≡ 0) × (meaning_of d shown ≡ sent_items n)
+pub later-many : (d : Dialect) (n : ℕ) (buffer : List ℕ) (size : ℕ) → (decompiled (bytes_of (as_records (sends n))) buffer).answer ≡ Ok size
+    → let shown = take size (decompiled (bytes_of (as_records (sends n))) buffer).buffer in (refusal_in (table_of (of_user d) shown) ≡ 0) × (meaning_of d shown ≡ sent_items n)
 later-many d n buffer size e = let w = later-writer d (sends n) buffer size (sends-kept n) e in (w.0, w.1 ∙ sends_items n)
 
 -- ---- records-joined: n entries in front of a bad record, which is the n + 1st

@@ -1,4 +1,4 @@
--- What a record means: a body has at most the one item whose body it is, and is refused with 24 exactly where no line means it.
+-- What a record means: a body has at most the one item whose body it is, and is refused with R24 exactly where no line means it.
 -- Assumes nothing.
 use mathlib.Core.Path.{◌≡◌, refl, sym, ap, ◌∙◌}
 use mathlib.Core.Bool.{Bool, true, false, cond, ◌&&◌, ◌||◌, false≢true, and-eq-true_iff}
@@ -9,6 +9,7 @@ use native.Mathlib.Omega.{arith}
 use lib.ListN.{length, drop, length-append}
 use lib.Dec.{eqb, leb, ltb}
 use borrow.Author.Tests.{lt-leb, leb-true, ltb-true, eqb-true, eqb-false}
+use Rattle.refusal.specs.declared.Refusal.TheVariants.{UnknownKind, Meaningless}
 use Rattle.octets.specs.declared.class.Class.TheVariants.{InLine}
 use Rattle.octets.specs.Runs.{are_of, between}
 use Rattle.octets.proofs.LittleEndian.{Bytes, length-little_endian}
@@ -46,7 +47,7 @@ meant-one : (kind : ℕ) (x i : Item) → meant kind (x ∷ []) ≡ means i → 
 unfolding meant
 meant-one kind x i e = go (eqb (kind_of x) kind) (is_item x) refl refl e
   where
-    go : (a b : Bool) → eqb (kind_of x) kind ≡ a → is_item x ≡ b → cond (a && b) (means x) (refused 24) ≡ means i → (is_item i ≡ true) × (x ≡ i) × (kind_of i ≡ kind)
+    go : (a b : Bool) → eqb (kind_of x) kind ≡ a → is_item x ≡ b → cond (a && b) (means x) (refused Meaningless) ≡ means i → (is_item i ≡ true) × (x ≡ i) × (kind_of i ≡ kind)
     go true true k p e = let q : x ≡ i = ap (item_or i) e in (rw (← q) p, q, rw (← q) (eqb-true (kind_of x) kind k))
     go true false k p e = absurd (false≢true (ap is_meaning e))
     go false b k p e = absurd (false≢true (ap is_meaning e))
@@ -101,7 +102,7 @@ module _ (body : List ℕ) (i : Item) (bytes : Bytes body) (kind : ℕ) where
   body-of = go (is_skipped kind) (eqb kind 1) (eqb kind 2) (eqb kind 3 || eqb kind 4)
     where
       go : (a b c d : Bool)
-          → cond a skipped (cond b (meant kind (timed_in body)) (cond c (meant kind (boot body ∷ [])) (cond d (meant kind (setting_in body)) (refused 23)))) ≡ means i → Body kind body i
+          → cond a skipped (cond b (meant kind (timed_in body)) (cond c (meant kind (boot body ∷ [])) (cond d (meant kind (setting_in body)) (refused UnknownKind)))) ≡ means i → Body kind body i
       go true b c d e = absurd (false≢true (ap is_meaning e))
       go false true c d e = timed-of e
       go false false true d e = boot-of e
@@ -115,7 +116,7 @@ unfolding meant
 meant-told kind [] = inl refl
 meant-told kind (i ∷ is) = go (eqb (kind_of i) kind && is_item i)
   where
-    go : (t : Bool) → (cond t (means i) (refused 24) ≡ refused 24) ⊎ ((j : Item) × (cond t (means i) (refused 24) ≡ means j))
+    go : (t : Bool) → (cond t (means i) (refused Meaningless) ≡ refused Meaningless) ⊎ ((j : Item) × (cond t (means i) (refused Meaningless) ≡ means j))
     go true = inr (i, refl)
     go false = inl refl
 
@@ -130,8 +131,8 @@ content-told kind body low high =
     rw (kept-kind kind high) (go (eqb kind 1) (eqb kind 2) (eqb kind 3) (eqb kind 4) refl refl refl refl)
   where
     go : (a b c d : Bool) → eqb kind 1 ≡ a → eqb kind 2 ≡ b → eqb kind 3 ≡ c → eqb kind 4 ≡ d
-        → let x = cond a (meant kind (timed_in body)) (cond b (meant kind (boot body ∷ [])) (cond (c || d) (meant kind (setting_in body)) (refused 23))) in
-        (x ≡ refused 24) ⊎ ((i : Item) × (x ≡ means i))
+        → let x = cond a (meant kind (timed_in body)) (cond b (meant kind (boot body ∷ [])) (cond (c || d) (meant kind (setting_in body)) (refused UnknownKind))) in
+        (x ≡ refused Meaningless) ⊎ ((i : Item) × (x ≡ means i))
     go true b c d p q r u = meant-told kind (timed_in body)
     go false true c d p q r u = meant-told kind (boot body ∷ [])
     go false false true d p q r u = meant-told kind (setting_in body)

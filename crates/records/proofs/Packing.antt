@@ -11,9 +11,8 @@ use Rattle.octets.proofs.LittleEndian.{length-little_endian}
 use Rattle.schedule.specs.declared.Schedule.{Schedule}
 use Rattle.line.specs.declared.Part.{Part}
 use Rattle.crontab.specs.declared.entry.Entry as entry
-use Rattle.line.specs.declared.Fault.{Fault}
 use Rattle.crontab.specs.declared.item.Item as line
-use Rattle.crontab.specs.declared.item.Item.TheVariants.{Nothing, Setting, Entry, Refused}
+use Rattle.crontab.specs.declared.item.Item.TheVariants.{Nothing, Setting, Entry}
 use Rattle.line.specs.declared.time.When.{When}
 use Rattle.line.specs.declared.time.When.TheVariants.{Reboot, Timed}
 use Rattle.line.specs.Assignments.{part_bytes}
@@ -79,10 +78,6 @@ module _ (s : List ℕ) (x : line.Item) where
   pub part_none : x ≡ Nothing → record_part s x ≡ []
   unfolding record_part
   part_none is = rw is
-
-  pub part-refused : {f : Fault} → x ≡ Refused f → record_part s x ≡ []
-  unfolding record_part
-  part-refused is = rw is
 
   pub part-setting : {name value : Part} → x ≡ Setting name value → record_part s x ≡ item_record (setting (part_bytes s name) (part_bytes s value))
   unfolding record_part

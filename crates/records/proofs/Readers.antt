@@ -1,5 +1,8 @@
 -- Laws of the functions that read records: what a body holds, test by test; where a record stands; and the walk that measures.
 -- Assumes nothing.
+use Rattle.refusal.specs.declared.Refusal.{Refusal}
+use Rattle.refusal.specs.declared.Refusal.TheVariants.{CutShort, Meaningless}
+use Rattle.std.specs.Prelude.{Result, Ok, Err, IfOk}
 use mathlib.Core.Path.{◌≡◌, refl, sym, ap, ◌∙◌}
 use mathlib.Core.Bool.{Bool, true, false, cond, ◌&&◌, or-true}
 use mathlib.Core.List.{List, [], ◌∷◌, ◌++◌}
@@ -18,7 +21,7 @@ use Rattle.octets.specs.LittleEndian.{number_of}
 use Rattle.line.specs.declared.time.When.{When}
 use Rattle.line.specs.declared.time.When.TheVariants.{Reboot, Timed}
 use Rattle.records.specs.declared.body.Content as held
-use Rattle.records.specs.declared.body.Content.TheVariants.{Skipped, Entry, Setting, Refused}
+use Rattle.records.specs.declared.body.Content.TheVariants.{Skipped, Entry, Setting}
 use Rattle.records.specs.declared.record.Step.{Step}
 use Rattle.records.specs.Formats.{kind_of}
 use Rattle.records.specs.Readings.{number_at, length_at, is_cut, decode_from, after_record, schedule_at, timed_in, setting_in, refused, means, meant, content_of}
@@ -28,52 +31,52 @@ use Rattle.records.proofs.Splits.{split-cut, split-next}
 -- ---- a body
 
 module _ (body : List ℕ) where
-  pub timed-short : length body < 20 → refused 24 ≡ meant 1 (timed_in body)
+  pub timed-short : length body < 20 → refused Meaningless ≡ meant 1 (timed_in body)
   unfolding timed_in meant
   timed-short h = rw (lt-leb 20 (length body) h)
 
-  pub timed-flags : 32 ≤ number_at body 19 1 → refused 24 ≡ meant 1 (timed_in body)
+  pub timed-flags : 32 ≤ number_at body 19 1 → refused Meaningless ≡ meant 1 (timed_in body)
   unfolding timed_in meant
   timed-flags h = rw (le-ltb (number_at body 19 1) 32 h) (go (leb 20 (length body)))
     where
-      go : (t : Bool) → refused 24 ≡ meant 1 (cond (t && false) (timed (schedule_at body) (drop 20 body) ∷ []) [])
+      go : (t : Bool) → refused Meaningless ≡ meant 1 (cond (t && false) (timed (schedule_at body) (drop 20 body) ∷ []) [])
       go true = refl
       go false = refl
 
   pub timed-meant : 20 ≤ length body → number_at body 19 1 < 32 → (t : Bool) → (is_schedule (schedule_at body) && is_command (drop 20 body)) ≡ t
-      → cond t (means (timed (schedule_at body) (drop 20 body))) (refused 24) ≡ meant 1 (timed_in body)
+      → cond t (means (timed (schedule_at body) (drop 20 body))) (refused Meaningless) ≡ meant 1 (timed_in body)
   unfolding timed_in meant is_item kind_of
   timed-meant h k t e = rw (le-leb 20 (length body) h, lt-ltb (number_at body 19 1) 32 k, e)
 
-  pub setting-short : (kind : ℕ) → length body < 2 → refused 24 ≡ meant kind (setting_in body)
+  pub setting-short : (kind : ℕ) → length body < 2 → refused Meaningless ≡ meant kind (setting_in body)
   unfolding setting_in meant
   setting-short kind h = rw (lt-leb 2 (length body) h)
 
-  pub setting-past : (kind : ℕ) → length body < 2 + number_at body 0 2 → refused 24 ≡ meant kind (setting_in body)
+  pub setting-past : (kind : ℕ) → length body < 2 + number_at body 0 2 → refused Meaningless ≡ meant kind (setting_in body)
   unfolding setting_in meant
   setting-past kind h = rw (lt-leb (2 + number_at body 0 2) (length body) h) (go (leb 2 (length body)))
     where
-      go : (t : Bool) → refused 24 ≡ meant kind (cond (t && false) (setting (between body 2 (2 + number_at body 0 2)) (drop (2 + number_at body 0 2) body) ∷ []) [])
+      go : (t : Bool) → refused Meaningless ≡ meant kind (cond (t && false) (setting (between body 2 (2 + number_at body 0 2)) (drop (2 + number_at body 0 2) body) ∷ []) [])
       go true = refl
       go false = refl
 
   pub setting-meant : (kind : ℕ) → 2 + number_at body 0 2 ≤ length body
       → let value = 2 + number_at body 0 2 in
       let i = setting (between body 2 value) (drop value body) in
-      (t : Bool) → (eqb (kind_of i) kind && is_item i) ≡ t → cond t (means i) (refused 24) ≡ meant kind (setting_in body)
+      (t : Bool) → (eqb (kind_of i) kind && is_item i) ≡ t → cond t (means i) (refused Meaningless) ≡ meant kind (setting_in body)
   unfolding setting_in meant
   setting-meant kind h t e = rw (le-leb 2 (length body) (omega arith), le-leb (2 + number_at body 0 2) (length body) h, e)
 
 -- the places are those that what is found has
-places-found : (body : List ℕ) (r : held.Content) → Within body r → r ≡ places_of body (found body r)
+places-found : (body : List ℕ) (r : Result held.Content Refusal) → IfOk r (Within body) → r ≡ places_of body (found body r)
 unfolding places_of found entry_item
-places-found body Skipped h = refl
-places-found body (Refused number) h = refl
-places-found body (Entry Reboot start) h = let e : length body - length (drop start body) ≡ start = omega (arith, length-drop start body) in rw e
-places-found body (Entry (Timed s) start) h = let e : length body - length (drop start body) ≡ start = omega (arith, length-drop start body) in rw e
-places-found body (Setting value) h = let e : length body - length (drop value body) ≡ value = omega (arith, length-drop value body) in rw e
+places-found body (Ok Skipped) h = refl
+places-found body (Err refusal) h = refl
+places-found body (Ok (Entry Reboot start)) h = let e : length body - length (drop start body) ≡ start = omega (arith, length-drop start body) in rw e
+places-found body (Ok (Entry (Timed s) start)) h = let e : length body - length (drop start body) ≡ start = omega (arith, length-drop start body) in rw e
+places-found body (Ok (Setting value)) h = let e : length body - length (drop value body) ≡ value = omega (arith, length-drop value body) in rw e
 
-pub body_is : (kind : ℕ) (body : List ℕ) (r : held.Content) → found body r ≡ content_of kind body → Within body r → BodyIs kind body r
+pub body_is : (kind : ℕ) (body : List ℕ) (r : Result held.Content Refusal) → found body r ≡ content_of kind body → IfOk r (Within body) → BodyIs kind body r
 body_is kind body r e h = record { is = places-found body r h ∙ rw e; gives = e; parts = h }
 
 -- the rest of a body, as a part of it
@@ -108,7 +111,7 @@ module _ (s : List ℕ) where
   cut-not low fit = rw (le-ltb (length s) 2 (omega arith), le-ltb (length_at s) 2 low, le-ltb (length s) (2 + length_at s) fit)
 
 step-parts : (r q : Step) → r.content ≡ q.content → r.start ≡ q.start → r.end ≡ q.end → r ≡ q
-step-parts r q c a e = ap (λ (x : held.Content). record { content = x; start = r.start; end = r.end }) c
+step-parts r q c a e = ap (λ (x : Result held.Content Refusal). record { content = x; start = r.start; end = r.end }) c
     ∙ ap (λ (x : ℕ). record { content = q.content; start = x; end = r.end }) a
     ∙ ap (λ (x : ℕ). record { content = q.content; start = q.start; end = x }) e
 
@@ -116,7 +119,7 @@ module _ (s : List ℕ) (at : ℕ) (r : Step) (some : at < length s) where
   left : length (drop at s) ≡ length s - at
   left = length-drop at s
 
-  pub cut_step_lem : is_cut (drop at s) ≡ true → r.content ≡ Refused 22 → r.start ≡ length s → r.end ≡ length s → StepIs s at r
+  pub cut_step_lem : is_cut (drop at s) ≡ true → r.content ≡ Err CutShort → r.start ≡ length s → r.end ≡ length s → StepIs s at r
   unfolding found decode_from after_record step_at
   cut_step_lem cut c a e =
       record {
@@ -171,10 +174,6 @@ module _ (body : List ℕ) (x : held.Content) where
   pub found_none : x ≡ Skipped → line_found body x ≡ []
   unfolding line_found
   found_none e = rw e
-
-  pub found-refused : {number : ℕ} → x ≡ Refused number → line_found body x ≡ []
-  unfolding line_found
-  found-refused e = rw e
 
   module _ {when : When} {start : ℕ} (e : x ≡ Entry when start) where
     pub entry-within : Within body x → start ≤ length body

@@ -1,5 +1,8 @@
 -- The laws of records' bytes and of the two calls, for any sets and any buffers, and at each set's last value; what they need is all that is said here.
 -- Assumes nothing.
+use Rattle.refusal.specs.declared.Refusal.{Refusal}
+use Rattle.refusal.specs.declared.Refusal.TheVariants.{TooLong, TooShort, TooManyEntries}
+use Rattle.std.specs.Prelude.{Option, Some, None, Ok, Err}
 use mathlib.Core.Path.{◌≡◌, ◌∙◌}
 use mathlib.Core.Bool.{Bool, true, false}
 use mathlib.Core.List.{List, ◌++◌}
@@ -11,8 +14,8 @@ use Rattle.octets.specs.Sets.{has_bit}
 use Rattle.field.specs.declared.Dialect.{Dialect}
 use Rattle.field.specs.declared.Dialect.TheVariants.{Wrapping}
 use Rattle.schedule.specs.declared.Schedule.{Schedule}
-use Rattle.crontab.specs.Tables.{table_of}
-use Rattle.normal.specs.declared.NormalAnswer.TheVariants.{Written, Refused}
+use Rattle.crontab.specs.declared.table.TableFault.{TableFault}
+use Rattle.crontab.specs.Tables.{table_of, refusal_in}
 use Rattle.normal.specs.Meanings.{setting, boot, timed, entries_in, of_user, meaning_of}
 use Rattle.normal.specs.Texts.{normal_text, fits}
 use Rattle.records.specs.Formats.{record_of, body_of, records_of}
@@ -79,22 +82,22 @@ module _ (d : Dialect) (s buffer : List ℕ) where
   sent = records_of (meaning_of d s)
 
   abbrev refusal : ℕ
-  refusal = (table_of (of_user d) s).refusal
+  refusal = refusal_in (table_of (of_user d) s)
 
   -- compile-refuses, compile-too-long, compile-no-room, compile-writes
   pub compile-used :
-      ((refusal ≡ 0 → ⊥) → compiled d s buffer ≡ record { answer = Refused refusal; buffer = buffer })
-      × (refusal ≡ 0 → fits (meaning_of d s) ≡ false → compiled d s buffer ≡ record { answer = Refused 21; buffer = buffer })
-      × (refusal ≡ 0 → fits (meaning_of d s) ≡ true → length buffer < length sent → compiled d s buffer ≡ record { answer = Refused 18; buffer = buffer })
+      ((f : TableFault) → table_of (of_user d) s ≡ Err f → compiled d s buffer ≡ record { answer = Err f.refusal; buffer = buffer })
+      × (refusal ≡ 0 → fits (meaning_of d s) ≡ false → compiled d s buffer ≡ record { answer = Err TooLong; buffer = buffer })
+      × (refusal ≡ 0 → fits (meaning_of d s) ≡ true → length buffer < length sent → compiled d s buffer ≡ record { answer = Err TooShort; buffer = buffer })
       × (refusal ≡ 0 → fits (meaning_of d s) ≡ true → length sent ≤ length buffer
-      → compiled d s buffer ≡ record { answer = Written (length sent); buffer = sent ++ drop (length sent) buffer })
+      → compiled d s buffer ≡ record { answer = Ok (length sent); buffer = sent ++ drop (length sent) buffer })
   compile-used = (compile-refuses d s buffer, compile-too-long d s buffer, compile-no-room d s buffer, compile-writes d s buffer)
 
 -- in the second dialect, with just enough room, and with a byte less
-pub compile-room : (s buffer : List ℕ) → (table_of (of_user Wrapping) s).refusal ≡ 0 → fits (meaning_of Wrapping s) ≡ true
+pub compile-room : (s buffer : List ℕ) → refusal_in (table_of (of_user Wrapping) s) ≡ 0 → fits (meaning_of Wrapping s) ≡ true
     → let sent = records_of (meaning_of Wrapping s) in
-    (length buffer ≡ length sent → compiled Wrapping s buffer ≡ record { answer = Written (length sent); buffer = sent })
-    × (length buffer + 1 ≡ length sent → compiled Wrapping s buffer ≡ record { answer = Refused 18; buffer = buffer })
+    (length buffer ≡ length sent → compiled Wrapping s buffer ≡ record { answer = Ok (length sent); buffer = sent })
+    × (length buffer + 1 ≡ length sent → compiled Wrapping s buffer ≡ record { answer = Err TooShort; buffer = buffer })
 compile-room s buffer good fit =
     let sent = records_of (meaning_of Wrapping s) in (
       (λ e. rw (fills sent buffer e) at (compile-writes Wrapping s buffer good fit (omega (arith, e)))),
@@ -105,7 +108,7 @@ module _ (s buffer : List ℕ) where
   abbrev normal : List ℕ
   normal = normal_text (decoded_items (decode s))
 
-  abbrev fault : ℕ
+  abbrev fault : Option Refusal
   fault = decoded_refusal (decode s)
 
   abbrev count : ℕ
@@ -116,18 +119,18 @@ module _ (s buffer : List ℕ) where
 
   -- decompile-refuses, decompile-too-many, decompile-too-long, decompile-no-room, decompile-writes
   pub decompile-used :
-      ((fault ≡ 0 → ⊥) → decompiled s buffer ≡ record { answer = Refused fault; buffer = buffer })
-      × (fault ≡ 0 → 512 < count → decompiled s buffer ≡ record { answer = Refused 12; buffer = buffer })
-      × (fault ≡ 0 → count ≤ 512 → whole ≡ false → decompiled s buffer ≡ record { answer = Refused 21; buffer = buffer })
-      × (fault ≡ 0 → count ≤ 512 → whole ≡ true → length buffer < length normal → decompiled s buffer ≡ record { answer = Refused 18; buffer = buffer })
-      × (fault ≡ 0 → count ≤ 512 → whole ≡ true → length normal ≤ length buffer
-      → decompiled s buffer ≡ record { answer = Written (length normal); buffer = normal ++ drop (length normal) buffer })
+      ((refusal : Refusal) → fault ≡ Some refusal → decompiled s buffer ≡ record { answer = Err refusal; buffer = buffer })
+      × (fault ≡ None → 512 < count → decompiled s buffer ≡ record { answer = Err TooManyEntries; buffer = buffer })
+      × (fault ≡ None → count ≤ 512 → whole ≡ false → decompiled s buffer ≡ record { answer = Err TooLong; buffer = buffer })
+      × (fault ≡ None → count ≤ 512 → whole ≡ true → length buffer < length normal → decompiled s buffer ≡ record { answer = Err TooShort; buffer = buffer })
+      × (fault ≡ None → count ≤ 512 → whole ≡ true → length normal ≤ length buffer
+      → decompiled s buffer ≡ record { answer = Ok (length normal); buffer = normal ++ drop (length normal) buffer })
   decompile-used = (decompile-refuses s buffer, decompile-too-many s buffer, decompile-too-long s buffer, decompile-no-room s buffer, decompile-writes s buffer)
 
   -- 512 entries, with just enough room, and with a byte less
-  pub decompile-room : fault ≡ 0 → count ≡ 512 → whole ≡ true
-      → (length buffer ≡ length normal → decompiled s buffer ≡ record { answer = Written (length normal); buffer = normal })
-      × (length buffer + 1 ≡ length normal → decompiled s buffer ≡ record { answer = Refused 18; buffer = buffer })
+  pub decompile-room : fault ≡ None → count ≡ 512 → whole ≡ true
+      → (length buffer ≡ length normal → decompiled s buffer ≡ record { answer = Ok (length normal); buffer = normal })
+      × (length buffer + 1 ≡ length normal → decompiled s buffer ≡ record { answer = Err TooShort; buffer = buffer })
   decompile-room good few fit = (
     (λ e. rw (fills normal buffer e) at (decompile-writes s buffer good (omega (arith, few)) fit (omega (arith, e)))),
     (λ e. decompile-no-room s buffer good (omega (arith, few)) fit (omega (arith, e))),

@@ -2,6 +2,7 @@
 -- lengths at their limits. In the comments `?` is the byte that is tried.
 -- Assumes nothing.
 use Rattle.std.specs.Prelude.{ℕ, ◌≡◌, refl, Bool, true, false, List, [], ◌∷◌, ◌++◌, map, replicate}
+use Rattle.refusal.specs.declared.Refusal.TheVariants.{UnknownKind, Meaningless}
 use Rattle.octets.specs.Texts.{text}
 use Rattle.octets.specs.Rows.{Hold}
 use Rattle.octets.specs.AllBytes.{Range, Lead, one, range, one_of, passing_at, trying}
@@ -15,7 +16,7 @@ use Rattle.records.specs.Computing.{coding}
 
 abbrev is_meant : Content → Bool
 is_meant skipped = false
-is_meant (refused number) = false
+is_meant (refused refusal) = false
 is_meant (means i) = true
 
 abbrev new_year : List ℕ
@@ -65,13 +66,13 @@ abbrev in_both : (ℕ × List ℕ) × List ℕ → List Content
 in_both ((size, name), value) = let body = size ∷ 0 ∷ name ++ value in content_of 3 body ∷ content_of 4 body ∷ []
 
 abbrev none : List Content
-none = refused 24 ∷ refused 24 ∷ []
+none = refused Meaningless ∷ refused Meaningless ∷ []
 
 abbrev plain : List ℕ → List ℕ → List Content
-plain name value = means (setting name value) ∷ refused 24 ∷ []
+plain name value = means (setting name value) ∷ refused Meaningless ∷ []
 
 abbrev offset : List ℕ → List Content
-offset value = refused 24 ∷ means (setting (text "CRON_TZ") value) ∷ []
+offset value = refused Meaningless ∷ means (setting (text "CRON_TZ") value) ∷ []
 
 names : Hold in_both
     ((((7, text "CRON_TZ"), text "+14:00"), offset (text "+14:00"))
@@ -108,12 +109,12 @@ long-names : Hold (content_of 3)
     ((0 ∷ 1 ∷ replicate 256 65, means (setting (replicate 256 65) []))
     ∷ (0 ∷ 1 ∷ replicate 256 65 ++ text "b", means (setting (replicate 256 65) (text "b")))
     ∷ (255 ∷ 1 ∷ replicate 511 65, means (setting (replicate 511 65) []))
-    ∷ (0 ∷ 1 ∷ replicate 255 65, refused 24)
-    ∷ (0 ∷ 1 ∷ 65 ∷ [], refused 24)
-    ∷ (1 ∷ 255 ∷ 65 ∷ [], refused 24)
-    ∷ ([], refused 24)
-    ∷ (1 ∷ [], refused 24)
-    ∷ (0 ∷ 0 ∷ [], refused 24)
+    ∷ (0 ∷ 1 ∷ replicate 255 65, refused Meaningless)
+    ∷ (0 ∷ 1 ∷ 65 ∷ [], refused Meaningless)
+    ∷ (1 ∷ 255 ∷ 65 ∷ [], refused Meaningless)
+    ∷ ([], refused Meaningless)
+    ∷ (1 ∷ [], refused Meaningless)
+    ∷ (0 ∷ 0 ∷ [], refused Meaningless)
     ∷ [])
 unfolding coding
 long-names = refl
@@ -121,18 +122,18 @@ long-names = refl
 -- ---- kinds: four that are known, and those from 32,768 on, by both of their bytes
 
 kinds : Hold (λ (kind : ℕ). content_of kind (text "x"))
-    ((0, refused 23)
-    ∷ (1, refused 24)
+    ((0, refused UnknownKind)
+    ∷ (1, refused Meaningless)
     ∷ (2, means (boot (text "x")))
-    ∷ (3, refused 24)
-    ∷ (4, refused 24)
-    ∷ (5, refused 23)
-    ∷ (255, refused 23)
-    ∷ (256, refused 23)
-    ∷ (258, refused 23)
-    ∷ (512, refused 23)
-    ∷ (32766, refused 23)
-    ∷ (32767, refused 23)
+    ∷ (3, refused Meaningless)
+    ∷ (4, refused Meaningless)
+    ∷ (5, refused UnknownKind)
+    ∷ (255, refused UnknownKind)
+    ∷ (256, refused UnknownKind)
+    ∷ (258, refused UnknownKind)
+    ∷ (512, refused UnknownKind)
+    ∷ (32766, refused UnknownKind)
+    ∷ (32767, refused UnknownKind)
     ∷ (32768, skipped)
     ∷ (32770, skipped)
     ∷ (65535, skipped)

@@ -1,11 +1,12 @@
 -- Every decision that a record's next byte makes, over all 256 bytes; and the kinds and refusals whole. In the comments `?` is the byte.
 -- In the comments `?` is the byte that is tried.
 -- Assumes nothing.
-use Rattle.std.specs.Prelude.{ℕ, ◌+◌, ◌*◌, ◌/◌, ◌%◌, ◌≡◌, refl, List, [], ◌∷◌, ◌++◌, replicate}
+use Rattle.std.specs.Prelude.{ℕ, ◌+◌, ◌*◌, ◌/◌, ◌%◌, ◌≡◌, refl, List, [], ◌∷◌, ◌++◌, replicate, Result, Ok, Err}
+use Rattle.refusal.specs.declared.Refusal.{Refusal}
+use Rattle.refusal.specs.declared.Refusal.TheVariants.{CutShort, UnknownKind, Meaningless}
+use Rattle.refusal.specs.Numbers.{number_of}
 use Rattle.octets.specs.Texts.{text}
 use Rattle.octets.specs.AllBytes.{Range, Lead, one, range, each, one_of, trying}
-use Rattle.normal.specs.declared.NormalAnswer.{NormalAnswer}
-use Rattle.normal.specs.declared.NormalAnswer.TheVariants.{Written, Refused}
 use Rattle.records.specs.Refusals.{cut_short, unknown_kind, meaningless}
 use Rattle.records.specs.Formats.{timed_kind, boot_kind, setting_kind, zone_kind}
 use Rattle.records.specs.Readings.{skipped_from}
@@ -17,39 +18,40 @@ use Rattle.records.specs.Computing.{coding}
 kinds : timed_kind ∷ boot_kind ∷ setting_kind ∷ zone_kind ∷ skipped_from ∷ [] ≡ 1 ∷ 2 ∷ 3 ∷ 4 ∷ 32768 ∷ []
 kinds = refl
 
-refusals : cut_short ∷ unknown_kind ∷ meaningless ∷ [] ≡ 22 ∷ 23 ∷ 24 ∷ []
+refusals : number_of cut_short ∷ number_of unknown_kind ∷ number_of meaningless ∷ [] ≡ 22 ∷ 23 ∷ 24 ∷ []
+unfolding number_of
 refusals = refl
 
 -- ---- a reader's answer, and the number of the first bad record
 
-abbrev told : List ℕ → NormalAnswer × ℕ
+abbrev told : List ℕ → Result ℕ Refusal × ℕ
 told s = ((decompiled s (replicate 40 0)).answer, record_fault s)
 
-abbrev wrote : ℕ → NormalAnswer × ℕ
-wrote n = (Written n, 0)
+abbrev wrote : ℕ → Result ℕ Refusal × ℕ
+wrote n = (Ok n, 0)
 
 -- refused, for the first record
-abbrev bad : ℕ → NormalAnswer × ℕ
-bad number = (Refused number, 1)
+abbrev bad : Refusal → Result ℕ Refusal × ℕ
+bad refusal = (Err refusal, 1)
 
 -- ---- length and kind of `@reboot x`
 
 -- 0 and 1 are below 2, 2 leaves no command, and above 3 it is cut short
-length-low : Lead (λ b. told (b ∷ 0 ∷ 2 ∷ 0 ∷ text "x")) (one 2 (bad 24) ∷ one 3 (wrote 10) ∷ []) (λ b. bad 22)
+length-low : Lead (λ b. told (b ∷ 0 ∷ 2 ∷ 0 ∷ text "x")) (one 2 (bad Meaningless) ∷ one 3 (wrote 10) ∷ []) (λ b. bad CutShort)
 unfolding trying coding
 length-low = refl
 
-length_high : Lead (λ b. told (3 ∷ b ∷ 2 ∷ 0 ∷ text "x")) (one 0 (wrote 10) ∷ []) (λ b. bad 22)
+length_high : Lead (λ b. told (3 ∷ b ∷ 2 ∷ 0 ∷ text "x")) (one 0 (wrote 10) ∷ []) (λ b. bad CutShort)
 unfolding trying coding
 length_high = refl
 
 -- no other kind has this body
-kind-low : Lead (λ b. told (3 ∷ 0 ∷ b ∷ 0 ∷ text "x")) (one_of (1 ∷ 3 ∷ 4 ∷ []) (bad 24) ++ one 2 (wrote 10) ∷ []) (λ b. bad 23)
+kind-low : Lead (λ b. told (3 ∷ 0 ∷ b ∷ 0 ∷ text "x")) (one_of (1 ∷ 3 ∷ 4 ∷ []) (bad Meaningless) ++ one 2 (wrote 10) ∷ []) (λ b. bad UnknownKind)
 unfolding trying coding
 kind-low = refl
 
 -- kinds from 32,768 are skipped
-kind-high : Lead (λ b. told (3 ∷ 0 ∷ 2 ∷ b ∷ text "x")) (one 0 (wrote 10) ∷ range 128 255 (wrote 0) ∷ []) (λ b. bad 23)
+kind-high : Lead (λ b. told (3 ∷ 0 ∷ 2 ∷ b ∷ text "x")) (one 0 (wrote 10) ∷ range 128 255 (wrote 0) ∷ []) (λ b. bad UnknownKind)
 unfolding trying coding
 kind-high = refl
 
@@ -59,10 +61,10 @@ kind-skipped = refl
 
 -- ---- bytes of a command: newline, byte 0 and control bytes are in no line, and a blank is no first byte
 
-abbrev in_no_line : List (Range (NormalAnswer × ℕ))
-in_no_line = range 0 8 (bad 24) ∷ range 10 31 (bad 24) ∷ one 127 (bad 24) ∷ []
+abbrev in_no_line : List (Range ((Result ℕ Refusal) × ℕ))
+in_no_line = range 0 8 (bad Meaningless) ∷ range 10 31 (bad Meaningless) ∷ one 127 (bad Meaningless) ∷ []
 
-command-first : Lead (λ b. told (3 ∷ 0 ∷ 2 ∷ 0 ∷ b ∷ [])) (in_no_line ++ one_of (9 ∷ 32 ∷ []) (bad 24)) (λ b. wrote 10)
+command-first : Lead (λ b. told (3 ∷ 0 ∷ 2 ∷ 0 ∷ b ∷ [])) (in_no_line ++ one_of (9 ∷ 32 ∷ []) (bad Meaningless)) (λ b. wrote 10)
 unfolding trying coding
 command-first = refl
 
@@ -72,11 +74,11 @@ in-command = refl
 
 -- ---- a setting: the length of its name, `A` and `?` or `AB` and nothing
 
-name-length-low : Lead (λ b. told (6 ∷ 0 ∷ 3 ∷ 0 ∷ b ∷ 0 ∷ text "AB")) (range 1 2 (wrote 4) ∷ []) (λ b. bad 24)
+name-length-low : Lead (λ b. told (6 ∷ 0 ∷ 3 ∷ 0 ∷ b ∷ 0 ∷ text "AB")) (range 1 2 (wrote 4) ∷ []) (λ b. bad Meaningless)
 unfolding trying coding
 name-length-low = refl
 
-name-length-high : Lead (λ b. told (6 ∷ 0 ∷ 3 ∷ 0 ∷ 1 ∷ b ∷ text "AB")) (one 0 (wrote 4) ∷ []) (λ b. bad 24)
+name-length-high : Lead (λ b. told (6 ∷ 0 ∷ 3 ∷ 0 ∷ 1 ∷ b ∷ text "AB")) (one 0 (wrote 4) ∷ []) (λ b. bad Meaningless)
 unfolding trying coding
 name-length-high = refl
 
@@ -146,6 +148,6 @@ weekday-bits = refl
 -- five flags: `*/60`, `*/24`, `*/31`, `*/12` and `*/7`, three bytes more each, and two
 flag-bits : Lead (λ b. told (timed_by 0 0 2 2 0 1 b))
     (each 0 31 (λ b. wrote (12 + 3 * (b % 2 + b / 2 % 2 + b / 4 % 2 + b / 8 % 2) + 2 * (b / 16))) ∷ [])
-    (λ b. bad 24)
+    (λ b. bad Meaningless)
 unfolding trying coding
 flag-bits = refl

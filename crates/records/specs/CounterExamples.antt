@@ -3,6 +3,7 @@
 use Rattle.std.specs.Prelude.{ℕ, ◌≡◌, refl, false, List, [], ◌∷◌, length, get_or}
 use Rattle.std.proofs.Common.{arith, ap, ◌∙◌}
 use Rattle.std.proofs.lemmas.Bool.{false≢true}
+use Rattle.refusal.specs.declared.Refusal.TheVariants.{CutShort, UnknownKind}
 use Rattle.octets.specs.Texts.{text}
 use Rattle.field.specs.declared.Dialect.{Dialect}
 use Rattle.schedule.specs.declared.Schedule.{Schedule}
@@ -61,7 +62,7 @@ not-writer = ((λ w. w.0 (omega arith) (omega arith)), (λ w. w.2.2.0 (omega ari
 changes-last : (ChangesNone (new (of_kind 5) ∷ []) → ⊥) × (ChangesNone (same (boot (text "x")) ∷ new (of_kind 65535) ∷ new (of_kind 0) ∷ []) → ⊥) × ChangesNone (same (boot (text "x")) ∷ new (of_kind 32768) ∷ [])
 changes-last = ((λ h. omega (arith, h.0)), (λ h. omega (arith, h.1.0)), (omega arith, tt))
 
-not-bad : NotBad skipped × NotBad (means (boot (text "x"))) × (NotBad (refused 23) → ⊥) × (NotBad (refused 0) → ⊥)
+not-bad : NotBad skipped × NotBad (means (boot (text "x"))) × (NotBad (refused UnknownKind) → ⊥) × (NotBad (refused CutShort) → ⊥)
 not-bad = (tt, tt, (λ h. h), (λ h. h))
 
 -- ---- a line that means a body: `@reboot x`, in any dialect

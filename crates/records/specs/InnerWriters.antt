@@ -4,7 +4,7 @@ use Rattle.std.specs.Prelude.{ℕ, ◌+◌, List, [], ◌++◌}
 use Rattle.octets.specs.Runs.{between}
 use Rattle.octets.specs.LittleEndian.{little_endian}
 use Rattle.crontab.specs.declared.item.Item as line
-use Rattle.crontab.specs.declared.item.Item.TheVariants.{Nothing, Setting, Entry, Refused}
+use Rattle.crontab.specs.declared.item.Item.TheVariants.{Nothing, Setting, Entry}
 use Rattle.line.specs.Assignments.{part_bytes}
 use Rattle.normal.specs.Meanings.{Item, setting, entry_item}
 use Rattle.records.specs.Formats.{record_of, kind_of, body_of}
@@ -23,4 +23,3 @@ unfoldable pub record_part : List ℕ → line.Item → List ℕ
 record_part s Nothing = []
 record_part s (Setting name value) = item_record (setting (part_bytes s name) (part_bytes s value))
 record_part s (Entry e) = item_record (entry_item e.when (between s e.start e.end))
-record_part s (Refused f) = []

@@ -1,5 +1,6 @@
 pub mod Refusals
 pub mod Formats
+pub mod Kinds
 pub mod Readings
 pub mod Calls
 pub mod Writers

@@ -1,7 +1,8 @@
 -- What bytes mean as records, in two steps: which records they are (B1, B8), and what these mean, up to their end or to the first bad one
 -- (B9, B10). Records count from 1, and skipped ones count (B12).
 -- Assumes nothing.
-use Rattle.std.specs.Prelude.{ℕ, zero, suc, ◌+◌, Bool, cond, ◌&&◌, ◌||◌, List, [], ◌∷◌, length, drop, eqb, leb, ltb}
+use Rattle.std.specs.Prelude.{ℕ, zero, suc, ◌+◌, Bool, cond, ◌&&◌, ◌||◌, List, [], ◌∷◌, length, drop, eqb, leb, ltb, Option, Some, None}
+use Rattle.refusal.specs.declared.Refusal.{Refusal}
 use Rattle.octets.specs.Runs.{between}
 use Rattle.octets.specs.Sets.{has_bit}
 use Rattle.octets.specs.LittleEndian.{number_of}
@@ -86,7 +87,7 @@ setting_in s =
 pub data Content : Type 0 where
   skipped : Content
   -- R23 or R24
-  refused : ℕ → Content
+  refused : Refusal → Content
   means : Item → Content
 
 -- B10, R24: of a known kind: a body that is no item's, an item of another kind, or one that no line can mean
@@ -117,13 +118,13 @@ content_of kind body =
 pub data Decoded : Type 0 where
   done : Decoded
   -- the refusal, and the bad record's number
-  fault : ℕ → ℕ → Decoded
+  fault : Refusal → ℕ → Decoded
   item : Item → Decoded → Decoded
 
 -- B12: record n, and what those after it mean
 unfoldable pub after_record : ℕ → Content → Decoded → Decoded
 after_record n skipped later = later
-after_record n (refused number) later = fault number n
+after_record n (refused refusal) later = fault refusal n
 after_record n (means i) later = item i later
 
 -- B12, R22: records from number n on
@@ -136,22 +137,22 @@ decode_from n (next kind body later) = after_record n (content_of kind body) (de
 unfoldable pub decode : List ℕ → Decoded
 decode s = decode_from 1 (split s)
 
--- ---- its items, and its refusal and the bad record's number, 0 where there is none
+-- ---- its items, and its refusal and the bad record's number, if there is one
 
 -- B11: the items
 unfoldable pub decoded_items : Decoded → List Item
 decoded_items done = []
-decoded_items (fault number n) = []
+decoded_items (fault refusal n) = []
 decoded_items (item i later) = i ∷ decoded_items later
 
--- R38: the refusal, 0 if there is none
-unfoldable pub decoded_refusal : Decoded → ℕ
-decoded_refusal done = 0
-decoded_refusal (fault number n) = number
+-- R38: the refusal, if there is one
+unfoldable pub decoded_refusal : Decoded → Option Refusal
+decoded_refusal done = None
+decoded_refusal (fault refusal n) = Some refusal
 decoded_refusal (item i later) = decoded_refusal later
 
 -- B12: the bad record's number, 0 if there is none
 unfoldable pub decoded_fault : Decoded → ℕ
 decoded_fault done = 0
-decoded_fault (fault number n) = n
+decoded_fault (fault refusal n) = n
 decoded_fault (item i later) = decoded_fault later

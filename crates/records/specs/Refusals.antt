@@ -1,15 +1,16 @@
--- The numbers with which records are refused, each for the first bad record. R12, R21 and R18 come after them (R38).
+-- The refusals of records, each for the first bad record. R12, R21 and R18 come after them (R38).
 -- Assumes nothing.
-use Rattle.std.specs.Prelude.{ℕ}
+use Rattle.refusal.specs.declared.Refusal.{Refusal}
+use Rattle.refusal.specs.declared.Refusal.TheVariants.{CutShort, UnknownKind, Meaningless}
 
 -- R22: cut short, or a length below 2
-abbrev pub cut_short : ℕ
-cut_short = 22
+abbrev pub cut_short : Refusal
+cut_short = CutShort
 
 -- R23: an unknown kind below 32,768
-abbrev pub unknown_kind : ℕ
-unknown_kind = 23
+abbrev pub unknown_kind : Refusal
+unknown_kind = UnknownKind
 
 -- R24: a body that no line could mean
-abbrev pub meaningless : ℕ
-meaningless = 24
+abbrev pub meaningless : Refusal
+meaningless = Meaningless

@@ -62,7 +62,7 @@ skipped_in (r ∷ rs) = let more = skipped_in rs in cond (leb skipped_from r.kin
 -- B12: a record that isn't bad
 abbrev pub NotBad : Content → Type 0
 NotBad skipped = Unit {0}
-NotBad (refused number) = ⊥
+NotBad (refused refusal) = ⊥
 NotBad (means i) = Unit {0}
 
 -- B12: no record is bad: none is cut short, and each is skipped or means something

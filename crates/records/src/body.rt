@@ -1,16 +1,18 @@
 // What one record means (B2 to B10), by its kind and its body.
-ghost use Rattle.std.specs.Prelude.{◌≡◌, ◌&&◌, [], ◌∷◌, ◌≤◌, length, drop, eqb};
+ghost use Rattle.std.specs.Prelude.{◌≡◌, ◌&&◌, [], ◌∷◌, ◌≤◌, length, drop, eqb, IfOk};
 ghost use Rattle.normal.specs.Meanings.{boot, setting};
 ghost use Rattle.normal.specs.Proper.{is_command, is_schedule, is_item};
 ghost use Rattle.records.specs.Formats.{kind_of};
 ghost use Rattle.records.specs.Readings.{stars_of, schedule_at, timed_in, setting_in, meant, is_skipped};
 ghost use Rattle.records.specs.InnerReaders.{found, Within, BodyIs};
 
-use crate::{BOOT, MEANINGLESS, SCHEDULE_SIZE, SETTING, TIMED, UNKNOWN_KIND, ZONE, kind};
+use crate::SCHEDULE_SIZE;
+use crate::kind::Kind;
 use line::time::When;
 use normal::proper::{is_command, is_name, is_schedule, is_value, is_zoned};
 use normal::text::part;
 use octets::{little_endian, set};
+use refusal::Refusal;
 use schedule::{Schedule, Stars};
 
 // What is found in a body. Places are the body's.
@@ -22,8 +24,6 @@ pub enum Content {
     Entry { when: When, start: usize },
     // The name goes from 2 to where the value starts.
     Setting { value: usize },
-    // R23 or R24.
-    Refused { number: u8 },
 }
 
 const SKIPPED_FROM: u16 = 32768;
@@ -66,64 +66,57 @@ fn is_timed(body: &[u8], s: Schedule) -> bool
     is_schedule(s) & is_command(&body[SCHEDULE_SIZE..])
 }
 
-fn timed(body: &[u8]) -> Content
-    ensures { (found body.now result ≡ meant 1 (timed_in body.now)) × Within body.now result }
+fn timed(body: &[u8]) -> Result<Content, Refusal>
+    ensures { (found body.now result ≡ meant 1 (timed_in body.now)) × IfOk result (Within body.now) }
 {
     if body.len() < SCHEDULE_SIZE {
-        return Content::Refused {
-            number: MEANINGLESS,
-        };
+        return Err(Refusal::Meaningless);
     }
     let flags = little_endian::read(body, 19, 1);
     if flags < FLAGS_END {
         let s = schedule(body);
         if is_timed(body, s) {
-            return Content::Entry {
+            return Ok(Content::Entry {
                 when: When::Timed(s),
                 start: SCHEDULE_SIZE,
-            };
+            });
         }
     }
-    Content::Refused {
-        number: MEANINGLESS,
-    }
+    Err(Refusal::Meaningless)
 }
 
-fn boot(body: &[u8]) -> Content
-    ensures { (found body.now result ≡ meant 2 (boot body.now ∷ [])) × Within body.now result }
+fn boot(body: &[u8]) -> Result<Content, Refusal>
+    ensures { (found body.now result ≡ meant 2 (boot body.now ∷ [])) × IfOk result (Within body.now) }
 {
     if is_command(body) {
-        return Content::Entry {
+        return Ok(Content::Entry {
             when: When::Reboot,
             start: 0,
-        };
+        });
     }
-    Content::Refused {
-        number: MEANINGLESS,
-    }
+    Err(Refusal::Meaningless)
 }
 
 // Whether a line can mean a setting, and this is the kind for its name.
 fn is_setting(name: &[u8], value: &[u8], kind: u16) -> bool
     ensures { result ≡ (eqb (kind_of (setting name.now value.now)) kind && is_item (setting name.now value.now)) }
 {
-    (kind::of_setting(name) == kind) & (is_name(name) & (is_value(value) & is_zoned(name, value)))
+    (u16::from(Kind::of_setting(name)) == kind)
+        & (is_name(name) & (is_value(value) & is_zoned(name, value)))
 }
 
-fn setting(body: &[u8], kind: u16) -> Content
-    ensures { (found body.now result ≡ meant kind (setting_in body.now)) × Within body.now result }
+fn setting(body: &[u8], kind: u16) -> Result<Content, Refusal>
+    ensures { (found body.now result ≡ meant kind (setting_in body.now)) × IfOk result (Within body.now) }
 {
     if 2 <= body.len() {
         let value = 2 + little_endian::read(body, 0, 2) as usize;
         if value <= body.len() {
             if is_setting(part(body, 2, value), part(body, value, body.len()), kind) {
-                return Content::Setting { value };
+                return Ok(Content::Setting { value });
             }
         }
     }
-    Content::Refused {
-        number: MEANINGLESS,
-    }
+    Err(Refusal::Meaningless)
 }
 
 // Whether a record of this kind changes no entry.
@@ -133,22 +126,15 @@ fn is_skipped(kind: u16) -> bool
     SKIPPED_FROM <= kind
 }
 
-pub fn read(body: &[u8], kind: u16) -> Content
+pub fn read(body: &[u8], kind: u16) -> Result<Content, Refusal>
     ensures { BodyIs kind body.now result }
 {
     if is_skipped(kind) {
-        return Content::Skipped;
+        return Ok(Content::Skipped);
     }
-    if kind == TIMED {
-        return timed(body);
-    }
-    if kind == BOOT {
-        return boot(body);
-    }
-    if (kind == SETTING) | (kind == ZONE) {
-        return setting(body, kind);
-    }
-    Content::Refused {
-        number: UNKNOWN_KIND,
+    match Kind::try_from(kind)? {
+        Kind::Timed => timed(body),
+        Kind::Boot => boot(body),
+        Kind::Setting | Kind::Zone => setting(body, kind),
     }
 }

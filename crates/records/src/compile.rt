@@ -1,27 +1,25 @@
 // A table in two walks over its lines: one measures its records and its normal text, the other writes the records.
 ghost use Rattle.std.specs.Prelude.{◌≡◌};
 ghost use Rattle.octets.specs.Clipped.{clipped};
-ghost use Rattle.crontab.specs.Tables.{table_of};
+ghost use Rattle.crontab.specs.Tables.{table_of, refusal_in};
 ghost use Rattle.normal.specs.Meanings.{of_user, meaning_of};
 ghost use Rattle.normal.specs.Inner.{measured, text_refusal};
 ghost use Rattle.records.specs.Formats.{records_of};
 ghost use Rattle.records.specs.Calls.{compiled};
 
 use crate::pack;
-use crontab::item::Item;
-use crontab::{MAX_TABLE, TABLE_TOO_LONG, item};
+use crontab::{MAX_TABLE, item};
 use field::Dialect;
 use line::{Kind, MAX_LINE, Rules};
-use normal::{NormalAnswer, TOO_LONG, TOO_SHORT, text};
+use normal::text;
+use refusal::Refusal;
 
 // What is answered where the buffer has room. The table's own refusal comes before a line that would be too long, wherever that stands.
-fn measure(s: &[u8], dialect: Dialect) -> NormalAnswer
+fn measure(s: &[u8], dialect: Dialect) -> Result<usize, Refusal>
     ensures { result ≡ measured (text_refusal dialect s.now) (records_of (meaning_of dialect s.now)) }
 {
     if MAX_TABLE < s.len() {
-        return NormalAnswer::Refused {
-            number: TABLE_TOO_LONG,
-        };
+        return Err(Refusal::TableTooLong);
     }
     let rules = Rules {
         kind: Kind::User,
@@ -34,28 +32,23 @@ fn measure(s: &[u8], dialect: Dialect) -> NormalAnswer
     let mut short = true;
     let mut c = item::START;
     while c.at < s.len() {
-        let step = item::next_item(s, rules, c);
+        let step = item::next_item(s, rules, c)?;
         c = step.next;
         let item = step.item;
-        if let Item::Refused(fault) = item {
-            return NormalAnswer::Refused {
-                number: fault.number,
-            };
-        }
         let next = text::write(s, item, &mut no_text, text);
         short = short & (next - text <= MAX_LINE + 1);
         text = next;
         size = pack::write_record(s, item, &mut no_records, size);
     }
     if short & (text <= MAX_TABLE) {
-        return NormalAnswer::Written { size };
+        return Ok(size);
     }
-    NormalAnswer::Refused { number: TOO_LONG }
+    Err(Refusal::TooLong)
 }
 
 // Writes the records of a good table to the front of a buffer, as far as they fit.
 fn write(s: &[u8], dialect: Dialect, out: &mut [u8])
-    requires { (table_of (of_user dialect) s.now).refusal ≡ 0 }
+    requires { refusal_in (table_of (of_user dialect) s.now) ≡ 0 }
     ensures { out.new ≡ clipped 0 (records_of (meaning_of dialect s.now)) out.old }
 {
     let rules = Rules {
@@ -65,26 +58,23 @@ fn write(s: &[u8], dialect: Dialect, out: &mut [u8])
     let mut at = 0;
     let mut c = item::START;
     while c.at < s.len() {
-        let step = item::next_item(s, rules, c);
+        let Ok(step) = item::next_item(s, rules, c) else {
+            return;
+        };
         c = step.next;
-        let item = step.item;
-        at = pack::write_record(s, item, out, at);
+        at = pack::write_record(s, step.item, out, at);
     }
 }
 
 // Writes the records of a table in a dialect to the front of a buffer; where it is refused, writes nothing.
-pub fn compile(table: &[u8], dialect: Dialect, records: &mut [u8]) -> NormalAnswer
+pub fn compile(table: &[u8], dialect: Dialect, records: &mut [u8]) -> Result<usize, Refusal>
     ensures answer { result ≡ (compiled dialect table.now records.old).answer }
     ensures records { records.new ≡ (compiled dialect table.now records.old).buffer }
 {
-    match measure(table, dialect) {
-        NormalAnswer::Written { size } => {
-            if records.len() < size {
-                return NormalAnswer::Refused { number: TOO_SHORT };
-            }
-            write(table, dialect, records);
-            NormalAnswer::Written { size }
-        }
-        NormalAnswer::Refused { number } => NormalAnswer::Refused { number },
+    let size = measure(table, dialect)?;
+    if records.len() < size {
+        return Err(Refusal::TooShort);
     }
+    write(table, dialect, records);
+    Ok(size)
 }

@@ -8,11 +8,12 @@ ghost use Rattle.records.specs.InnerReaders.{records_refusal, entries_found};
 
 use crate::body::Content;
 use crate::{record, text};
-use crontab::{MAX_ENTRIES, MAX_TABLE, TOO_MANY_ENTRIES};
+use crontab::{MAX_ENTRIES, MAX_TABLE};
 use line::MAX_LINE;
 use normal::text::part;
-use normal::{NormalAnswer, TOO_LONG, TOO_SHORT};
+use refusal::Refusal;
 
+#[tactic(auto, unfolding(crate::specs::InnerReaders::entries_found))]
 fn entries_found(content: Content) -> usize
     ensures { (result ≡ entries_found content) × (result ≤ 1) }
 {
@@ -20,13 +21,12 @@ fn entries_found(content: Content) -> usize
         Content::Skipped => 0,
         Content::Entry { .. } => 1,
         Content::Setting { .. } => 0,
-        Content::Refused { .. } => 0,
     }
 }
 
 // Writes as much of the normal text of records as fits to the front of a buffer, and answers what the call answers where all of it fits. A bad
 // record comes before all else, wherever it is.
-fn write(s: &[u8], out: &mut [u8]) -> NormalAnswer
+fn write(s: &[u8], out: &mut [u8]) -> Result<usize, Refusal>
     ensures { Tried (records_refusal s.now) (normal_text (decoded_items (decode s.now))) out.old result out.new }
 {
     let mut count: usize = 0;
@@ -35,10 +35,7 @@ fn write(s: &[u8], out: &mut [u8]) -> NormalAnswer
     let mut at = 0;
     while at < s.len() {
         let step = record::advance(s, at);
-        let content = step.content;
-        if let Content::Refused { number } = content {
-            return NormalAnswer::Refused { number };
-        }
+        let content = step.content?;
         let next = text::write(part(s, step.start, step.end), content, out, text);
         short = short & (next - text <= MAX_LINE + 1);
         text = next;
@@ -46,31 +43,25 @@ fn write(s: &[u8], out: &mut [u8]) -> NormalAnswer
         at = step.end;
     }
     if MAX_ENTRIES < count {
-        return NormalAnswer::Refused {
-            number: TOO_MANY_ENTRIES,
-        };
+        return Err(Refusal::TooManyEntries);
     }
     if short & (text <= MAX_TABLE) {
-        return NormalAnswer::Written { size: text };
+        return Ok(text);
     }
-    NormalAnswer::Refused { number: TOO_LONG }
+    Err(Refusal::TooLong)
 }
 
 // Writes the normal text of records to the front of a buffer; where they are refused, writes nothing.
-pub fn decompile(records: &[u8], text: &mut [u8]) -> NormalAnswer
+pub fn decompile(records: &[u8], text: &mut [u8]) -> Result<usize, Refusal>
     ensures answer { result ≡ (decompiled records.now text.old).answer }
     ensures text { text.new ≡ (decompiled records.now text.old).buffer }
 {
     let mut none: [u8; 1] = [0];
-    match write(records, &mut none) {
-        NormalAnswer::Written { size } => {
-            if text.len() < size {
-                return NormalAnswer::Refused { number: TOO_SHORT };
-            }
-            write(records, text)
-        }
-        NormalAnswer::Refused { number } => NormalAnswer::Refused { number },
+    let size = write(records, &mut none)?;
+    if text.len() < size {
+        return Err(Refusal::TooShort);
     }
+    write(records, text)
 }
 
 // The number of the first bad record, from 1, or 0 where there is none.
@@ -81,8 +72,7 @@ pub fn record_fault(s: &[u8]) -> usize
     let mut at = 0;
     while at < s.len() {
         let step = record::advance(s, at);
-        let content = step.content;
-        if let Content::Refused { .. } = content {
+        if step.content.is_err() {
             return number;
         }
         number += 1;

@@ -7,9 +7,11 @@ ghost use Rattle.crontab.specs.Limits.{max_table};
 ghost use Rattle.normal.specs.Meanings.{setting, entry_item};
 ghost use Rattle.normal.specs.Inner.{Within};
 ghost use Rattle.records.specs.Formats.{flags_of, schedule_bytes, setting_kind_of};
+ghost use Rattle.records.specs.Kinds.{number_of};
 ghost use Rattle.records.specs.InnerWriters.{head_of, item_record, record_part};
 
-use crate::{BOOT, SCHEDULE_SIZE, TIMED, kind};
+use crate::SCHEDULE_SIZE;
+use crate::kind::Kind;
 use crontab::item::Item;
 use line::time::When;
 use normal::text::part;
@@ -17,12 +19,12 @@ use octets::{little_endian, write};
 use schedule::{Schedule, Stars};
 
 // What stands before a body of so many bytes: the length counts the kind too.
-fn write_head(kind: u16, size: usize, out: &mut [u8], at: usize) -> usize
+fn write_head(kind: Kind, size: usize, out: &mut [u8], at: usize) -> usize
     requires { size ≤ 2 * max_table + 20 }
-    ensures { Wrote at (head_of kind size) out.old result out.new }
+    ensures { Wrote at (head_of (number_of kind) size) out.old result out.new }
 {
     let next = little_endian::write(out, at, 2 + size as u64, 2);
-    little_endian::write(out, next, kind as u64, 2)
+    little_endian::write(out, next, u16::from(kind) as u64, 2)
 }
 
 fn bit(star: bool) -> u64
@@ -54,8 +56,8 @@ fn write_schedule(s: Schedule, out: &mut [u8], at: usize) -> usize
     little_endian::write(out, at, flags(stars), 1)
 }
 
-fn write_setting(kind: u16, name: &[u8], value: &[u8], out: &mut [u8], at: usize) -> usize
-    requires { (kind ≡ setting_kind_of name.now) × (length name.now ≤ max_table) × (length value.now ≤ max_table) }
+fn write_setting(kind: Kind, name: &[u8], value: &[u8], out: &mut [u8], at: usize) -> usize
+    requires { (number_of kind ≡ setting_kind_of name.now) × (length name.now ≤ max_table) × (length value.now ≤ max_table) }
     ensures { Wrote at (item_record (setting name.now value.now)) out.old result out.new }
 {
     let at = write_head(kind, 2 + name.len() + value.len(), out, at);
@@ -70,11 +72,11 @@ fn write_entry(when: When, command: &[u8], out: &mut [u8], at: usize) -> usize
 {
     match when {
         When::Reboot => {
-            let next = write_head(BOOT, command.len(), out, at);
+            let next = write_head(Kind::Boot, command.len(), out, at);
             write::copy(out, next, command)
         }
         When::Timed(s) => {
-            let next = write_head(TIMED, SCHEDULE_SIZE + command.len(), out, at);
+            let next = write_head(Kind::Timed, SCHEDULE_SIZE + command.len(), out, at);
             let next = write_schedule(s, out, next);
             write::copy(out, next, command)
         }
@@ -90,13 +92,12 @@ pub(crate) fn write_record(s: &[u8], item: Item, out: &mut [u8], at: usize) -> u
         Item::Setting { name, value } => {
             let name = part(s, name.start, name.end);
             let value = part(s, value.start, value.end);
-            write_setting(kind::of_setting(name), name, value, out, at)
+            write_setting(Kind::of_setting(name), name, value, out, at)
         }
         Item::Entry(e) => {
             let command = part(s, e.start as usize, e.end as usize);
             let when = e.when;
             write_entry(when, command, out, at)
         }
-        Item::Refused(_) => at,
     }
 }

@@ -1,26 +1,27 @@
 // A walk over records, one step for each.
 ghost use Rattle.std.specs.Prelude.{◌≡◌, ◌<◌, length};
-ghost use Rattle.records.specs.declared.body.Content.TheVariants.{Refused};
+ghost use Rattle.records.specs.Refusals.{cut_short};
 ghost use Rattle.records.specs.InnerReaders.{StepIs};
 
+use crate::body;
 use crate::body::Content;
-use crate::{CUT_SHORT, body};
 use octets::little_endian;
+use refusal::Refusal;
 
 // What the record at a place says, and where its body stands. The next record starts at the body's end.
 #[derive(Clone, Copy)]
 pub struct Step {
-    pub content: Content,
+    pub content: Result<Content, Refusal>,
     pub start: usize,
     pub end: usize,
 }
 
 // A record that is cut short, or whose length is below 2; none is looked for behind it.
 fn cut(s: &[u8]) -> Step
-    ensures { (result.content ≡ Refused 22) × (result.start ≡ length s.now) × (result.end ≡ length s.now) }
+    ensures { (result.content ≡ Err cut_short) × (result.start ≡ length s.now) × (result.end ≡ length s.now) }
 {
     Step {
-        content: Content::Refused { number: CUT_SHORT },
+        content: Err(Refusal::CutShort),
         start: s.len(),
         end: s.len(),
     }

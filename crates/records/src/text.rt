@@ -1,4 +1,4 @@
-// The line of what a record says, with its newline, written to a lent buffer as far as it fits. What is skipped or refused has none.
+// The line of what a record says, with its newline, written to a lent buffer as far as it fits. What is skipped has none.
 ghost use Rattle.octets.specs.Clipped.{Wrote};
 ghost use Rattle.records.specs.InnerReaders.{Within, line_found};
 
@@ -25,6 +25,5 @@ pub(crate) fn write(body: &[u8], content: Content, out: &mut [u8], at: usize) ->
             let next = setting::write(name, value, out, at);
             write::byte(out, next, b'\n')
         }
-        Content::Refused { .. } => at,
     }
 }

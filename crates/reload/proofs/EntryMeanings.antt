@@ -4,11 +4,12 @@ use mathlib.Core.Path.{◌≡◌, refl, sym, ap, ◌∙◌}
 use Prim.Native.Nat.{ℕ}
 use native.Mathlib.Omega.{arith}
 use lib.IntN.{ℤ, pos, negsuc}
-use mathlib.Core.Bool.{Bool, true, false, ◌&&◌, true≢false, and-eq-true_iff}
+use mathlib.Core.Bool.{Bool, true, false, beq, ◌&&◌, true≢false, and-eq-true_iff}
 use mathlib.Core.List.{List, [], ◌∷◌}
 use lib.ListN.{length}
 use lib.Dec.{eqb}
-use borrow.Author.Tests.{eq-eqb, eqb-true}
+use lib.Pointwise.{pointwise}
+use borrow.Author.Tests.{eq-eqb, ne_eqb, eqb-true, eqb-false}
 use mir.Syntax.{w32}
 use mir.Val.{to_z, of_z}
 use Rattle.octets.specs.Runs.{between}
@@ -18,11 +19,12 @@ use Rattle.schedule.specs.Local.{OffsetInRange, biased_offset}
 use Rattle.line.specs.declared.Rules.{Rules}
 use Rattle.line.specs.declared.time.When.{When}
 use Rattle.line.specs.declared.time.When.TheVariants.{Reboot, Timed}
+use Rattle.line.specs.contracts.time.WhenPartialEq.TheImpl.{ghosts as derived}
 use Rattle.crontab.specs.declared.entry.Entry.{Entry}
 use Rattle.line.specs.Words.{same}
 use Rattle.crontab.specs.Owners.{owner_of}
 use Rattle.crontab.specs.Inner.{Sound}
-use Rattle.line.proofs.Theorems.{kept}
+use Rattle.line.proofs.Theorems.{kept, same_bits}
 use Rattle.crontab.proofs.Theorems.{of-inside}
 use Rattle.reload.specs.EntryMeanings.{EntryMeaning, same_flag, same_stars, same_times, same_when, same_owner, clock_of, duty_of, same_meaning}
 use Rattle.reload.specs.Inner.{OwnerInside}
@@ -36,10 +38,13 @@ biased-offset-same (pos m) (negsuc n) h k e = absurd (omega arith)
 biased-offset-same (negsuc m) (pos n) h k e = absurd (omega arith)
 biased-offset-same (negsuc m) (negsuc n) h k e = let q : m ≡ n = omega arith in rw q
 
--- the test of two that were read back
-pub offset-kept : (y z : ℤ) {b : Bool} → OffsetInRange y → OffsetInRange z → b ≡ eqb (biased_offset (to_z w32 (of_z w32 y))) (biased_offset (to_z w32 (of_z w32 z)))
-    → b ≡ eqb (biased_offset y) (biased_offset z)
-offset-kept y z h k e = e ∙ ap (λ (x : ℤ). eqb (biased_offset x) (biased_offset (to_z w32 (of_z w32 z)))) (kept {z = y} h) ∙ ap (λ (x : ℤ). eqb (biased_offset y) (biased_offset x)) (kept {z = z} k)
+-- so `==` on two is a test of those numbers
+offset-is : (y z : ℤ) → OffsetInRange y → OffsetInRange z → eqb (of_z w32 y) (of_z w32 z) ≡ eqb (biased_offset y) (biased_offset z)
+offset-is y z h k = go (eqb (of_z w32 y) (of_z w32 z)) refl
+  where
+    go : (b : Bool) → eqb (of_z w32 y) (of_z w32 z) ≡ b → b ≡ eqb (biased_offset y) (biased_offset z)
+    go true e = sym (eq-eqb (biased_offset y) (biased_offset z) (ap biased_offset (same_bits {y = y} {z = z} h k (eqb-true _ _ e))))
+    go false e = sym (ne_eqb (biased_offset y) (biased_offset z) (λ q. eqb-false _ _ e (ap (of_z w32) (biased-offset-same y z h k q))))
 
 -- what a time is read by may be, too
 pub clock-zone : (a : When) (z : ℤ) → OffsetInRange z → OffsetInRange (clock_of a z)
@@ -57,6 +62,44 @@ pub time-kept : (a : When) (y : ℤ) (b : When) (z : ℤ) {r : Bool} → OffsetI
 time-kept a y b z h k e = e ∙ ap (λ (x : ℤ). same_time a x b (to_z w32 (of_z w32 z))) (kept {z = y} h) ∙ ap (λ (x : ℤ). same_time a y b x) (kept {z = z} k)
 
 -- ---- the test, as code makes it
+
+flag-is : (a b : Bool) → beq a b ≡ same_flag a b
+unfolding same_flag
+flag-is true true = refl
+flag-is true false = refl
+flag-is false true = refl
+flag-is false false = refl
+
+-- `==` on two times
+pub when-is : (a b : When) → derived.eq a b ≡ same_when a b
+unfolding same_when same_times same_stars
+when-is Reboot Reboot = refl
+when-is Reboot (Timed b) = refl
+when-is (Timed a) Reboot = refl
+when-is (Timed a) (Timed b) =
+    let s = a.stars in
+    let t = b.stars in
+    rw (flag-is s.minutes t.minutes, flag-is s.hours t.hours, flag-is s.days t.days, flag-is s.months t.months, flag-is s.weekdays t.weekdays)
+
+-- and with their offsets
+pub boot-time : (b : When) (y z : ℤ) → same_when Reboot b ≡ true → true ≡ same_time Reboot y b z
+unfolding same_when clock_of
+boot-time Reboot y z e = refl
+boot-time (Timed b) y z e = absurd (true≢false (sym e))
+
+pub timed-time : (a : Schedule) (b : When) (y z : ℤ) → OffsetInRange y → OffsetInRange z → same_when (Timed a) b ≡ true
+    → eqb (of_z w32 y) (of_z w32 z) ≡ same_time (Timed a) y b z
+unfolding same_when clock_of
+timed-time a Reboot y z h k e = absurd (true≢false (sym e))
+timed-time a (Timed b) y z h k e = rw e (offset-is y z h k)
+
+-- `==` on bytes
+pub bytes-are : (s t : List ℕ) → pointwise eqb s t ≡ same s t
+unfolding same
+bytes-are [] [] = refl
+bytes-are [] (x ∷ t) = refl
+bytes-are (b ∷ s) [] = refl
+bytes-are (b ∷ s) (x ∷ t) = rw (bytes-are s t)
 
 module _ (rules : Rules) (s : List ℕ) (x : Entry) (t : List ℕ) (y : Entry) {w : Bool}
     (when : w ≡ same_time x.when x.offset y.when y.offset) where

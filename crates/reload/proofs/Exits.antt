@@ -5,46 +5,45 @@ use mathlib.Core.Bool.{Bool, true, false, ◌&&◌}
 use mathlib.Core.List.{List}
 use Prim.Native.Nat.{ℕ}
 use lib.ListN.{length}
-use borrow.Author.Tests.{eq-eqb, ne_eqb}
+use Rattle.refusal.specs.declared.Refusal.TheVariants.{NotAQueue}
 use Rattle.line.specs.declared.Rules.{Rules}
-use Rattle.crontab.specs.Tables.{table_of}
-use Rattle.fifo.specs.declared.CountAnswer.TheVariants.{Joined, Refused}
+use Rattle.crontab.specs.declared.table.TableFault.{TableFault}
+use Rattle.crontab.specs.Tables.{table_of, count_in, refusal_in}
+use Rattle.crontab.proofs.Tables.{good-is}
+use Rattle.std.specs.Prelude.{Ok, Err}
 use Rattle.fifo.specs.Layout.{roomy, is_queue}
 use Rattle.fifo.specs.Steps.{refilled}
-use Rattle.reload.specs.Calls.{queue_in, reload_step, reload_tables}
+use Rattle.reload.specs.Calls.{queue_in, reload_step, reload_read, reload_tables}
 
 module _ (rules : Rules) (old new room : List ℕ) where
-  pub reload-old : ((table_of rules old).refusal ≡ 0 → ⊥)
-      → (Refused (table_of rules old).refusal ≡ (reload_tables rules old new room).answer) × (room ≡ (reload_tables rules old new room).room)
-  unfolding reload_tables
-  reload-old bad = let e = ne_eqb (table_of rules old).refusal 0 bad in (rw e, rw e)
+  pub reload-old : {f : TableFault} → table_of rules old ≡ Err f
+      → (Err f.refusal ≡ (reload_tables rules old new room).answer) × (room ≡ (reload_tables rules old new room).room)
+  unfolding reload_tables reload_read
+  reload-old bad = (rw bad, rw bad)
 
-  module _ (good : (table_of rules old).refusal ≡ 0) where
-    pub reload-new : ((table_of rules new).refusal ≡ 0 → ⊥)
-        → (Refused (table_of rules new).refusal ≡ (reload_tables rules old new room).answer) × (room ≡ (reload_tables rules old new room).room)
-    unfolding reload_tables
-    reload-new bad =
-        let e = eq-eqb (table_of rules old).refusal 0 good in
-        let f = ne_eqb (table_of rules new).refusal 0 bad in
-        (rw (e, f), rw (e, f))
+  module _ (good : refusal_in (table_of rules old) ≡ 0) where
+    pub reload-new : {f : TableFault} → table_of rules new ≡ Err f
+        → (Err f.refusal ≡ (reload_tables rules old new room).answer) × (room ≡ (reload_tables rules old new room).room)
+    unfolding reload_tables reload_read
+    reload-new bad = let e = (good-is (table_of rules old) good).1 in (rw (e, bad), rw (e, bad))
 
-    module _ (fine : (table_of rules new).refusal ≡ 0) where
+    module _ (fine : refusal_in (table_of rules new) ≡ 0) where
       goes : reload_tables rules old new room ≡ reload_step rules old new room
-      unfolding reload_tables
-      goes = rw (eq-eqb (table_of rules old).refusal 0 good, eq-eqb (table_of rules new).refusal 0 fine)
+      unfolding reload_tables reload_read
+      goes = rw ((good-is (table_of rules old) good).1, (good-is (table_of rules new) fine).1)
 
-      pub reload-none : (is_queue (table_of rules old).count room && roomy (table_of rules new).count room) ≡ false
-          → (Refused 28 ≡ (reload_tables rules old new room).answer) × (room ≡ (reload_tables rules old new room).room)
+      pub reload-none : (is_queue (count_in (table_of rules old)) room && roomy (count_in (table_of rules new)) room) ≡ false
+          → (Err NotAQueue ≡ (reload_tables rules old new room).answer) × (room ≡ (reload_tables rules old new room).room)
       unfolding reload_step
       reload-none e = rw (goes, e) (refl, refl)
 
-      pub reload-done : (is_queue (table_of rules old).count room && roomy (table_of rules new).count room) ≡ true
-          → (Joined (length (queue_in rules old new room)) ≡ (reload_tables rules old new room).answer)
+      pub reload-done : (is_queue (count_in (table_of rules old)) room && roomy (count_in (table_of rules new)) room) ≡ true
+          → (Ok (length (queue_in rules old new room)) ≡ (reload_tables rules old new room).answer)
           × (refilled (queue_in rules old new room) room ≡ (reload_tables rules old new room).room)
       unfolding reload_step
       reload-done e = rw (goes, e) (refl, refl)
 
   -- the two tests, as code makes them
-  pub both-are : {p q b : Bool} {m n : ℕ} → p ≡ is_queue m room → m ≡ (table_of rules old).count → q ≡ roomy n room → n ≡ (table_of rules new).count → (p && q) ≡ b
-      → (is_queue (table_of rules old).count room && roomy (table_of rules new).count room) ≡ b
+  pub both-are : {p q b : Bool} {m n : ℕ} → p ≡ is_queue m room → m ≡ count_in (table_of rules old) → q ≡ roomy n room → n ≡ count_in (table_of rules new) → (p && q) ≡ b
+      → (is_queue (count_in (table_of rules old)) room && roomy (count_in (table_of rules new)) room) ≡ b
   both-are p m q n e = rw (← m, ← n, ← p, ← q) e

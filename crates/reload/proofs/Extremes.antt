@@ -11,8 +11,8 @@ use Rattle.octets.proofs.LittleEndian.{Bytes}
 use Rattle.field.specs.declared.Dialect.TheVariants.{Wrapping}
 use Rattle.line.specs.declared.Rules.{Rules}
 use Rattle.line.specs.declared.Kind.TheVariants.{System}
-use Rattle.crontab.specs.Tables.{table_of}
-use Rattle.fifo.specs.declared.CountAnswer.TheVariants.{Joined}
+use Rattle.crontab.specs.Tables.{table_of, count_in}
+use Rattle.std.specs.Prelude.{Ok}
 use Rattle.fifo.specs.Queues.{is_waiting, entries_of, proper}
 use Rattle.fifo.specs.Layout.{stored}
 use Rattle.fifo.specs.Fairness.{Call, Follows, unrefused, ConsecutiveTicks, up_to, Names}
@@ -24,7 +24,7 @@ use Rattle.reload.proofs.Theorems.{same-is, target-rank, target-last, reloaded-e
 abbrev system : Rules
 system = record { kind = System; dialect = Wrapping }
 
-module _ (old new : List ℕ) (before : (table_of system old).count ≡ 512) (after : (table_of system new).count ≡ 512) where
+module _ (old new : List ℕ) (before : count_in (table_of system old) ≡ 512) (after : count_in (table_of system new) ≡ 512) where
   pub same-last : (same_in system old 511 new 511 ≡ true → duty_in system old 511 ≡ duty_in system new 511)
       × (duty_in system old 511 ≡ duty_in system new 511 → same_in system old 511 new 511 ≡ true)
   same-last = same-is system old 511 new 511 (omega (arith, before)) (omega (arith, after))
@@ -51,13 +51,13 @@ module _ (old new : List ℕ) (before : (table_of system old).count ≡ 512) (af
   )
 
   -- what it leaves, and that demand 3 goes on from there
-  pub leaves-511 : (room : List ℕ) (k : ℕ) → (reload_tables system old new room).answer ≡ Joined k
+  pub leaves-511 : (room : List ℕ) (k : ℕ) → (reload_tables system old new room).answer ≡ Ok k
       → (proper 512 (queue_after system old new room) ≡ true) × (stored (queue_after system old new room) (reload_tables system old new room).room ≡ (reload_tables system old new room).room)
   leaves-511 room k done = let x = reload-leaves system old new room k done in (rw after at x.0, x.1)
 
   pub fair-511 : (room : List ℕ) (k t : ℕ) (second : List Call)
       → let jobs = jobs_in system new in
-      (reload_tables system old new room).answer ≡ Joined k → CanFire system new 511
+      (reload_tables system old new room).answer ≡ Ok k → CanFire system new 511
       → Follows jobs (queue_after system old new room) second
       → t + bound_from system new 511 t ≤ 4223371679 → t + bound_from system new 511 t + biased_offset_of system new 511 ≤ 4223372399
       → ConsecutiveTicks (t + 1) (bound_from system new 511 t) true (unrefused jobs second)

@@ -7,7 +7,9 @@ use Prim.Native.Nat.{ℕ, ◌+◌, ◌<◌}
 use lib.IntN.{ℤ, pos}
 use lib.ListN.{length}
 use lib.Dec.{eqb}
-use borrow.Author.Tests.{eq-eqb, ne_eqb, eqb-true, lt-ltb}
+use borrow.Author.Tests.{eq-eqb, eqb-true, lt-ltb}
+use Rattle.std.specs.Prelude.{Ok}
+use Rattle.refusal.specs.declared.Refusal.TheVariants.{NotAQueue}
 use Rattle.octets.specs.Runs.{between}
 use Rattle.octets.proofs.LittleEndian.{Bytes}
 use Rattle.line.specs.declared.Rules.{Rules}
@@ -15,10 +17,11 @@ use Rattle.line.specs.Assignments.{part_bytes}
 use Rattle.line.specs.declared.time.When.TheVariants.{Reboot, Timed}
 use Rattle.schedule.specs.declared.Schedule.{Schedule}
 use Rattle.crontab.specs.declared.entry.Entry.{Entry}
-use Rattle.crontab.specs.declared.table.EntryAnswer.TheVariants.{Found}
-use Rattle.crontab.specs.Tables.{table_of, entry_in}
+use Rattle.crontab.specs.declared.table.TableFault.{TableFault}
+use Rattle.crontab.specs.Tables.{table_of, entry_in, count_in, refusal_in}
 use Rattle.crontab.specs.Owners.{owner_of}
-use Rattle.fifo.specs.declared.CountAnswer.TheVariants.{Joined, Refused}
+use Rattle.crontab.proofs.Tables.{good-is}
+use Rattle.std.specs.Prelude.{Ok, Err}
 use Rattle.fifo.specs.Queues.{Queue, is_waiting, proper}
 use Rattle.fifo.specs.Layout.{queue_of, stored, roomy, is_queue}
 use Rattle.fifo.specs.Steps.{refilled}
@@ -28,53 +31,53 @@ use Rattle.fifo.proofs.Theorems.{waits-append}
 use Rattle.runqueue.proofs.TableAnswers.{job_is}
 use Rattle.reload.specs.EntryMeanings.{clock_of, duty_of}
 use Rattle.reload.specs.Targets.{duty_in, same_in, target_in, joins, joined, reloaded_from, reloaded}
-use Rattle.reload.specs.Calls.{reload_step, reload_tables}
+use Rattle.reload.specs.Calls.{reload_step, reload_read, reload_tables}
 use Rattle.reload.proofs.Theorems.{still-waits, was-waiting, reload-leaves, reload-fair, same-table}
 
 module _ (rules : Rules) (old new room : List ℕ) where
-  pub old-refused : ((table_of rules old).refusal ≡ 0 → ⊥) → reload_tables rules old new room ≡ record { answer = Refused (table_of rules old).refusal; room = room }
-  unfolding reload_tables
-  old-refused bad = rw (ne_eqb (table_of rules old).refusal 0 bad)
+  pub old-refused : {f : TableFault} → table_of rules old ≡ Err f → reload_tables rules old new room ≡ record { answer = Err f.refusal; room = room }
+  unfolding reload_tables reload_read
+  old-refused bad = rw bad
 
-  module _ (good : (table_of rules old).refusal ≡ 0) where
-    pub new-refused : ((table_of rules new).refusal ≡ 0 → ⊥) → reload_tables rules old new room ≡ record { answer = Refused (table_of rules new).refusal; room = room }
-    unfolding reload_tables
-    new-refused bad = rw (eq-eqb (table_of rules old).refusal 0 good, ne_eqb (table_of rules new).refusal 0 bad)
+  module _ (good : refusal_in (table_of rules old) ≡ 0) where
+    pub new-refused : {f : TableFault} → table_of rules new ≡ Err f → reload_tables rules old new room ≡ record { answer = Err f.refusal; room = room }
+    unfolding reload_tables reload_read
+    new-refused bad = rw ((good-is (table_of rules old) good).1, bad)
 
-    module _ (fine : (table_of rules new).refusal ≡ 0) where
+    module _ (fine : refusal_in (table_of rules new) ≡ 0) where
       goes : reload_tables rules old new room ≡ reload_step rules old new room
-      unfolding reload_tables
-      goes = rw (eq-eqb (table_of rules old).refusal 0 good, eq-eqb (table_of rules new).refusal 0 fine)
+      unfolding reload_tables reload_read
+      goes = rw ((good-is (table_of rules old) good).1, (good-is (table_of rules new) fine).1)
 
       -- no queue of the old table
-      pub no-old-queue : is_queue (table_of rules old).count room ≡ false → reload_tables rules old new room ≡ record { answer = Refused 28; room = room }
+      pub no-old-queue : is_queue (count_in (table_of rules old)) room ≡ false → reload_tables rules old new room ≡ record { answer = Err NotAQueue; room = room }
       unfolding reload_step
       no-old-queue none = goes ∙ rw none
 
       -- too little room for the new one
-      pub no-new-room : is_queue (table_of rules old).count room ≡ true → roomy (table_of rules new).count room ≡ false
-          → reload_tables rules old new room ≡ record { answer = Refused 28; room = room }
+      pub no-new-room : is_queue (count_in (table_of rules old)) room ≡ true → roomy (count_in (table_of rules new)) room ≡ false
+          → reload_tables rules old new room ≡ record { answer = Err NotAQueue; room = room }
       unfolding reload_step
       no-new-room line short = goes ∙ rw (line, short)
 
       -- it answers how many are queued, and keeps the mark
-      pub reload-says : is_queue (table_of rules old).count room ≡ true → roomy (table_of rules new).count room ≡ true
+      pub reload-says : is_queue (count_in (table_of rules old)) room ≡ true → roomy (count_in (table_of rules new)) room ≡ true
           → let queue = reloaded rules old new (queue_of room).waiting in
-          reload_tables rules old new room ≡ record { answer = Joined (length queue); room = stored (record { mark = (queue_of room).mark; waiting = queue }) room }
+          reload_tables rules old new room ≡ record { answer = Ok (length queue); room = stored (record { mark = (queue_of room).mark; waiting = queue }) room }
       unfolding reload_step refilled
       reload-says line enough = goes ∙ rw (line, enough)
 
   -- ---- what it leaves
 
-  pub leaves-plainly : (k : ℕ) → (reload_tables rules old new room).answer ≡ Joined k
+  pub leaves-plainly : (k : ℕ) → (reload_tables rules old new room).answer ≡ Ok k
       → let after : Queue = record { mark = (queue_of room).mark; waiting = reloaded rules old new (queue_of room).waiting } in
-      (proper (table_of rules new).count after ≡ true) × Holds after (reload_tables rules old new room).room
+      (proper (count_in (table_of rules new)) after ≡ true) × Holds after (reload_tables rules old new room).room
   leaves-plainly k done = reload-leaves rules old new room k done
 
   pub reload-fair-plainly : (k e m : ℕ) (second : List Call)
       → let jobs = jobs_in rules new in
       let n = bound_from rules new e m in
-      (reload_tables rules old new room).answer ≡ Joined k → CanFire rules new e
+      (reload_tables rules old new room).answer ≡ Ok k → CanFire rules new e
       → Follows jobs (record { mark = (queue_of room).mark; waiting = reloaded rules old new (queue_of room).waiting }) second
       → OnCalendar rules new e m → ConsecutiveTicks (m + 1) n true (unrefused jobs second) → Names jobs e (up_to n (unrefused jobs second))
   reload-fair-plainly k e m second = reload-fair rules old new room k e m second
@@ -100,7 +103,7 @@ module _ (n : ℕ) (queue : List ℕ) (j : ℕ) where
 
 module _ (rules : Rules) (old new : List ℕ) where
   abbrev count : ℕ
-  count = (table_of rules new).count
+  count = count_in (table_of rules new)
 
   stays : (queue l : List ℕ) (x : ℕ) → is_waiting x queue ≡ true → is_waiting x (reloaded_from rules old new queue l) ≡ true
   unfolding reloaded_from
@@ -121,11 +124,11 @@ module _ (rules : Rules) (old new : List ℕ) where
           (stays (joined count queue (target_in rules old new e)) l (target_in rules old new e) (joined-there count queue (target_in rules old new e) h))
 
   -- a queued entry's target, if it has one
-  pub target-queued : (l : List ℕ) (e : ℕ) → is_waiting e l ≡ true → target_in rules old new e < (table_of rules new).count → is_waiting (target_in rules old new e) (reloaded rules old new l) ≡ true
+  pub target-queued : (l : List ℕ) (e : ℕ) → is_waiting e l ≡ true → target_in rules old new e < count_in (table_of rules new) → is_waiting (target_in rules old new e) (reloaded rules old new l) ≡ true
   target-queued l e w h = queued-from [] l e w h
 
 module _ (rules : Rules) (old new l : List ℕ) where
-  pub still-plainly : (e j : ℕ) → is_waiting e l ≡ true → j < (table_of rules new).count → same_in rules old e new j ≡ true
+  pub still-plainly : (e j : ℕ) → is_waiting e l ≡ true → j < count_in (table_of rules new) → same_in rules old e new j ≡ true
       → (k : ℕ) × (is_waiting k (reloaded rules old new l) ≡ true) × (same_in rules old e new k ≡ true)
   still-plainly = still-waits rules old new l
 
@@ -138,7 +141,7 @@ same-plainly rules s room bytes = same-table rules s room bytes
 
 -- ---- what an entry asks for
 
-pub duty-is : (rules : Rules) (s : List ℕ) (i : ℕ) {x : Entry} → entry_in (table_of rules s) i ≡ Found x
+pub duty-is : (rules : Rules) (s : List ℕ) (i : ℕ) {x : Entry} → entry_in (table_of rules s) i ≡ Ok x
     → duty_in rules s i
     ≡ record {
       when = x.when;

@@ -15,7 +15,7 @@ use Rattle.octets.specs.BitSets.{has_member, with_member}
 use Rattle.octets.proofs.BitSets.{no_member, with-length, with-member}
 use Rattle.line.specs.declared.Rules.{Rules}
 use Rattle.crontab.specs.Limits.{max_entries}
-use Rattle.crontab.specs.Tables.{table_of}
+use Rattle.crontab.specs.Tables.{table_of, count_in}
 use Rattle.crontab.specs.Selections.{bit_set_words}
 use Rattle.crontab.proofs.Theorems.{table-sound}
 use Rattle.fifo.specs.Queues.{is_waiting, entries_of}
@@ -78,7 +78,7 @@ module _ (n : ℕ) (queue : List ℕ) (j : ℕ) where
 
 module _ (rules : Rules) (old new : List ℕ) where
   abbrev fewer : ℕ
-  fewer = (table_of rules new).count
+  fewer = count_in (table_of rules new)
 
   abbrev after : List ℕ → List ℕ → List ℕ
   after = reloaded_from rules old new
@@ -159,23 +159,23 @@ module _ (rules : Rules) (old new : List ℕ) where
       one (e, t, is, h) = (e, t, is, rw is at (target-same rules old new e (rw is h)))
 
 -- the same table leaves the queue as it is
-from-self : (rules : Rules) (s queue l : List ℕ) → entries_of (table_of rules s).count l ≡ true → ((x : ℕ) → is_waiting x l ≡ true → is_waiting x queue ≡ false)
+from-self : (rules : Rules) (s queue l : List ℕ) → entries_of (count_in (table_of rules s)) l ≡ true → ((x : ℕ) → is_waiting x l ≡ true → is_waiting x queue ≡ false)
     → reloaded_from rules s s queue l ≡ queue ++ l
 unfolding reloaded_from is_waiting
 from-self rules s queue [] g new = sym (append-nil queue)
 from-self rules s queue (y ∷ l) g new =
-    rw (target-self rules s y c.0, joined_in (table_of rules s).count queue y (rw (lt-ltb y (table_of rules s).count c.0, new y (rw (eq-eqb y y refl)))))
+    rw (target-self rules s y c.0, joined_in (count_in (table_of rules s)) queue y (rw (lt-ltb y (count_in (table_of rules s)) c.0, new y (rw (eq-eqb y y refl)))))
     (from-self rules s (queue ++ y ∷ []) l c.2 others ∙ append_assoc queue (y ∷ []) l)
   where
-    c : (y < (table_of rules s).count) × (is_waiting y l ≡ false) × (entries_of (table_of rules s).count l ≡ true)
-    c = entries-cons (table_of rules s).count y l g
+    c : (y < count_in (table_of rules s)) × (is_waiting y l ≡ false) × (entries_of (count_in (table_of rules s)) l ≡ true)
+    c = entries-cons (count_in (table_of rules s)) y l g
 
     others : (x : ℕ) → is_waiting x l ≡ true → is_waiting x (queue ++ y ∷ []) ≡ false
     others x t =
         let apart : eqb y x ≡ false = ne_eqb y x (λ e. true≢false (sym t ∙ rw (sym e) c.1)) in
         waits-append x queue (y ∷ []) ∙ rw (new x (rw t (or-true (eqb y x))), apart)
 
-pub reloaded-self : (rules : Rules) (s l : List ℕ) → entries_of (table_of rules s).count l ≡ true → reloaded rules s s l ≡ l
+pub reloaded-self : (rules : Rules) (s l : List ℕ) → entries_of (count_in (table_of rules s)) l ≡ true → reloaded rules s s l ≡ l
 unfolding is_waiting
 reloaded-self rules s l g = from-self rules s [] l g (λ x _. refl)
 
@@ -196,33 +196,33 @@ module _ (rules : Rules) (old new l : List ℕ) where
   keeps-none es h = record { full = h; wide = refl; is = refl; queued = λ x. no_member bit_set_words x; few = omega arith; up_to = omega arith }
 
   -- no more wait than the array has places
-  pub keeps-fit : entries_of (table_of rules old).count l ≡ true → length l ≤ max_entries
-  keeps-fit e = omega (arith, entries-length (table_of rules old).count l e, (table-sound rules old).few)
+  pub keeps-fit : entries_of (count_in (table_of rules old)) l ≡ true → length l ≤ max_entries
+  keeps-fit e = omega (arith, entries-length (count_in (table_of rules old)) l e, (table-sound rules old).few)
 
   one_more : (e place : ℕ) → place < length l → get_or l place 0 ≡ e
-      → reloaded rules old new (take (place + 1) l) ≡ joined (table_of rules new).count (reloaded rules old new (take place l)) (target_in rules old new e)
+      → reloaded rules old new (take (place + 1) l) ≡ joined (count_in (table_of rules new)) (reloaded rules old new (take place l)) (target_in rules old new e)
   unfolding reloaded_from
   one_more e place h at = ap (reloaded rules old new) (take_next l place e h at) ∙ from-append rules old new [] (take place l) (e ∷ [])
 
   module _ {es bits : List ℕ} {count place : ℕ} (k : Keeps rules old new l es bits count place) (h : place < length l) (e : ℕ) (at : get_or l place 0 ≡ e)
-      {t : ℕ} (target : t ≡ target_in rules old new e) {n : ℕ} (all : n ≡ (table_of rules new).count) {b : Bool} (has : b ≡ has_member bits t) where
+      {t : ℕ} (target : t ≡ target_in rules old new e) {n : ℕ} (all : n ≡ count_in (table_of rules new)) {b : Bool} (has : b ≡ has_member bits t) where
     abbrev before : List ℕ
     before = reloaded rules old new (take place l)
 
     -- the test, as code makes it
-    test : {c : Bool} → (ltb t n && not b) ≡ c → joins (table_of rules new).count before (target_in rules old new e) ≡ c
+    test : {c : Bool} → (ltb t n && not b) ≡ c → joins (count_in (table_of rules new)) before (target_in rules old new e) ≡ c
     test c = rw (← (k.queued (target_in rules old new e)), ← target, ← all, ← has) c
 
     pub keeps-out : (ltb t n && not b) ≡ false → Keeps rules old new l es bits count (place + 1)
     keeps-out f =
-        let same = one_more e place h at ∙ joined-out (table_of rules new).count before (target_in rules old new e) (test f) in
+        let same = one_more e place h at ∙ joined-out (count_in (table_of rules new)) before (target_in rules old new e) (test f) in
         record { full = k.full; wide = k.wide; is = k.is ∙ sym same; queued = λ x. k.queued x ∙ ap (is_waiting x) (sym same); few = omega (arith, k.few); up_to = omega arith }
 
     pub keeps-in : (ltb t n && not b) ≡ true → length l ≤ max_entries → Keeps rules old new l (set es count t) (with_member bits t) (count + 1) (place + 1)
     unfolding is_waiting
     keeps-in f small =
-        let same = one_more e place h at ∙ joined_in (table_of rules new).count before (target_in rules old new e) (test f) in
-        let inside = (joins-is (table_of rules new).count before (target_in rules old new e) (test f)).0 in
+        let same = one_more e place h at ∙ joined_in (count_in (table_of rules new)) before (target_in rules old new e) (test f) in
+        let inside = (joins-is (count_in (table_of rules new)) before (target_in rules old new e) (test f)).0 in
         let fits : count < length es = omega (arith, k.few, k.full) in
         let room : t / 64 < length bits = omega (arith, k.wide, target, inside, (table-sound rules new).few) in
         record {

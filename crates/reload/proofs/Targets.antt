@@ -9,8 +9,11 @@ use native.Mathlib.Nat.{lt_of_not-le}
 use native.Mathlib.Decide.{dec_le}
 use native.Mathlib.Omega.{arith}
 use lib.Dec.{ltb}
-use borrow.Author.Tests.{eq-eqb, lt-ltb, le-ltb}
-use Rattle.octets.specs.Search.{from}
+use borrow.Author.Tests.{lt-ltb, le-ltb}
+use Rattle.std.specs.Prelude.{Result, Ok, Err}
+use Rattle.refusal.specs.declared.Refusal.{Refusal}
+use Rattle.octets.specs.BitSets.{bit_set_of}
+use Rattle.octets.specs.Search.{least_of, from}
 use Rattle.octets.specs.Passing.{count_below, is_ranked}
 use Rattle.octets.specs.BitSets.{has_member}
 use Rattle.octets.proofs.Search.{from-same, from_some, from-least, least-from}
@@ -20,9 +23,10 @@ use Rattle.schedule.specs.Local.{OffsetInRange}
 use Rattle.line.specs.declared.Rules.{Rules}
 use Rattle.crontab.specs.declared.entry.Entry.{Entry}
 use Rattle.crontab.specs.declared.select.Selection.{Selection}
-use Rattle.crontab.specs.declared.table.EntryAnswer.{EntryAnswer}
-use Rattle.crontab.specs.declared.table.EntryAnswer.TheVariants.{Found, Refused}
-use Rattle.crontab.specs.Tables.{table_of, entry_in}
+use Rattle.crontab.specs.declared.table.Table.{Table}
+use Rattle.crontab.specs.declared.table.TableFault.{TableFault}
+use Rattle.crontab.specs.Tables.{table_of, entry_in, count_in, table_entries}
+use Rattle.crontab.proofs.Selections.{selected-good}
 use Rattle.crontab.specs.Selections.{bit_set_words, choice, selected_by}
 use Rattle.crontab.proofs.Theorems.{table-sound}
 use Rattle.runqueue.specs.Jobs.{job_at}
@@ -165,13 +169,13 @@ ranked-same p q n rank h =
 
 -- ---- entries of a table have offsets that may be
 
-duty-zone : (rules : Rules) (s : List ℕ) (i : ℕ) → i < (table_of rules s).count → OffsetInRange (duty_in rules s i).offset
+duty-zone : (rules : Rules) (s : List ℕ) (i : ℕ) → i < count_in (table_of rules s) → OffsetInRange (duty_in rules s i).offset
 unfolding duty_in duty_of job_at
 duty-zone rules s i h = clock-zone _ _ ((table-sound rules s).each i h).zone
 
 module _ (rules : Rules) where
   -- two entries pass the test exactly if they ask for the same
-  pub same-is : (s : List ℕ) (i : ℕ) (t : List ℕ) (j : ℕ) → i < (table_of rules s).count → j < (table_of rules t).count
+  pub same-is : (s : List ℕ) (i : ℕ) (t : List ℕ) (j : ℕ) → i < count_in (table_of rules s) → j < count_in (table_of rules t)
       → (same_in rules s i t j ≡ true) ↔ (duty_in rules s i ≡ duty_in rules t j)
   unfolding same_in
   same-is s i t j h k = (same-meaning-eq (duty_in rules s i) (duty_in rules t j) (duty-zone rules s i h) (duty-zone rules t j k), (λ e. rw e (same-meaning-same (duty_in rules t j))))
@@ -182,79 +186,87 @@ module _ (rules : Rules) where
 
   module _ (old new : List ℕ) (i : ℕ) where
     -- where an entry means the same, there is a target
-    pub target-there : (j : ℕ) → j < (table_of rules new).count → same_in rules old i new j ≡ true → target_in rules old new i < (table_of rules new).count
+    pub target-there : (j : ℕ) → j < count_in (table_of rules new) → same_in rules old i new j ≡ true → target_in rules old new i < count_in (table_of rules new)
     unfolding target_in
-    target-there j h t = ranked-there (same_in rules old i new) (table_of rules new).count (rank_in rules old i) j h t
+    target-there j h t = ranked-there (same_in rules old i new) (count_in (table_of rules new)) (rank_in rules old i) j h t
 
     -- and it means the same
-    pub target-same : target_in rules old new i < (table_of rules new).count → same_in rules old i new (target_in rules old new i) ≡ true
+    pub target-same : target_in rules old new i < count_in (table_of rules new) → same_in rules old i new (target_in rules old new i) ≡ true
     unfolding target_in
-    target-same h = ranked-passes (same_in rules old i new) (table_of rules new).count (rank_in rules old i) h
+    target-same h = ranked-passes (same_in rules old i new) (count_in (table_of rules new)) (rank_in rules old i) h
 
     -- it has the same rank among those, where there are enough
-    pub target-rank : rank_in rules old i < count_below (same_in rules old i new) (table_of rules new).count
+    pub target-rank : rank_in rules old i < count_below (same_in rules old i new) (count_in (table_of rules new))
         → count_below (same_in rules old i new) (target_in rules old new i) ≡ rank_in rules old i
     unfolding target_in
-    target-rank h = ranked-rank (same_in rules old i new) (table_of rules new).count (rank_in rules old i) h
+    target-rank h = ranked-rank (same_in rules old i new) (count_in (table_of rules new)) (rank_in rules old i) h
 
     -- and else it is the last of them
-    pub target-last : count_below (same_in rules old i new) (table_of rules new).count ≤ rank_in rules old i
-        → (k : ℕ) → target_in rules old new i < k → k < (table_of rules new).count → same_in rules old i new k ≡ false
+    pub target-last : count_below (same_in rules old i new) (count_in (table_of rules new)) ≤ rank_in rules old i
+        → (k : ℕ) → target_in rules old new i < k → k < count_in (table_of rules new) → same_in rules old i new k ≡ false
     unfolding target_in
-    target-last h = ranked-last (same_in rules old i new) (table_of rules new).count (rank_in rules old i) h
+    target-last h = ranked-last (same_in rules old i new) (count_in (table_of rules new)) (rank_in rules old i) h
 
     -- ---- as code finds it: by those that mean the same, a bit for each
 
-    module _ (inside : i < (table_of rules old).count) where
+    module _ (inside : i < count_in (table_of rules old)) where
       -- whether an entry of table s means the same
       abbrev pub is_peer : List ℕ → Entry → Bool
       is_peer s e = means_as rules old (job_at (table_of rules old) i) s e
 
       abbrev pub peers : List ℕ → List ℕ
-      peers s = (selected_by (is_peer s) (table_of rules s)).members
+      peers s = bit_set_of bit_set_words (choice (is_peer s) (table_entries (table_of rules s))) (count_in (table_of rules s))
 
-      peer-is : (s : List ℕ) (k : ℕ) → k < (table_of rules s).count → has_member (peers s) k ≡ same_in rules old i s k
-      unfolding selected_by choice means_as same_in duty_in job_at
+      peer-is : (s : List ℕ) (k : ℕ) → k < count_in (table_of rules s) → has_member (peers s) k ≡ same_in rules old i s k
+      unfolding choice means_as same_in duty_in job_at
       peer-is s k h =
-          bit-set-member bit_set_words (choice (is_peer s) (table_of rules s).entries) (table_of rules s).count (omega (arith, (table-sound rules s).few)) k
-          ∙ rw (lt-ltb k (table_of rules s).count h)
+          bit-set-member bit_set_words (choice (is_peer s) (table_entries (table_of rules s))) (count_in (table_of rules s)) (omega (arith, (table-sound rules s).few)) k
+          ∙ rw (lt-ltb k (count_in (table_of rules s)) h)
 
       pub rank_is : count_below (has_member (peers old)) i ≡ rank_in rules old i
       unfolding rank_in
       rank_is = below-same (has_member (peers old)) (same_in rules old i old) i (λ k u. peer-is old k (omega arith))
 
-      pub target_is : ranked_or_last (has_member (peers new)) (table_of rules new).count (rank_in rules old i) ≡ target_in rules old new i
+      pub target_is : ranked_or_last (has_member (peers new)) (count_in (table_of rules new)) (rank_in rules old i) ≡ target_in rules old new i
       unfolding target_in
-      target_is = ranked-same (has_member (peers new)) (same_in rules old i new) (table_of rules new).count (rank_in rules old i) (λ k h. peer-is new k h)
+      target_is = ranked-same (has_member (peers new)) (same_in rules old i new) (count_in (table_of rules new)) (rank_in rules old i) (λ k h. peer-is new k h)
 
   -- in the same table an entry becomes itself
-  pub target-self : (s : List ℕ) (i : ℕ) → i < (table_of rules s).count → target_in rules s s i ≡ i
+  pub target-self : (s : List ℕ) (i : ℕ) → i < count_in (table_of rules s) → target_in rules s s i ≡ i
   unfolding target_in rank_in
-  target-self s i h = ranked-itself (same_in rules s i s) (table_of rules s).count (count_below (same_in rules s i s) i) i h (itself s i) refl
+  target-self s i h = ranked-itself (same_in rules s i s) (count_in (table_of rules s)) (count_below (same_in rules s i s) i) i h (itself s i) refl
 
 -- an entry of a table is found by its number
-pub entry_found : (rules : Rules) (s : List ℕ) (i : ℕ) → i < (table_of rules s).count → entry_in (table_of rules s) i ≡ Found (job_at (table_of rules s) i)
+pub entry_found : (rules : Rules) (s : List ℕ) (i : ℕ) → i < count_in (table_of rules s) → entry_in (table_of rules s) i ≡ Ok (job_at (table_of rules s) i)
 unfolding entry_in job_at
-entry_found rules s i h =
-    let good : (table_of rules s).refusal ≡ 0 = elim (dec_le (table_of rules s).refusal 0) [ yes p ↦ omega arith | no n ↦ absurd (let z = (table-sound rules s).empty (λ k. n (omega arith)) in omega arith) ] in
-    rw (eq-eqb (table_of rules s).refusal 0 good, lt-ltb i (table_of rules s).count h)
+entry_found rules s i h = go (table_of rules s) h
+  where
+    go : (t : Result Table TableFault) → i < count_in t → entry_in t i ≡ Ok (job_at t i)
+    go (Ok x) h = rw (lt-ltb i x.count h)
+    go (Err f) h = absurd (omega arith)
+
+-- a refused table has no entries, and so no target
+pub target-refused : (rules : Rules) (old new : List ℕ) (i : ℕ) → count_in (table_of rules new) ≡ 0 → 0 ≡ target_in rules old new i
+unfolding target_in ranked_or_last from least_of
+target-refused rules old new i none = rw none
 
 -- as code ends: the marks of both tables, and the ranks among them
-pub target-ends : (rules : Rules) (old new : List ℕ) (i : ℕ) (inside : i < (table_of rules old).count) {x : Entry} {here there : Selection} {rank r : ℕ}
+pub target-ends : (rules : Rules) (old new : List ℕ) (i : ℕ) (inside : i < count_in (table_of rules old)) {x : Entry} {here there : Selection} {rank r : ℕ}
     → x ≡ job_at (table_of rules old) i
-    → here ≡ selected_by (means_as rules old x old) (table_of rules old) → there ≡ selected_by (means_as rules old x new) (table_of rules new)
+    → Ok here ≡ selected_by (means_as rules old x old) (table_of rules old) → Ok there ≡ selected_by (means_as rules old x new) (table_of rules new)
     → rank ≡ count_below (has_member here.members) i → r ≡ ranked_or_last (has_member there.members) there.count rank
     → r ≡ target_in rules old new i
-unfolding selected_by
 target-ends rules old new i inside is h t p q =
-    q ∙ rw (p, h, t, is) (rw (rank_is rules old new i inside) (target_is rules old new i inside))
+    let m = selected-good _ (table_of rules old) h in
+    let k = selected-good _ (table_of rules new) t in
+    q ∙ rw (p, m.2, k.2, k.1, is) (rw (rank_is rules old new i inside) (target_is rules old new i inside))
 
-pub entry-is : (rules : Rules) (s : List ℕ) (i : ℕ) {a : EntryAnswer} {x : Entry} → i < (table_of rules s).count → a ≡ entry_in (table_of rules s) i → a ≡ Found x
+pub entry-is : (rules : Rules) (s : List ℕ) (i : ℕ) {a : Result Entry Refusal} {x : Entry} → i < count_in (table_of rules s) → a ≡ entry_in (table_of rules s) i → a ≡ Ok x
     → x ≡ job_at (table_of rules s) i
-entry-is rules s i {a} {x} h e f = let q : Found x ≡ Found (job_at (table_of rules s) i) = sym f ∙ e ∙ entry_found rules s i h in cc
+entry-is rules s i {a} {x} h e f = let q : Ok x ≡ Ok (job_at (table_of rules s) i) = sym f ∙ e ∙ entry_found rules s i h in cc
 
-pub entry-some : (rules : Rules) (s : List ℕ) (i : ℕ) {a : EntryAnswer} {number : ℕ} → i < (table_of rules s).count → a ≡ entry_in (table_of rules s) i
-    → a ≡ Refused number → ⊥
-entry-some rules s i {a} {number} h e f =
-    let q : Refused number ≡ Found (job_at (table_of rules s) i) = sym f ∙ e ∙ entry_found rules s i h in
+pub entry-some : (rules : Rules) (s : List ℕ) (i : ℕ) {a : Result Entry Refusal} {refusal : Refusal} → i < count_in (table_of rules s) → a ≡ entry_in (table_of rules s) i
+    → a ≡ Err refusal → ⊥
+entry-some rules s i {a} {refusal} h e f =
+    let q : Err refusal ≡ Ok (job_at (table_of rules s) i) = sym f ∙ e ∙ entry_found rules s i h in
     let z : ◌≡◌ {A = ℕ} 0 1 = cc in omega arith

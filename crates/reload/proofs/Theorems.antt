@@ -18,14 +18,15 @@ use mathlib.Core.List.{List}
 use Prim.Native.Nat.{ℕ, ◌+◌}
 use native.Mathlib.Omega.{arith}
 use lib.ListN.{length}
-use lib.Dec.{eqb}
-use borrow.Author.Tests.{eqb-false}
-use Rattle.crontab.proofs.Theorems.{table-sound}
+use Rattle.refusal.specs.declared.Refusal.{Refusal}
+use Rattle.refusal.specs.declared.Refusal.TheVariants.{NotAQueue}
+use Rattle.refusal.proofs.Numbers.{number-small}
 use Rattle.schedule.specs.Local.{OffsetInRange}
 use Rattle.line.specs.declared.Rules.{Rules}
-use Rattle.crontab.specs.Tables.{table_of}
-use Rattle.fifo.specs.declared.CountAnswer.{CountAnswer}
-use Rattle.fifo.specs.declared.CountAnswer.TheVariants.{Joined, Refused}
+use Rattle.crontab.specs.declared.table.Table.{Table}
+use Rattle.crontab.specs.declared.table.TableFault.{TableFault}
+use Rattle.crontab.specs.Tables.{table_of, count_in}
+use Rattle.std.specs.Prelude.{Result, Ok, Err}
 use Rattle.fifo.specs.Queues.{Queue, proper}
 use Rattle.fifo.specs.Layout.{queue_of, stored, roomy, is_queue}
 use Rattle.fifo.specs.Steps.{Step, refilled}
@@ -36,7 +37,7 @@ use Rattle.runqueue.specs.Demand.{jobs_in, CanFire, OnCalendar, bound_from}
 use Rattle.runqueue.proofs.Theorems.{table-fair-from}
 use Rattle.fifo.proofs.Theorems.{TickedWithin, entries-length, is-queue, make-proper, holds-laid, laid-queue}
 use Rattle.reload.specs.EntryMeanings.{EntryMeaning, same_meaning}
-use Rattle.reload.specs.Calls.{refused_reload, queue_in, reload_step, reload_tables}
+use Rattle.reload.specs.Calls.{refused_reload, queue_in, reload_step, reload_read, reload_tables}
 use Rattle.reload.proofs.EntryMeanings.{same-meaning-eq, same-meaning-same}
 use Rattle.reload.proofs.Reloads.{reloaded-entries, reloaded-self}
 pub use Rattle.reload.proofs.Targets.{same-is, target-rank, target-last}
@@ -52,87 +53,83 @@ module _ (rules : Rules) (old new room : List ℕ) where
   queue_after = record { mark = (queue_of room).mark; waiting = queue_in rules old new room }
 
   -- no more wait than the new table has entries
-  step-told : TickedWithin (table_of rules new).count (reload_step rules old new room).answer
+  step-told : TickedWithin (count_in (table_of rules new)) (reload_step rules old new room).answer
   unfolding reload_step
-  step-told = go (is_queue (table_of rules old).count room && roomy (table_of rules new).count room) refl
+  step-told = go (is_queue (count_in (table_of rules old)) room && roomy (count_in (table_of rules new)) room) refl
     where
-      go : (b : Bool) → (is_queue (table_of rules old).count room && roomy (table_of rules new).count room) ≡ b
-          → TickedWithin (table_of rules new).count
-          (cond {A = Step CountAnswer} b (record { answer = Joined (length (queue_in rules old new room)); room = refilled (queue_in rules old new room) room }) (refused_reload 28 room)).answer
+      go : (b : Bool) → (is_queue (count_in (table_of rules old)) room && roomy (count_in (table_of rules new)) room) ≡ b
+          → TickedWithin (count_in (table_of rules new))
+          (cond {A = Step (Result ℕ Refusal)} b (record { answer = Ok (length (queue_in rules old new room)); room = refilled (queue_in rules old new room) room }) (refused_reload NotAQueue room)).answer
       go true e =
-          entries-length (table_of rules new).count (queue_in rules old new room) (reloaded-entries rules old new (queue_of room).waiting)
-      go false e = omega arith
+          entries-length (count_in (table_of rules new)) (queue_in rules old new room) (reloaded-entries rules old new (queue_of room).waiting)
+      go false e = number-small NotAQueue
 
-  pub reload-told : TickedWithin (table_of rules new).count (reload_tables rules old new room).answer
-  unfolding reload_tables
-  reload-told = go (eqb (table_of rules old).refusal 0) refl (eqb (table_of rules new).refusal 0) refl
+  pub reload-told : TickedWithin (count_in (table_of rules new)) (reload_tables rules old new room).answer
+  unfolding reload_tables reload_read
+  reload-told = go (table_of rules old) (table_of rules new)
     where
-      go : (b : Bool) → eqb (table_of rules old).refusal 0 ≡ b → (d : Bool) → eqb (table_of rules new).refusal 0 ≡ d
-          → TickedWithin (table_of rules new).count
-          (cond {A = Step CountAnswer} b (cond d (reload_step rules old new room) (refused_reload (table_of rules new).refusal room)) (refused_reload (table_of rules old).refusal room)).answer
-      go true e true f = step-told
-      go true e false f = omega (arith, eqb-false (table_of rules new).refusal 0 f, (table-sound rules new).number)
-      go false e d f = omega (arith, eqb-false (table_of rules old).refusal 0 e, (table-sound rules old).number)
+      go : (t u : Result Table TableFault) → TickedWithin (count_in (table_of rules new)) (reload_read t u (reload_step rules old new room) room).answer
+      go (Err f) u = number-small f.refusal
+      go (Ok t) (Err f) = number-small f.refusal
+      go (Ok t) (Ok u) = step-told
 
   -- a refused call leaves the room as it was
-  step_stays : (n : ℕ) → (reload_step rules old new room).answer ≡ Refused n → (reload_step rules old new room).room ≡ room
+  step_stays : (n : Refusal) → (reload_step rules old new room).answer ≡ Err n → (reload_step rules old new room).room ≡ room
   unfolding reload_step
-  step_stays n = go (is_queue (table_of rules old).count room && roomy (table_of rules new).count room)
+  step_stays n = go (is_queue (count_in (table_of rules old)) room && roomy (count_in (table_of rules new)) room)
     where
       go : (b : Bool)
-          → let s : Step CountAnswer =
-          cond b (record { answer = Joined (length (queue_in rules old new room)); room = refilled (queue_in rules old new room) room }) (refused_reload 28 room)
+          → let s : Step (Result ℕ Refusal) =
+          cond b (record { answer = Ok (length (queue_in rules old new room)); room = refilled (queue_in rules old new room) room }) (refused_reload NotAQueue room)
           in
-          s.answer ≡ Refused n → s.room ≡ room
+          s.answer ≡ Err n → s.room ≡ room
       go true e = absurd (let z : ◌≡◌ {A = ℕ} 0 1 = cc in omega arith)
       go false e = refl
 
-  pub reload-stays : (n : ℕ) → (reload_tables rules old new room).answer ≡ Refused n → (reload_tables rules old new room).room ≡ room
-  unfolding reload_tables
-  reload-stays n = go (eqb (table_of rules old).refusal 0) (eqb (table_of rules new).refusal 0)
+  pub reload-stays : (n : Refusal) → (reload_tables rules old new room).answer ≡ Err n → (reload_tables rules old new room).room ≡ room
+  unfolding reload_tables reload_read
+  reload-stays n = go (table_of rules old) (table_of rules new)
     where
-      go : (b d : Bool)
-          → let s : Step CountAnswer = cond b (cond d (reload_step rules old new room) (refused_reload (table_of rules new).refusal room)) (refused_reload (table_of rules old).refusal room) in
-          s.answer ≡ Refused n → s.room ≡ room
-      go true true e = step_stays n e
-      go true false e = refl
-      go false d e = refl
+      go : (t u : Result Table TableFault) → let s = reload_read t u (reload_step rules old new room) room in s.answer ≡ Err n → s.room ≡ room
+      go (Err f) u e = refl
+      go (Ok t) (Err f) e = refl
+      go (Ok t) (Ok u) e = step_stays n e
 
   -- ---- what it leaves
 
   -- a line of the new table, with the old mark
-  step-leaves : (k : ℕ) → (reload_step rules old new room).answer ≡ Joined k
-      → (proper (table_of rules new).count queue_after ≡ true) × (Holds queue_after (reload_step rules old new room).room)
+  step-leaves : (k : ℕ) → (reload_step rules old new room).answer ≡ Ok k
+      → (proper (count_in (table_of rules new)) queue_after ≡ true) × (Holds queue_after (reload_step rules old new room).room)
   unfolding reload_step refilled queue_of
-  step-leaves k e = go (is_queue (table_of rules old).count room && roomy (table_of rules new).count room) refl e
+  step-leaves k e = go (is_queue (count_in (table_of rules old)) room && roomy (count_in (table_of rules new)) room) refl e
     where
-      go : (b : Bool) → (is_queue (table_of rules old).count room && roomy (table_of rules new).count room) ≡ b
-          → let s : Step CountAnswer =
-          cond b (record { answer = Joined (length (queue_in rules old new room)); room = refilled (queue_in rules old new room) room }) (refused_reload 28 room)
+      go : (b : Bool) → (is_queue (count_in (table_of rules old)) room && roomy (count_in (table_of rules new)) room) ≡ b
+          → let s : Step (Result ℕ Refusal) =
+          cond b (record { answer = Ok (length (queue_in rules old new room)); room = refilled (queue_in rules old new room) room }) (refused_reload NotAQueue room)
           in
-          s.answer ≡ Joined k → (proper (table_of rules new).count queue_after ≡ true) × (Holds queue_after s.room)
+          s.answer ≡ Ok k → (proper (count_in (table_of rules new)) queue_after ≡ true) × (Holds queue_after s.room)
       go false f e = absurd (let z : ◌≡◌ {A = ℕ} 0 1 = cc in omega arith)
       go true f e =
-          let line = ((and-eq-true_iff (is_queue (table_of rules old).count room) (roomy (table_of rules new).count room)).0 f).0 in
-          let is = is-queue (table_of rules old).count room line in
-          (make-proper (table_of rules new).count queue_after is.0 (reloaded-entries rules old new (queue_of room).waiting), holds-laid queue_after room)
+          let line = ((and-eq-true_iff (is_queue (count_in (table_of rules old)) room) (roomy (count_in (table_of rules new)) room)).0 f).0 in
+          let is = is-queue (count_in (table_of rules old)) room line in
+          (make-proper (count_in (table_of rules new)) queue_after is.0 (reloaded-entries rules old new (queue_of room).waiting), holds-laid queue_after room)
 
-  pub reload-leaves : (k : ℕ) → (reload_tables rules old new room).answer ≡ Joined k
-      → (proper (table_of rules new).count queue_after ≡ true) × (Holds queue_after (reload_tables rules old new room).room)
-  unfolding reload_tables
-  reload-leaves k = go (eqb (table_of rules old).refusal 0) (eqb (table_of rules new).refusal 0)
+  pub reload-leaves : (k : ℕ) → (reload_tables rules old new room).answer ≡ Ok k
+      → (proper (count_in (table_of rules new)) queue_after ≡ true) × (Holds queue_after (reload_tables rules old new room).room)
+  unfolding reload_tables reload_read
+  reload-leaves k = go (table_of rules old) (table_of rules new)
     where
-      go : (b d : Bool)
-          → let s : Step CountAnswer = cond b (cond d (reload_step rules old new room) (refused_reload (table_of rules new).refusal room)) (refused_reload (table_of rules old).refusal room) in
-          s.answer ≡ Joined k → (proper (table_of rules new).count queue_after ≡ true) × (Holds queue_after s.room)
-      go true true e = step-leaves k e
-      go true false e = absurd (let z : ◌≡◌ {A = ℕ} 0 1 = cc in omega arith)
-      go false d e = absurd (let z : ◌≡◌ {A = ℕ} 0 1 = cc in omega arith)
+      go : (t u : Result Table TableFault)
+          → let s = reload_read t u (reload_step rules old new room) room in
+          s.answer ≡ Ok k → (proper (count_in (table_of rules new)) queue_after ≡ true) × (Holds queue_after s.room)
+      go (Err f) u e = absurd (let z : ◌≡◌ {A = ℕ} 0 1 = cc in omega arith)
+      go (Ok t) (Err f) e = absurd (let z : ◌≡◌ {A = ℕ} 0 1 = cc in omega arith)
+      go (Ok t) (Ok u) e = step-leaves k e
 
   -- demand 3 goes on from there: any list of calls with the new table that goes on from the line which a reload left
   pub reload-fair : (k e t : ℕ) (second : List Call)
       → let jobs = jobs_in rules new in
-      (reload_tables rules old new room).answer ≡ Joined k
+      (reload_tables rules old new room).answer ≡ Ok k
       → CanFire rules new e
       → Follows jobs queue_after second
       → OnCalendar rules new e t
@@ -146,28 +143,19 @@ module _ (rules : Rules) (old new room : List ℕ) where
 
 -- reloading the same table changes no byte
 pub same-table : (rules : Rules) (s room : List ℕ) → Bytes room → (reload_tables rules s s room).room ≡ room
-unfolding reload_tables reload_step refilled
-same-table rules s room f = outer (eqb (table_of rules s).refusal 0)
+unfolding reload_tables reload_read reload_step refilled
+same-table rules s room f = outer (table_of rules s)
   where
     n : ℕ
-    n = (table_of rules s).count
+    n = count_in (table_of rules s)
 
     inner : (b : Bool) → (is_queue n room && roomy n room) ≡ b
-        → (cond {A = Step CountAnswer} b (record { answer = Joined (length (queue_in rules s s room)); room = stored (queue_after rules s s room) room }) (refused_reload 28 room)).room ≡ room
+        → (cond {A = Step (Result ℕ Refusal)} b (record { answer = Ok (length (queue_in rules s s room)); room = stored (queue_after rules s s room) room }) (refused_reload NotAQueue room)).room ≡ room
     inner false e = refl
     inner true e =
         let line = ((and-eq-true_iff (is_queue n room) (roomy n room)).0 e).0 in
         rw (reloaded-self rules s (queue_of room).waiting (is-queue n room line).1) (laid-queue n room f line)
 
-    outer : (b : Bool)
-        → (cond {A = Step CountAnswer} b
-        (cond b
-        (cond (is_queue n room && roomy n room)
-        (record { answer = Joined (length (queue_in rules s s room)); room = stored (queue_after rules s s room) room })
-        (refused_reload 28 room))
-        (refused_reload (table_of rules s).refusal room))
-        (refused_reload (table_of rules s).refusal room)
-        ).room
-        ≡ room
-    outer true = inner (is_queue n room && roomy n room) refl
-    outer false = refl
+    outer : (t : Result Table TableFault) → (reload_read t t (reload_step rules s s room) room).room ≡ room
+    outer (Ok t) = inner (is_queue n room && roomy n room) refl
+    outer (Err g) = refl

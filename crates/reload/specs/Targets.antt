@@ -5,7 +5,7 @@ use Rattle.std.specs.Prelude.{ℕ, ◌-◌, Bool, cond, not, ◌&&◌, List, [],
 use Rattle.octets.specs.Search.{from}
 use Rattle.octets.specs.Passing.{count_below, is_ranked}
 use Rattle.line.specs.declared.Rules.{Rules}
-use Rattle.crontab.specs.Tables.{table_of}
+use Rattle.crontab.specs.Tables.{table_of, count_in}
 use Rattle.fifo.specs.Queues.{is_waiting}
 use Rattle.runqueue.specs.Jobs.{job_at}
 use Rattle.reload.specs.EntryMeanings.{EntryMeaning, duty_of, same_meaning}
@@ -30,7 +30,7 @@ ranked_or_last p n rank =
 
 -- L3: the entry that entry i becomes; the count of the new table if there is none
 unfoldable pub target_in : Rules → List ℕ → List ℕ → ℕ → ℕ
-target_in rules old new i = ranked_or_last (same_in rules old i new) (table_of rules new).count (rank_in rules old i)
+target_in rules old new i = ranked_or_last (same_in rules old i new) (count_in (table_of rules new)) (rank_in rules old i)
 
 -- L4: an entry of the new table, which has n, that isn't queued already
 abbrev pub joins : ℕ → List ℕ → ℕ → Bool
@@ -43,7 +43,7 @@ joined n queue j = cond (joins n queue j) (queue ++ j ∷ []) queue
 -- L4: the old queue from its front on, each entry as its target
 unfoldable pub reloaded_from : Rules → List ℕ → List ℕ → List ℕ → List ℕ → List ℕ
 reloaded_from rules old new queue [] = queue
-reloaded_from rules old new queue (e ∷ l) = reloaded_from rules old new (joined (table_of rules new).count queue (target_in rules old new e)) l
+reloaded_from rules old new queue (e ∷ l) = reloaded_from rules old new (joined (count_in (table_of rules new)) queue (target_in rules old new e)) l
 
 -- L4: the queue after a reload
 abbrev pub reloaded : Rules → List ℕ → List ℕ → List ℕ → List ℕ

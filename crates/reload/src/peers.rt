@@ -8,40 +8,33 @@ ghost use Rattle.reload.specs.EntryMeanings.{means_as};
 use crate::same_meaning::is_same_meaning;
 use crontab::entry::Entry;
 use crontab::item::Item;
-use crontab::select::{Selection, WORDS, add_if, refused};
-use crontab::{MAX_TABLE, TABLE_TOO_LONG, item};
+use crontab::select::{Selection, WORDS, add_if};
+use crontab::{MAX_TABLE, item};
 use line::Rules;
+use refusal::Refusal;
 
 // Those of table s that mean what an entry of table t does.
-pub(crate) fn read(s: &[u8], rules: Rules, t: &[u8], entry: Entry) -> Selection
+pub(crate) fn read(s: &[u8], rules: Rules, t: &[u8], entry: Entry) -> Result<Selection, Refusal>
     requires { Sound (length t.now) entry }
     ensures { result ≡ selected_by (means_as rules t.now entry s.now) (table_of rules s.now) }
 {
     if MAX_TABLE < s.len() {
-        return refused(TABLE_TOO_LONG);
+        return Err(Refusal::TableTooLong);
     }
     let mut members = [0u64; WORDS];
     let mut c = item::START;
     loop {
         let count = c.count;
-        let step = item::next_item(s, rules, c);
+        let step = item::next_item(s, rules, c)?;
         c = step.next;
-        let item = step.item;
-        match item {
-            Item::Nothing => {
-                return Selection {
-                    refusal: 0,
-                    count,
-                    members,
-                };
-            }
-            Item::Refused(fault) => return refused(fault.number),
+        match step.item {
+            Item::Nothing => return Ok(Selection { count, members }),
             Item::Entry(other) => add_if(
                 &mut members,
                 count,
                 is_same_meaning(t, entry, s, other, rules),
             ),
-            Item::Setting { name: _, value: _ } => {}
+            Item::Setting { .. } => {}
         }
     }
 }

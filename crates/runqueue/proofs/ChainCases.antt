@@ -1,6 +1,8 @@
 -- The hypotheses of the claims about the chain can be met, and are needed.
 -- Assumes nothing.
 use mathlib.Core.Path.{◌≡◌, refl, ap, ◌∙◌}
+use Rattle.std.specs.Prelude.{Ok, Option, Some}
+use Rattle.refusal.specs.declared.Refusal.{Refusal}
 use Rattle.schedule.specs.Local.{max_west}
 use mathlib.Core.Bool.{true, not, and-false}
 use mathlib.Core.List.{List, []}
@@ -9,21 +11,16 @@ use native.Mathlib.Omega.{arith}
 use borrow.Author.Tests.{le-leb}
 use lib.IntN.{negsuc}
 use Rattle.calendar.specs.Dates.{last_minute, cycle_minutes}
-use Rattle.schedule.specs.declared.Next.TheVariants as next
-use Rattle.schedule.specs.declared.jump.Mark.{Mark}
-use Rattle.schedule.specs.declared.jump.Mark.TheVariants as mark
 use Rattle.schedule.specs.Examples as schedule
 use Rattle.schedule.specs.Local.{next_after_in}
 use Rattle.schedule.proofs.Theorems.{known-days-in, next-is-in, next-at-in, case-held}
 use Rattle.schedule.specs.Jumps.{judged}
 use Rattle.line.specs.declared.time.When.TheVariants.{Timed}
 use Rattle.crontab.specs.declared.entry.Entry.{Entry}
-use Rattle.crontab.specs.declared.table.EntryAnswer.TheVariants.{Found}
-use Rattle.crontab.specs.declared.firing.NextAnswer.TheVariants.{At}
 use Rattle.crontab.specs.Computing.{reading, zoning}
-use Rattle.crontab.specs.Tables.{table_of, entry_in}
-use Rattle.crontab.specs.Firings.{told, next_of, next_answer, next_in}
-use Rattle.fifo.specs.declared.CountAnswer.{CountAnswer}
+use Rattle.crontab.specs.Tables.{table_of, entry_in, count_in, refusal_in}
+use Rattle.crontab.specs.Firings.{next_of, next_answer, next_in}
+use Rattle.std.specs.Prelude.{Result}
 use Rattle.fifo.specs.Queues.{Queue, is_waiting, pick}
 use Rattle.fifo.specs.Layout.{queue_of, stored, is_queue}
 use Rattle.fifo.specs.Steps.{Step, calls, joins, joiners, ticked, refilled}
@@ -44,7 +41,7 @@ evening-is : job_at (table_of user_rules west_evenings) 0 ≡ evening
 unfolding job_at evening reading schedule.schedules
 evening-is = refl
 
-evening-found : entry_in (table_of user_rules west_evenings) 0 ≡ Found evening
+evening-found : entry_in (table_of user_rules west_evenings) 0 ≡ Ok evening
 unfolding entry_in evening reading schedule.schedules
 evening-found = refl
 
@@ -52,12 +49,12 @@ biased-offset-is : biased_offset_of user_rules west_evenings 0 ≡ 0
 unfolding evening
 biased-offset-is = rw evening-is
 
-evening-next : (m n : ℕ) → m ≤ last_minute → next_after_in schedule.evenings 0 m ≡ next.At n → next_in (table_of user_rules west_evenings) 0 m ≡ At n
-unfolding next_in next_answer next_of told evening
+evening-next : (m n : ℕ) → m ≤ last_minute → next_after_in schedule.evenings 0 m ≡ Ok n → next_in (table_of user_rules west_evenings) 0 m ≡ Ok n
+unfolding next_in next_answer next_of evening
 evening-next m n h e = rw (evening-found, le-leb m last_minute h, e)
 
 -- none fires from minute 0 to the first evening
-from-max_west : next_after_in schedule.evenings 0 max_west ≡ next.At 1800
+from-max_west : next_after_in schedule.evenings 0 max_west ≡ Ok 1800
 from-max_west =
     let (u, v, t, none) = next-is-in schedule.evenings 0 0 1800 known-days-in.3 in
     next-at-in schedule.evenings 0 max_west 1800 (omega arith) v t (λ k h i. none k (omega arith) i)
@@ -121,7 +118,7 @@ fresh_unmarked rules table room good enough = rw (init-good (table_of rules tabl
 
 -- ---- a line that has a mark
 
-midnight-good : midnights.refusal ≡ 0
+midnight-good : refusal_in midnights ≡ 0
 unfolding reading
 midnight-good = refl
 
@@ -134,15 +131,15 @@ unfolding jobs_of job_at zoning
 midnight-fixed = refl
 
 -- the entry is held back
-nobody-joins : (m : Mark) → m ≡ mark.At 1440 → (ticked (jobs_of midnights) 1440 (record { mark = m; waiting = [] })).waiting ≡ []
+nobody-joins : (m : Option ℕ) → m ≡ Some 1440 → (ticked (jobs_of midnights) 1440 (record { mark = m; waiting = [] })).waiting ≡ []
 unfolding ticked joiners joins calls judged pick is_waiting
 nobody-joins m e = rw (e, midnight-one, case-held 1440 1440 (omega arith) (omega arith), midnight-fixed, and-false (not ((jobs_of midnights).boot 0)))
 
-after-mark : (room : List ℕ) → is_queue midnights.count room ≡ true → (queue_of room).mark ≡ mark.At 1440 → (queue_of (announced midnights 1440 room)).waiting ≡ []
+after-mark : (room : List ℕ) → is_queue (count_in midnights) room ≡ true → (queue_of room).mark ≡ Some 1440 → (queue_of (announced midnights 1440 room)).waiting ≡ []
 unfolding announced emptied refilled jobs_of
 after-mark room line e =
     let step = tick-good midnights (stored (record { mark = (queue_of room).mark; waiting = [] }) room) midnight-good 1440 in
-    ap (λ (s : Step CountAnswer). (queue_of s.room).waiting) step
+    ap (λ (s : Step (Result ℕ Refusal)). (queue_of s.room).waiting) step
     ∙ ap (λ (l : Queue). l.waiting) (announced-queue (jobs_of midnights) (few user_rules midnight_table) 1440 (omega arith) room line)
     ∙ nobody-joins (queue_of room).mark e
 

@@ -5,11 +5,13 @@ use mathlib.Core.Path.{◌≡◌, refl, sym, ap, ◌∙◌}
 use mathlib.Core.Bool.{Bool, true, false, cond, not, ◌&&◌}
 use mathlib.Core.List.{List}
 use Prim.Native.Nat.{ℕ, zero, suc, ◌+◌, ◌-◌, ◌≤◌, ◌<◌}
-use native.Mathlib.Decide.{dec_le}
 use native.Mathlib.Omega.{arith}
 use lib.Dec.{ltb}
 use lib.ListN.{get_or}
-use borrow.Author.Tests.{eq-eqb, ne_eqb}
+use Rattle.std.specs.Prelude.{Ok, Err, Result}
+use Rattle.refusal.specs.declared.Refusal.{Refusal}
+use Rattle.refusal.specs.declared.Refusal.TheVariants.{NoSuchEntry}
+use Rattle.refusal.proofs.Numbers.{number-small}
 use Rattle.octets.specs.Passing.{passing, passing_up_to}
 use Rattle.calendar.specs.Dates.{last_minute}
 use Rattle.schedule.specs.Local.{biased_offset, matches_in}
@@ -17,12 +19,12 @@ use Rattle.line.specs.declared.time.When.{When}
 use Rattle.line.specs.declared.time.When.TheVariants.{Reboot, Timed}
 use Rattle.crontab.specs.declared.entry.Entry.{Entry}
 use Rattle.crontab.specs.declared.table.Table.{Table}
-use Rattle.crontab.specs.declared.table.EntryAnswer.TheVariants.{Found, Refused}
-use Rattle.crontab.specs.Tables.{table_of, entry_in, blank_entry}
+use Rattle.crontab.specs.declared.table.TableFault.{TableFault}
+use Rattle.crontab.specs.Tables.{table_of, entry_in, blank_entry, count_in, refusal_in}
 use Rattle.crontab.specs.Firings.{by_when, is_boot, fires_at, due_answer, due_in}
 use Rattle.fifo.specs.Queues.{Queue, is_waiting}
 use Rattle.fifo.specs.Layout.{limit, queue_of, stored, is_queue}
-use Rattle.fifo.specs.declared.CountAnswer.{CountAnswer}
+use Rattle.std.specs.Prelude.{Result}
 use Rattle.fifo.specs.Steps.{Step, tick_step, refilled}
 use Rattle.fifo.proofs.Theorems.{is_called, Before, without, emptied-queue, emptied-is, announced-is, announced-mark, announced-waits}
 use Rattle.runqueue.specs.Jobs.{job_at, jobs_of}
@@ -42,25 +44,25 @@ timed-fires x m = go x.when
     go Reboot = refl
     go (Timed s) = refl
 
-module _ (t : Table) (e m : ℕ) where
-  due-called : t.refusal ≡ 0 → m ≤ last_minute → is_called (jobs_of t) m e ≡ is_yes (due_in t e m)
-  unfolding is_called jobs_of job_at due_in due_answer entry_in
-  due-called good on = rw (eq-eqb t.refusal 0 good) (go (ltb e t.count))
-    where
-      x : Entry
-      x = get_or t.entries e blank_entry
+due-called : (t : Result Table TableFault) (e m : ℕ) → refusal_in t ≡ 0 → m ≤ last_minute → is_called (jobs_of t) m e ≡ is_yes (due_in t e m)
+unfolding is_called jobs_of job_at due_in due_answer entry_in
+due-called (Err f) e m good on = absurd (let small = number-small f.refusal in omega (arith, small.0, good))
+due-called (Ok y) e m good on = go (ltb e y.count)
+  where
+    x : Entry
+    x = get_or y.entries e blank_entry
 
-      go : (b : Bool) → (b && (not (is_boot x) && fires_at x m)) ≡ is_yes (due_answer (cond b (Found x) (Refused 13)) m)
-      go true = timed-fires x m ∙ sym (yes-fires x m on)
-      go false = refl
+    go : (b : Bool) → (b && (not (is_boot x) && fires_at x m)) ≡ is_yes (due_answer (cond b (Ok x) (Err NoSuchEntry)) m)
+    go true = timed-fires x m ∙ sym (yes-fires x m on)
+    go false = refl
 
-  due-none : (t.refusal ≡ 0 → ⊥) → is_yes (due_in t e m) ≡ false
-  unfolding due_in due_answer entry_in
-  due-none bad = rw (ne_eqb t.refusal 0 bad)
+due-none : (t : Result Table TableFault) (e m : ℕ) {f : TableFault} → t ≡ Err f → is_yes (due_in t e m) ≡ false
+unfolding due_in due_answer entry_in
+due-none t e m bad = rw bad
 
 -- ---- minute by minute, while something holds of each minute and its room
 
-module _ (t : Table) (e : ℕ) where
+module _ (t : Result Table TableFault) (e : ℕ) where
   abbrev is_due : ℕ → Bool
   is_due m = is_yes (due_in t e m)
 
@@ -78,52 +80,55 @@ module _ (t : Table) (e : ℕ) where
 
 -- ---- the two kinds of table
 
-module _ (t : Table) (small : t.count < limit) (e : ℕ) where
+module _ (t : Result Table TableFault) (small : count_in t < limit) (e : ℕ) where
   -- a good one: the room has a line of it, and no mark or the minute before
   abbrev Follows : ℕ → List ℕ → Type 0
-  Follows m room = (is_queue t.count room ≡ true) × Before (queue_of room).mark m
+  Follows m room = (is_queue (count_in t) room ≡ true) × Before (queue_of room).mark m
 
-  good-room : t.refusal ≡ 0 → (m : ℕ) (room : List ℕ) → announced t m room ≡ (tick_step (jobs_of t) m (stored (without (queue_of room)) room)).room
+  good-room : refusal_in t ≡ 0 → (m : ℕ) (room : List ℕ) → announced t m room ≡ (tick_step (jobs_of t) m (stored (without (queue_of room)) room)).room
   unfolding announced emptied refilled
-  good-room good m room = ap (λ (s : Step CountAnswer). s.room) (tick-good t (stored (without (queue_of room)) room) good m)
+  good-room good m room = ap (λ (s : Step (Result ℕ Refusal)). s.room) (tick-good t (stored (without (queue_of room)) room) good m)
 
-  good-next : t.refusal ≡ 0 → (m : ℕ) (room : List ℕ) → m ≤ last_minute → Follows m room → Follows (suc m) (announced t m room)
+  good-next : refusal_in t ≡ 0 → (m : ℕ) (room : List ℕ) → m ≤ last_minute → Follows m room → Follows (suc m) (announced t m room)
   unfolding jobs_of
   good-next good m room on (line, before) =
       let next : suc m ≡ m + 1 = omega arith in
       rw (good-room good m room) (announced-is (jobs_of t) small m on room line, rw (announced-mark (jobs_of t) small m on room line before) next)
 
-  good-joins : t.refusal ≡ 0 → (m : ℕ) (room : List ℕ) → m ≤ last_minute → Follows m room
+  good-joins : refusal_in t ≡ 0 → (m : ℕ) (room : List ℕ) → m ≤ last_minute → Follows m room
       → is_waiting e (queue_of (announced t m room)).waiting ≡ is_yes (due_in t e m)
   unfolding jobs_of
   good-joins good m room on (line, before) =
       rw (good-room good m room) (announced-waits (jobs_of t) small m on room line before e ∙ due-called t e m good on)
 
   -- a refused one: the room stays a line of none
-  bad-room : (t.refusal ≡ 0 → ⊥) → (m : ℕ) (room : List ℕ) → stored (without (queue_of room)) room ≡ announced t m room
+  bad-room : {f : TableFault} → t ≡ Err f → (m : ℕ) (room : List ℕ) → stored (without (queue_of room)) room ≡ announced t m room
   unfolding announced emptied refilled
   bad-room bad m room = (tick-bad t (stored (without (queue_of room)) room) bad m).1
 
-  bad-next : (t.refusal ≡ 0 → ⊥) → (m : ℕ) (room : List ℕ) → is_queue t.count room ≡ true → is_queue t.count (announced t m room) ≡ true
-  bad-next bad m room line = rw (← bad-room bad m room) (emptied-is t.count small room line)
+  bad-next : {f : TableFault} → t ≡ Err f → (m : ℕ) (room : List ℕ) → is_queue (count_in t) room ≡ true → is_queue (count_in t) (announced t m room) ≡ true
+  bad-next bad m room line = rw (← bad-room bad m room) (emptied-is (count_in t) small room line)
 
-  bad-joins : (t.refusal ≡ 0 → ⊥) → (m : ℕ) (room : List ℕ) → is_queue t.count room ≡ true
+  bad-joins : {f : TableFault} → t ≡ Err f → (m : ℕ) (room : List ℕ) → is_queue (count_in t) room ≡ true
       → is_waiting e (queue_of (announced t m room)).waiting ≡ is_yes (due_in t e m)
   unfolding is_waiting
   bad-joins bad m room line =
-      rw (← bad-room bad m room) (ap (λ (l : Queue). is_waiting e l.waiting) (emptied-queue t.count small room line))
+      rw (← bad-room bad m room) (ap (λ (l : Queue). is_waiting e l.waiting) (emptied-queue (count_in t) small room line))
       ∙ sym (due-none t e m bad)
 
   -- either way
-  joins-all : (n m : ℕ) (room : List ℕ) → n ≤ last_minute + 1 - m → is_queue t.count room ≡ true → Before (queue_of room).mark m
+  joins-all : (n m : ℕ) (room : List ℕ) → n ≤ last_minute + 1 - m → is_queue (count_in t) room ≡ true → Before (queue_of room).mark m
       → joins_over t e n m room ≡ passing (λ k. is_yes (due_in t e k)) n m
-  joins-all n m room h line before =
-      elim (dec_le t.refusal 0) [
-        | yes good ↦ joins-due t e {Has = Follows} (record { next = good-next (omega arith); joins = good-joins (omega arith) }) n m room h (line, before)
-        | no bad ↦ joins-due t e {Has = λ m room. is_queue t.count room ≡ true} (record { next = λ m room on. bad-next (λ z. bad (omega arith)) m room; joins = λ m room on. bad-joins (λ z. bad (omega arith)) m room }) n m room h line
-      ]
+  joins-all n m room h line before = go t refl
+    where
+      go : (u : Result Table TableFault) → t ≡ u → joins_over t e n m room ≡ passing (λ k. is_yes (due_in t e k)) n m
+      go (Ok x) is =
+          let good : refusal_in t ≡ 0 = ap (λ (v : Result Table TableFault). refusal_in v) is in
+          joins-due t e {Has = Follows} (record { next = good-next good; joins = good-joins good }) n m room h (line, before)
+      go (Err f) is =
+          joins-due t e {Has = λ m room. is_queue (count_in t) room ≡ true} (record { next = λ m room on. bad-next is m room; joins = λ m room on. bad-joins is m room }) n m room h line
 
-  pub joins-are-due : (m : ℕ) (room : List ℕ) → is_queue t.count room ≡ true → Before (queue_of room).mark (m + 1) → joins_after t e m room ≡ due_after t e m
+  pub joins-are-due : (m : ℕ) (room : List ℕ) → is_queue (count_in t) room ≡ true → Before (queue_of room).mark (m + 1) → joins_after t e m room ≡ due_after t e m
   unfolding joins_after due_after passing_up_to
   joins-are-due m room line before =
       let n : last_minute + 1 - (m + 1) ≡ last_minute - m = omega arith in

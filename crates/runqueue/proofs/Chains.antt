@@ -2,27 +2,25 @@
 -- none is told there is none.
 -- Assumes nothing.
 use mathlib.Core.Path.{◌≡◌, refl, sym, ap, ◌∙◌}
-use mathlib.Core.Bool.{Bool, true, false, cond, true≢false}
+use mathlib.Core.Bool.{Bool, true, false, true≢false}
 use mathlib.Core.List.{List, [], ◌∷◌}
 use Prim.Native.Nat.{ℕ, zero, suc, ◌+◌, ◌-◌, ◌≤◌, ◌<◌}
 use native.Mathlib.Nat.{lt_of_not-le}
 use native.Mathlib.Decide.{dec_le}
 use native.Mathlib.Omega.{arith}
 use borrow.Author.Tests.{le-leb, lt-leb}
+use Rattle.std.specs.Prelude.{Result, Ok, Err}
+use Rattle.refusal.specs.declared.Refusal.{Refusal}
 use Rattle.octets.specs.Passing.{passing_up_to}
 use Rattle.octets.proofs.Search.{some-passes, passes-some}
 use Rattle.octets.proofs.Passing.{up-end, up-here, up-skip}
 use Rattle.calendar.specs.Dates.{last_minute}
 use Rattle.line.specs.declared.Rules.{Rules}
 use Rattle.crontab.specs.declared.entry.Entry.{Entry}
-use Rattle.crontab.specs.declared.table.EntryAnswer.{EntryAnswer}
-use Rattle.crontab.specs.declared.table.EntryAnswer.TheVariants as answer
-use Rattle.crontab.specs.declared.firing.DueAnswer.TheVariants as due
-use Rattle.crontab.specs.declared.firing.NextAnswer.{NextAnswer}
-use Rattle.crontab.specs.declared.firing.NextAnswer.TheVariants.{At, Refused}
 use Rattle.crontab.specs.Tables.{table_of, entry_in}
 use Rattle.crontab.specs.Firings.{fires_at, due_of, next_of, due_answer, due_in, next_answer, next_in}
-use Rattle.crontab.proofs.Firings.{comes_by, next-comes}
+use Rattle.schedule.specs.Next.{by_then}
+use Rattle.crontab.proofs.Firings.{next-comes}
 use Rattle.crontab.proofs.Theorems.{next-told}
 use Rattle.runqueue.specs.Chain.{Chain, is_yes, due_after, ChainIsDue}
 
@@ -33,13 +31,13 @@ module _ (x : Entry) where
   unfolding due_of
   yes-fires k h = rw (le-leb k last_minute h) (go (fires_at x k))
     where
-      go : (b : Bool) → is_yes (cond b due.Yes due.No) ≡ b
+      go : (b : Bool) → is_yes (Ok b) ≡ b
       go true = refl
       go false = refl
 
   module _ (m : ℕ) where
     -- where no next firing comes by a minute, nothing is due up to it
-    none-by : (j k : ℕ) → m < k → k ≤ j → j ≤ last_minute → comes_by (next_of x m) j ≡ false → is_yes (due_of x k) ≡ false
+    none-by : (j k : ℕ) → m < k → k ≤ j → j ≤ last_minute → by_then (next_of x m) j ≡ false → is_yes (due_of x k) ≡ false
     none-by j k h i on e = yes-fires k (omega arith) ∙ go (fires_at x k) refl
       where
         go : (b : Bool) → fires_at x k ≡ b → b ≡ false
@@ -47,7 +45,7 @@ module _ (x : Entry) where
         go false t = refl
 
     -- and where one does, something is
-    some-by : (j : ℕ) → j ≤ last_minute → comes_by (next_of x m) j ≡ true → (k : ℕ) × (m < k) × (k ≤ j) × (is_yes (due_of x k) ≡ true)
+    some-by : (j : ℕ) → j ≤ last_minute → by_then (next_of x m) j ≡ true → (k : ℕ) × (m < k) × (k ≤ j) × (is_yes (due_of x k) ≡ true)
     some-by j on e =
         let (k, u, v, t) = passes-some (fires_at x) m j (sym (next-comes x m j on) ∙ e) in
         (k, u, v, yes-fires k (omega arith) ∙ t)
@@ -62,10 +60,10 @@ record First (p : ℕ → Bool) (m n : ℕ) : Type 0 where
   none : (k : ℕ) → m < k → k < n → p k ≡ false
 
 module _ (m : ℕ) where
-  next-first : (a : EntryAnswer) (n : ℕ) → n ≤ last_minute → next_answer a m ≡ At n → First (λ k. is_yes (due_answer a k)) m n
+  next-first : (a : Result Entry Refusal) (n : ℕ) → n ≤ last_minute → next_answer a m ≡ Ok n → First (λ k. is_yes (due_answer a k)) m n
   unfolding next_answer due_answer
-  next-first (answer.Refused number) n on e = absurd (let z : ◌≡◌ {A = ℕ} 0 1 = cc in omega arith)
-  next-first (answer.Found x) n on e =
+  next-first (Err refusal) n on e = absurd (let z : ◌≡◌ {A = ℕ} 0 1 = cc in omega arith)
+  next-first (Ok x) n on e =
       let (k, u, v, t) = some-by x m n on (rw e (le-leb n n (omega arith))) in
       let before : (j : ℕ) → m < j → j < n → is_yes (due_of x j) ≡ false = λ j h i. none-by x m j j h (omega arith) (omega arith) (rw e (lt-leb n j i)) in
       here k u v t before
@@ -76,10 +74,10 @@ module _ (m : ℕ) where
           let same : k ≡ n = elim (dec_le n k) [ yes h ↦ omega arith | no h ↦ absurd (true≢false (sym t ∙ before k u (lt_of_not-le h))) ] in
           record { later = omega arith; on = on; is = rw same at t; none = before }
 
-  next-none : (a : EntryAnswer) (number : ℕ) → next_answer a m ≡ Refused number → (k : ℕ) → m < k → k ≤ last_minute → is_yes (due_answer a k) ≡ false
+  next-none : (a : Result Entry Refusal) (refusal : Refusal) → next_answer a m ≡ Err refusal → (k : ℕ) → m < k → k ≤ last_minute → is_yes (due_answer a k) ≡ false
   unfolding next_answer due_answer
-  next-none (answer.Refused other) number e k h on = refl
-  next-none (answer.Found x) number e k h on = none-by x m k k h (omega arith) on (rw e)
+  next-none (Err other) refusal e k h on = refl
+  next-none (Ok x) refusal e k h on = none-by x m k k h (omega arith) on (rw e)
 
 -- ---- the list, link by link
 
@@ -87,7 +85,7 @@ module _ (rules : Rules) (table : List ℕ) (e : ℕ) where
   abbrev is_due : ℕ → Bool
   is_due k = is_yes (due_in (table_of rules table) e k)
 
-  pub link_at : (m n : ℕ) → next_in (table_of rules table) e m ≡ At n
+  pub link_at : (m n : ℕ) → next_in (table_of rules table) e m ≡ Ok n
       → (m < n) × (n ≤ last_minute) × (due_after (table_of rules table) e m ≡ n ∷ due_after (table_of rules table) e n)
   unfolding next_in due_in due_after
   link_at m n p =
@@ -98,14 +96,14 @@ module _ (rules : Rules) (table : List ℕ) (e : ℕ) where
         up-skip is_due last_minute (m + 1) n (omega (arith, f.later)) (λ k u v. f.none k (omega arith) v) ∙ up-here is_due last_minute n on f.is,
       )
 
-  link-none : (m number : ℕ) → next_in (table_of rules table) e m ≡ Refused number → due_after (table_of rules table) e m ≡ []
+  link-none : (m : ℕ) (refusal : Refusal) → next_in (table_of rules table) e m ≡ Err refusal → due_after (table_of rules table) e m ≡ []
   unfolding next_in due_in due_after
-  link-none m number p = elim (dec_le m last_minute) [ yes h ↦ within h | no h ↦ up-end is_due last_minute (m + 1) (omega (arith, lt_of_not-le h)) ]
+  link-none m refusal p = elim (dec_le m last_minute) [ yes h ↦ within h | no h ↦ up-end is_due last_minute (m + 1) (omega (arith, lt_of_not-le h)) ]
     where
       within : m ≤ last_minute → passing_up_to is_due last_minute (m + 1) ≡ []
       within h =
           up-skip is_due last_minute (m + 1) (last_minute + 1) (omega arith)
-          (λ k u v. next-none m (entry_in (table_of rules table) e) number p k (omega arith) (omega arith))
+          (λ k u v. next-none m (entry_in (table_of rules table) e) refusal p k (omega arith) (omega arith))
           ∙ up-end is_due last_minute (last_minute + 1) (omega arith)
 
   -- a chain is the list
@@ -115,9 +113,9 @@ module _ (rules : Rules) (table : List ℕ) (e : ℕ) where
 
   -- and the list is one: each answer is later, so the questions end
   from_next : (m : ℕ) → ((n : ℕ) → m < n → n ≤ last_minute → Chain (table_of rules table) e n (due_after (table_of rules table) e n))
-      → (a : NextAnswer) → next_in (table_of rules table) e m ≡ a → Chain (table_of rules table) e m (due_after (table_of rules table) e m)
-  from_next m later (Refused number) p = rw (link-none m number p) (number, p)
-  from_next m later (At n) p = let (u, v, q) = link_at m n p in rw q (p, later n u v)
+      → (a : Result ℕ Refusal) → next_in (table_of rules table) e m ≡ a → Chain (table_of rules table) e m (due_after (table_of rules table) e m)
+  from_next m later (Err refusal) p = rw (link-none m refusal p) (refusal, p)
+  from_next m later (Ok n) p = let (u, v, q) = link_at m n p in rw q (p, later n u v)
 
   due-chain : (left m : ℕ) → last_minute - m ≤ left → Chain (table_of rules table) e m (due_after (table_of rules table) e m)
   due-chain zero m h = from_next m (λ n u v. absurd (omega arith)) (next_in (table_of rules table) e m) refl

@@ -2,16 +2,15 @@
 -- conclusion is here, so none can be added there or dropped.
 -- Assumes nothing.
 use mathlib.Core.Path.{◌≡◌}
-use mathlib.Core.Bool.{true, cond}
+use mathlib.Core.Bool.{true}
 use mathlib.Core.List.{List, ◌++◌}
 use Prim.Native.Nat.{ℕ, ◌+◌, ◌≤◌, ◌<◌}
 use lib.ListN.{take}
-use Rattle.schedule.specs.declared.jump.Mark.TheVariants as mark
+use Rattle.std.specs.Prelude.{Ok, Some, None, Result}
 use Rattle.line.specs.declared.Rules.{Rules}
-use Rattle.crontab.specs.declared.firing.DueAnswer.TheVariants.{Yes, No}
-use Rattle.crontab.specs.declared.firing.NextAnswer.TheVariants.{At}
 use Rattle.crontab.specs.declared.table.Table.{Table}
-use Rattle.crontab.specs.Tables.{table_of}
+use Rattle.crontab.specs.declared.table.TableFault.{TableFault}
+use Rattle.crontab.specs.Tables.{table_of, count_in, refusal_in}
 use Rattle.crontab.specs.Firings.{due_in, next_in}
 use Rattle.fifo.specs.Queues.{Queue, proper}
 use Rattle.fifo.specs.Layout.{queue_of, roomy, is_queue}
@@ -27,7 +26,7 @@ use Rattle.runqueue.specs.Chain.{Chain, due_after, joins_after, OnBoth}
 use Rattle.runqueue.proofs.Theorems.{table-fair, table-fair-from, table-fair-steady, table-fair-every-from, table-refused-only, table-due, table-steps-good, chain-is-due, chain-is-ticks, chain-goes-on, next-shifts, answer-shifts, fresh_unmarked}
 
 module _ (rules : Rules) (table : List ℕ) where
-  abbrev t : Table
+  abbrev t : Result Table TableFault
   t = table_of rules table
 
   abbrev jobs : Jobs
@@ -63,14 +62,14 @@ module _ (rules : Rules) (table : List ℕ) where
 
   -- ---- what the calls do
 
-  pub steps-plainly : t.refusal ≡ 0 → (room : List ℕ) (minute : ℕ)
+  pub steps-plainly : refusal_in t ≡ 0 → (room : List ℕ) (minute : ℕ)
       → (init_table t room ≡ init_step jobs room) × (tick_table t minute room ≡ tick_step jobs minute room) × (pop_table t room ≡ pop_step jobs.count room)
   steps-plainly good room minute = table-steps-good rules table good room minute
 
-  pub refused-plainly : (cs : List Call) → t.refusal ≡ 0 → Follows jobs (fresh jobs) cs → Expected jobs cs
+  pub refused-plainly : (cs : List Call) → refusal_in t ≡ 0 → Follows jobs (fresh jobs) cs → Expected jobs cs
   refused-plainly cs good follows = table-refused-only rules table cs good follows
 
-  pub due-plainly : (e minute : ℕ) → e < jobs.count → minute ≤ 4223371679 → due_in t e minute ≡ cond (jobs.matches e minute) Yes No
+  pub due-plainly : (e minute : ℕ) → e < jobs.count → minute ≤ 4223371679 → due_in t e minute ≡ Ok (jobs.matches e minute)
   due-plainly e minute h on = table-due rules table e minute h on
 
   -- ---- the chain
@@ -79,26 +78,26 @@ module _ (rules : Rules) (table : List ℕ) where
     pub chain-plainly : (Chain t e m chain → chain ≡ due_after t e m) × (chain ≡ due_after t e m → Chain t e m chain)
     chain-plainly = ((chain-is-due rules table e m chain).0, (chain-is-due rules table e m chain).1)
 
-    module _ (room : List ℕ) (line : is_queue t.count room ≡ true) where
-      pub ticks-plainly : (queue_of room).mark ≡ mark.None
+    module _ (room : List ℕ) (line : is_queue (count_in t) room ≡ true) where
+      pub ticks-plainly : (queue_of room).mark ≡ None
           → (Chain t e m chain → chain ≡ joins_after t e m room) × (chain ≡ joins_after t e m room → Chain t e m chain)
       ticks-plainly none = ((chain-is-ticks rules table e m room chain line none).0, (chain-is-ticks rules table e m room chain line none).1)
 
-      pub goes-on-plainly : (queue_of room).mark ≡ mark.At m
+      pub goes-on-plainly : (queue_of room).mark ≡ Some m
           → (Chain t e m chain → chain ≡ joins_after t e m room) × (chain ≡ joins_after t e m room → Chain t e m chain)
       goes-on-plainly at = ((chain-goes-on rules table e m room chain line at).0, (chain-goes-on rules table e m room chain line at).1)
 
-  pub fresh-plainly : (room : List ℕ) → t.refusal ≡ 0 → roomy t.count room ≡ true
-      → (is_queue t.count (init_table t room).room ≡ true) × ((queue_of (init_table t room).room).mark ≡ mark.None)
+  pub fresh-plainly : (room : List ℕ) → refusal_in t ≡ 0 → roomy (count_in t) room ≡ true
+      → (is_queue (count_in t) (init_table t room).room ≡ true) × ((queue_of (init_table t room).room).mark ≡ None)
   fresh-plainly room good enough = fresh_unmarked rules table room good enough
 
   -- 400 years on: the start, the later start and both answers are on the calendar, in UTC and locally
   module _ (e m n : ℕ) (start : OnBoth (biased_offset_of rules table e) m) (later : OnBoth (biased_offset_of rules table e) (m + 210379680)) (answer : OnBoth (biased_offset_of rules table e) n) where
-    pub shifts-plainly : (k : ℕ) → OnBoth (biased_offset_of rules table e) k → next_in t e m ≡ At n → next_in t e (m + 210379680) ≡ At k → k ≡ n + 210379680
+    pub shifts-plainly : (k : ℕ) → OnBoth (biased_offset_of rules table e) k → next_in t e m ≡ Ok n → next_in t e (m + 210379680) ≡ Ok k → k ≡ n + 210379680
     shifts-plainly k other = next-shifts rules table e m n k (record { start = start; shifted = later; answer = answer; other = other })
 
     pub answers-plainly : OnBoth (biased_offset_of rules table e) (n + 210379680)
-        → (next_in t e m ≡ At n → next_in t e (m + 210379680) ≡ At (n + 210379680)) × (next_in t e (m + 210379680) ≡ At (n + 210379680) → next_in t e m ≡ At n)
+        → (next_in t e m ≡ Ok n → next_in t e (m + 210379680) ≡ Ok (n + 210379680)) × (next_in t e (m + 210379680) ≡ Ok (n + 210379680) → next_in t e m ≡ Ok n)
     answers-plainly other =
         let both = answer-shifts rules table e m n (record { start = start; shifted = later; answer = answer; other = other }) in
         (both.0, both.1)

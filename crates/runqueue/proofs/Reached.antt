@@ -10,11 +10,10 @@ use native.Mathlib.Omega.{arith}
 use lib.ListN.{take}
 use lib.IntN.{pos}
 use borrow.Author.Tests.{leb-true}
+use Rattle.std.specs.Prelude.{Ok, Some}
 use Rattle.octets.specs.Texts.{text}
 use Rattle.octets.proofs.Search.{none_passes}
 use Rattle.calendar.specs.Dates.{last_minute}
-use Rattle.schedule.specs.declared.jump.Mark.TheVariants.{At}
-use Rattle.schedule.specs.declared.Next.TheVariants as next
 use Rattle.schedule.specs.Examples as schedule
 use Rattle.schedule.specs.Local.{matches_in, next_after_in}
 use Rattle.schedule.specs.Jumps.{case_of, judged, mark_after}
@@ -70,7 +69,7 @@ matched m = rw entry-is
 -- ---- its minutes
 
 -- it fires in 2088 and then in 2128
-next-is : next_after_in schedule.leap_sundays 720 62147520 ≡ next.At 83184480
+next-is : next_after_in schedule.leap_sundays 720 62147520 ≡ Ok 83184480
 next-is = utc-next schedule.leap_sundays 62147520 ∙ gap-reached
 
 silent : (m : ℕ) → 62147520 < m → m < 83184480 → jobs.matches 0 m ≡ false
@@ -83,26 +82,26 @@ fires-first = matched 62147520
 -- ---- none of the minutes before the last calls it
 
 -- up to the mark it is held
-held : (j : ℕ) → j < 180 → calls jobs (marks (At 62147520) 62147341 j) (62147341 + j) 0 ≡ false
+held : (j : ℕ) → j < 180 → calls jobs (marks (Some 62147520) 62147341 j) (62147341 + j) 0 ≡ false
 unfolding calls judged
 held j h =
     rw (held_stays j 62147520 62147341 (omega arith) (omega arith), case-held 62147520 (62147341 + j) (omega arith) (omega arith), fixed)
 
 -- behind it no minute matches
-unmatched : (j : ℕ) → 180 ≤ j → j < 21037139 → calls jobs (marks (At 62147520) 62147341 j) (62147341 + j) 0 ≡ false
+unmatched : (j : ℕ) → 180 ≤ j → j < 21037139 → calls jobs (marks (Some 62147520) 62147341 j) (62147341 + j) 0 ≡ false
 unfolding calls judged
 unmatched j h k =
-    rw (outrun (At 62147520) 62147340 j h, case-after (62147340 + j) (62147341 + j) (omega arith) (omega arith), fixed)
+    rw (outrun (Some 62147520) 62147340 j h, case-after (62147340 + j) (62147341 + j) (omega arith) (omega arith), fixed)
     (none_passes (jobs.matches 0) (62147340 + j) (62147341 + j) (λ m u v. silent m (omega arith) (omega arith)))
 
-uncalled : (j : ℕ) → j < 21037139 → (x : ℕ) → x < jobs.count → calls jobs (marks (At 62147520) 62147341 j) (62147341 + j) x ≡ false
+uncalled : (j : ℕ) → j < 21037139 → (x : ℕ) → x < jobs.count → calls jobs (marks (Some 62147520) 62147341 j) (62147341 + j) x ≡ false
 uncalled j k x b =
     let one : x ≡ 0 = omega (arith, count-is) in
     rw one (elim (dec_le 180 j) [ yes h ↦ unmatched j h k | no h ↦ held j (lt_of_not-le h) ])
 
 -- ---- the line when they begin: nobody waits, and the mark is the first minute
 
-begins : popped (ticked jobs 62147520 (fresh jobs)) ≡ record { mark = At 62147520; waiting = [] }
+begins : popped (ticked jobs 62147520 (fresh jobs)) ≡ record { mark = Some 62147520; waiting = [] }
 unfolding popped behind ticked joiners joins calls judged mark_after case_of fresh pick is_waiting
 begins = rw (count-is, timed, fires-first)
 
@@ -138,7 +137,7 @@ none_before size buffer n k r end some h =
     let second = calls_on jobs (buffer_after_all jobs (started jobs size buffer) first) (steady size 62147341 n) in
     let run = two_run jobs small size buffer room 62147519 1 62147340 n (omega arith) end in
     let consecutive = (steady-consecutive jobs 62147340 n size buffer first small room end).1 in
-    quiet jobs 0 second (At 62147520) 62147341 n k true (λ j b. uncalled j (omega arith)) (λ z. absurd (omega (arith, z))) (rw begins at run.1) consecutive
+    quiet jobs 0 second (Some 62147520) 62147341 n k true (λ j b. uncalled j (omega arith)) (λ z. absurd (omega (arith, z))) (rw begins at run.1) consecutive
 
 pub limit-reached : HoldReached
 limit-reached size buffer r =

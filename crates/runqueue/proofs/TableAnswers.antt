@@ -1,29 +1,26 @@
 -- What the calls by table answer, and what a table says of its entries, for any table; and the rest of the claims said once more without their names.
 -- Assumes nothing.
 use mathlib.Core.Path.{◌≡◌, refl}
+use Rattle.std.specs.Prelude.{Ok, Some, Err, Result}
+use Rattle.refusal.specs.declared.Refusal.{Refusal}
+use Rattle.refusal.specs.declared.Refusal.TheVariants.{NoSuchEntry}
 use Rattle.schedule.specs.Local.{max_west}
 use mathlib.Core.Bool.{Bool, true, false, cond}
 use mathlib.Core.List.{List, [], ◌∷◌}
 use Prim.Native.Nat.{ℕ, suc, ◌+◌, ◌-◌, ◌*◌, ◌≤◌, ◌<◌}
 use native.Mathlib.Omega.{arith}
-use lib.Dec.{eqb, ltb}
+use lib.Dec.{ltb}
 use lib.ListN.{take}
-use borrow.Author.Tests.{ne_eqb}
 use Rattle.octets.specs.Texts.{text}
-use Rattle.schedule.specs.declared.jump.Mark.TheVariants as mark
 use Rattle.line.specs.declared.Rules.{Rules}
 use Rattle.line.specs.declared.Kind.TheVariants.{User}
 use Rattle.field.specs.declared.Dialect.TheVariants.{Rising}
 use Rattle.crontab.specs.declared.entry.Entry.{Entry}
-use Rattle.crontab.specs.declared.table.EntryAnswer.TheVariants.{Found, Refused}
-use Rattle.crontab.specs.declared.firing.DueAnswer.TheVariants.{Yes}
-use Rattle.crontab.specs.declared.firing.NextAnswer.TheVariants.{At}
 use Rattle.crontab.specs.declared.table.Table.{Table}
-use Rattle.crontab.specs.Tables.{table_of, entry_in}
+use Rattle.crontab.specs.declared.table.TableFault.{TableFault}
+use Rattle.crontab.specs.Tables.{table_of, entry_in, count_in}
 use Rattle.crontab.specs.Firings.{is_boot, is_fixed, fires_at, due_in, next_in}
-use Rattle.fifo.specs.declared.CountAnswer.TheVariants.{Refused as NotTicked}
-use Rattle.fifo.specs.declared.FrontAnswer.TheVariants as popped
-use Rattle.fifo.specs.declared.FrontAnswer.TheVariants.{Refused as NotPopped}
+use Rattle.std.specs.Prelude.{Some, Err}
 use Rattle.fifo.specs.Queues.{Queue, is_waiting, proper}
 use Rattle.fifo.specs.Layout.{queue_of, roomy, is_queue}
 use Rattle.fifo.specs.Steps.{Jobs, calls, standing}
@@ -40,34 +37,34 @@ use Rattle.runqueue.proofs.Theorems.{table-waits-exactly, table-waits-at-most, t
 
 -- ---- what a table says of its entries is what they say
 
-found-is : (b c : Bool) (n : ℕ) (x y : Entry) → cond b (cond c (Found y) (Refused 13)) (Refused n) ≡ Found x → y ≡ x
-found-is true true n x y e = cc
-found-is true false n x y e = absurd (let z : ◌≡◌ {A = ℕ} 0 1 = cc in omega arith)
-found-is false c n x y e = absurd (let z : ◌≡◌ {A = ℕ} 0 1 = cc in omega arith)
+found-is : (b : Bool) (x y : Entry) → cond {A = Result Entry Refusal} b (Ok y) (Err NoSuchEntry) ≡ Ok x → y ≡ x
+found-is true x y e = cc
+found-is false x y e = absurd (let z : ◌≡◌ {A = ℕ} 0 1 = cc in omega arith)
 
-pub job_is : (t : Table) (e : ℕ) {x : Entry} → entry_in t e ≡ Found x → job_at t e ≡ x
+pub job_is : (t : Result Table TableFault) (e : ℕ) {x : Entry} → entry_in t e ≡ Ok x → job_at t e ≡ x
 unfolding entry_in job_at
-job_is t e {x} is = found-is (eqb t.refusal 0) (ltb e t.count) t.refusal x _ is
+job_is (Ok y) e {x} is = found-is (ltb e y.count) x _ is
+job_is (Err f) e {x} is = absurd (let z : ◌≡◌ {A = ℕ} 0 1 = cc in omega arith)
 
-pub jobs-are : (t : Table) (e : ℕ) {x : Entry} → entry_in t e ≡ Found x
+pub jobs-are : (t : Result Table TableFault) (e : ℕ) {x : Entry} → entry_in t e ≡ Ok x
     → ((jobs_of t).boot e ≡ is_boot x) × ((jobs_of t).fixed e ≡ is_fixed x) × ((m : ℕ) → (jobs_of t).matches e m ≡ fires_at x m)
 unfolding jobs_of
 jobs-are t e is = rw (job_is t e is) (refl, refl, (λ m. refl))
 
 -- and it has as many jobs as entries
-pub jobs-count : (t : Table) → (jobs_of t).count ≡ t.count
+pub jobs-count : (t : Result Table TableFault) → (jobs_of t).count ≡ count_in t
 unfolding jobs_of
 jobs-count t = refl
 
--- ---- a refused table is answered by its own number, and the room stays
+-- ---- a refused table is answered by its own refusal, and the room stays
 
-module _ (t : Table) (bad : t.refusal ≡ 0 → ⊥) (room : List ℕ) where
-  pub bad-table : (init_table t room ≡ record { answer = NotTicked t.refusal; room = room })
-      × ((minute : ℕ) → tick_table t minute room ≡ record { answer = NotTicked t.refusal; room = room })
-      × (pop_table t room ≡ record { answer = NotPopped t.refusal; room = room })
-      × ((place : ℕ) → entry_table t place room ≡ NotPopped t.refusal)
+module _ (t : Result Table TableFault) {f : TableFault} (bad : t ≡ Err f) (room : List ℕ) where
+  pub bad-table : (init_table t room ≡ record { answer = Err f.refusal; room = room })
+      × ((minute : ℕ) → tick_table t minute room ≡ record { answer = Err f.refusal; room = room })
+      × (pop_table t room ≡ record { answer = Err f.refusal; room = room })
+      × ((place : ℕ) → entry_table t place room ≡ Err f.refusal)
   unfolding init_table tick_table pop_table entry_table
-  bad-table = let e = ne_eqb t.refusal 0 bad in (rw e, (λ minute. rw e), rw e, (λ place. rw e))
+  bad-table = (rw bad, (λ minute. rw bad), rw bad, (λ place. rw bad))
 
 -- ---- the claims of specs/Waits
 
@@ -76,14 +73,14 @@ module _ (rules : Rules) (table : List ℕ) where
   jobs = jobs_in rules table
 
   module _ (e : ℕ) (l : Queue) (cs : List Call) (good : proper jobs.count l ≡ true) (follows : Follows jobs l cs) where
-    pub exactly-plainly : (p : ℕ) → standing p l.waiting ≡ popped.Entry e
+    pub exactly-plainly : (p : ℕ) → standing p l.waiting ≡ Some e
         → (Names jobs e (up_to_request p (unrefused jobs cs)) → ⊥) × (p < requests (unrefused jobs cs) → Names jobs e (up_to_request (suc p) (unrefused jobs cs)))
     exactly-plainly p at = table-waits-exactly rules table e p l cs good at follows
 
     pub at-most-plainly : is_waiting e l.waiting ≡ true → jobs.count ≤ requests (unrefused jobs cs) → Names jobs e (up_to_request jobs.count (unrefused jobs cs))
     at-most-plainly queued = table-waits-at-most rules table e l cs good queued follows
 
-    pub waits-every-plainly : (k p m : ℕ) → standing p l.waiting ≡ popped.Entry e
+    pub waits-every-plainly : (k p m : ℕ) → standing p l.waiting ≡ Some e
         → ConsecutiveTicksEvery k m (k * suc p - 1) 1 (unrefused jobs cs) → Names jobs e (up_to (k * suc p - 1) (unrefused jobs cs))
     waits-every-plainly k p m at = table-waits-every rules table k e p m l cs good at follows
 
@@ -111,14 +108,14 @@ limit-plainly size buffer enough = limit-reached size buffer enough
 abbrev first : Rules
 first = record { kind = User; dialect = Rising }
 
-abbrev midnight : Table
+abbrev midnight : Result Table TableFault
 midnight = table_of first (text "0 0 * * * a\n")
 
 abbrev evenings : List ℕ
 evenings = text "CRON_TZ=-12:00\n0 18 * * * a\n"
 
-pub mark-plainly : (room : List ℕ) → is_queue midnight.count room ≡ true → (queue_of room).mark ≡ mark.At 1440
-    → (due_in midnight 0 1440 ≡ Yes) × (joins_over midnight 0 1 1440 room ≡ [])
+pub mark-plainly : (room : List ℕ) → is_queue (count_in midnight) room ≡ true → (queue_of room).mark ≡ Some 1440
+    → (due_in midnight 0 1440 ≡ Ok true) × (joins_over midnight 0 1 1440 room ≡ [])
 mark-plainly room line at = mark-needed room line at
 
 pub ends-plainly : OnBoth 1560 4223370839 × OnBoth 0 4223371679
@@ -127,11 +124,11 @@ ends-plainly = both_ends
 pub met-plainly :
     let o = biased_offset_of first evenings 0 in
     OnBoth o max_west × OnBoth o 210380400 × OnBoth o 1800 × OnBoth o 210381480
-    × (next_in (table_of first evenings) 0 max_west ≡ At 1800) × (next_in (table_of first evenings) 0 210380400 ≡ At 210381480)
+    × (next_in (table_of first evenings) 0 max_west ≡ Ok 1800) × (next_in (table_of first evenings) 0 210380400 ≡ Ok 210381480)
 met-plainly = let (s, a, b) = shift-met in (s.start, s.shifted, s.answer, s.other, a, b)
 
 pub fails-plainly :
     let o = biased_offset_of first evenings 0 in
     OnBoth o 210379680 × OnBoth o 1800 × OnBoth o 210380040
-    × (next_in (table_of first evenings) 0 0 ≡ At 1800) × (next_in (table_of first evenings) 0 210379680 ≡ At 210380040)
+    × (next_in (table_of first evenings) 0 0 ≡ Ok 1800) × (next_in (table_of first evenings) 0 210379680 ≡ Ok 210380040)
 fails-plainly = shift-fails

@@ -2,6 +2,9 @@
 -- are few.
 -- Assumes nothing.
 use mathlib.Core.Path.{◌≡◌, refl, sym}
+use Rattle.std.specs.Prelude.{Result, Ok, Err}
+use Rattle.refusal.specs.declared.Refusal.{Refusal}
+use Rattle.refusal.specs.declared.Refusal.TheVariants.{NoSuchEntry, NotOnCalendar}
 use Rattle.schedule.specs.Local.{max_west}
 use mathlib.Core.Bool.{Bool, true, false, cond, true≢false}
 use mathlib.Core.List.{List}
@@ -9,7 +12,7 @@ use Prim.Native.Nat.{ℕ, ◌+◌, ◌≤◌, ◌<◌}
 use native.Mathlib.Nat.{lt_of_not-le}
 use native.Mathlib.Decide.{dec_le}
 use native.Mathlib.Omega.{arith}
-use lib.Dec.{ltb, leb, eqb}
+use lib.Dec.{ltb, leb}
 use lib.ListN.{get_or}
 use borrow.Author.Tests.{lt-ltb, le-ltb, ltb-true}
 use Rattle.calendar.specs.Dates.{last_minute, cycle_minutes}
@@ -25,9 +28,8 @@ use Rattle.line.specs.declared.time.When.{When}
 use Rattle.line.specs.declared.time.When.TheVariants.{Reboot, Timed}
 use Rattle.crontab.specs.declared.entry.Entry.{Entry}
 use Rattle.crontab.specs.declared.table.Table.{Table}
-use Rattle.crontab.specs.declared.table.EntryAnswer.TheVariants as answer
-use Rattle.crontab.specs.declared.firing.DueAnswer.TheVariants as due
-use Rattle.crontab.specs.Tables.{table_of, entry_in, blank_entry}
+use Rattle.crontab.specs.Tables.{table_of, entry_in, blank_entry, count_in}
+use Rattle.crontab.specs.declared.table.TableFault.{TableFault}
 use Rattle.crontab.specs.Firings.{by_when, is_boot, fires_at, due_of, due_answer, due_in}
 use Rattle.crontab.proofs.Theorems.{table-sound}
 use Rattle.fifo.specs.Layout.{limit}
@@ -94,25 +96,25 @@ matching-can-fire rules table e m h t =
         (refl, n, v, y)
 
 -- so can one that is due at any minute
-due-fires : (x : Entry) (m : ℕ) → due_of x m ≡ due.Yes → fires_at x m ≡ true
+due-fires : (x : Entry) (m : ℕ) → due_of x m ≡ Ok true → fires_at x m ≡ true
 unfolding due_of
 due-fires x m = go (leb m last_minute) (fires_at x m)
   where
-    go : (on fires : Bool) → cond on (cond fires due.Yes due.No) (due.Refused 14) ≡ due.Yes → fires ≡ true
+    go : (on fires : Bool) → cond {A = Result Bool Refusal} on (Ok fires) (Err NotOnCalendar) ≡ Ok true → fires ≡ true
     go true true q = refl
     go true false q = absurd (let z : ◌≡◌ {A = ℕ} 0 1 = cc in omega arith)
     go false fires q = absurd (let z : ◌≡◌ {A = ℕ} 0 1 = cc in omega arith)
 
-pub due-can-fire : (rules : Rules) (table : List ℕ) (e m : ℕ) → due_in (table_of rules table) e m ≡ due.Yes → CanFire rules table e
-unfolding due_in due_answer entry_in jobs_of job_at
-due-can-fire rules table e m q =
-    let t = table_of rules table in
-    let (below, fired) = go t (eqb t.refusal 0) (ltb e t.count) refl q in
-    matching-can-fire rules table e m below fired
+due-found : (t : Result Table TableFault) (e m : ℕ) → due_in t e m ≡ Ok true → (e < count_in t) × (fires_at (job_at t e) m ≡ true)
+unfolding due_in due_answer entry_in job_at
+due-found (Err f) e m q = absurd (let z : ◌≡◌ {A = ℕ} 0 1 = cc in omega arith)
+due-found (Ok x) e m q = go (ltb e x.count) refl q
   where
-    go : (t : Table) (good some : Bool) → ltb e t.count ≡ some
-        → due_answer (cond good (cond some (answer.Found (get_or t.entries e blank_entry)) (answer.Refused 13)) (answer.Refused t.refusal)) m ≡ due.Yes
-        → (e < t.count) × (fires_at (get_or t.entries e blank_entry) m ≡ true)
-    go t true true s q = (ltb-true e t.count s, due-fires (get_or t.entries e blank_entry) m q)
-    go t true false s q = absurd (let z : ◌≡◌ {A = ℕ} 0 1 = cc in omega arith)
-    go t false some s q = absurd (let z : ◌≡◌ {A = ℕ} 0 1 = cc in omega arith)
+    go : (some : Bool) → ltb e x.count ≡ some → due_answer (cond some (Ok (get_or x.entries e blank_entry)) (Err NoSuchEntry)) m ≡ Ok true
+        → (e < x.count) × (fires_at (get_or x.entries e blank_entry) m ≡ true)
+    go true s q = (ltb-true e x.count s, due-fires (get_or x.entries e blank_entry) m q)
+    go false s q = absurd (let z : ◌≡◌ {A = ℕ} 0 1 = cc in omega arith)
+
+pub due-can-fire : (rules : Rules) (table : List ℕ) (e m : ℕ) → due_in (table_of rules table) e m ≡ Ok true → CanFire rules table e
+unfolding jobs_of
+due-can-fire rules table e m q = let (below, fired) = due-found (table_of rules table) e m q in matching-can-fire rules table e m below fired

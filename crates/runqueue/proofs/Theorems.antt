@@ -28,25 +28,23 @@
 --   Plainly says the claims without their names, for any table, entry, minute and calls, so that no hypothesis can be added to one
 --   TableAnswers: what a table says of its entries is what they say (jobs-are), what a refused one is answered (bad-table), and the other claims without their names
 -- Assumes nothing.
-use Rattle.fifo.specs.declared.CountAnswer.TheVariants.{Refused as NotTicked}
-use Rattle.fifo.specs.declared.FrontAnswer.TheVariants.{Refused as NotPopped}
+use Rattle.std.specs.Prelude.{Result, Ok, Err}
 use mathlib.Core.Path.{◌≡◌, refl}
-use mathlib.Core.Bool.{Bool, true, false, cond}
+use mathlib.Core.Bool.{true}
 use mathlib.Core.List.{List}
 use Prim.Native.Nat.{ℕ, suc, ◌≤◌, ◌<◌}
 use native.Mathlib.Decide.{dec_le}
 use native.Mathlib.Omega.{arith}
-use lib.Dec.{eqb}
-use borrow.Author.Tests.{eq-eqb, eqb-false, lt-ltb, le-leb}
+use borrow.Author.Tests.{lt-ltb, le-leb}
+use Rattle.refusal.specs.declared.Refusal.{Refusal}
+use Rattle.refusal.proofs.Numbers.{number-small}
 use Rattle.calendar.specs.Dates.{last_minute}
 use Rattle.line.specs.declared.Rules.{Rules}
 use Rattle.crontab.specs.declared.table.Table.{Table}
-use Rattle.crontab.specs.Tables.{table_of, entry_in}
+use Rattle.crontab.specs.declared.table.TableFault.{TableFault}
+use Rattle.crontab.specs.Tables.{table_of, entry_in, count_in, refusal_in}
 use Rattle.crontab.specs.Firings.{due_of, due_answer, due_in}
 use Rattle.crontab.proofs.Theorems.{table-sound}
-use Rattle.fifo.specs.declared.CountAnswer.{CountAnswer}
-use Rattle.fifo.specs.declared.FrontAnswer.{FrontAnswer}
-use Rattle.fifo.specs.Steps.{Step, init_step, tick_step, pop_step, entry_step}
 use Rattle.fifo.specs.Layout.{is_queue}
 use Rattle.fifo.proofs.Theorems as fifo
 use Rattle.fifo.proofs.Theorems.{TickedWithin, PoppedWithin, init-within, tick-within, pop-within, entry-within}
@@ -65,10 +63,10 @@ pub use Rattle.runqueue.proofs.Shifts.{next-shifts, answer-shifts, shifts-last}
 pub use Rattle.runqueue.proofs.ChainCases.{fresh_unmarked, mark-needed, shift-met, shift-reaches, both_ends, both-starts, shift-fails}
 
 -- a table that has an entry isn't refused
-pub entry-good : (rules : Rules) (table : List ℕ) (e : ℕ) → e < (jobs_in rules table).count → (table_of rules table).refusal ≡ 0
+pub entry-good : (rules : Rules) (table : List ℕ) (e : ℕ) → e < (jobs_in rules table).count → refusal_in (table_of rules table) ≡ 0
 unfolding jobs_of
 entry-good rules table e h =
-    elim (dec_le (table_of rules table).refusal 0) [ yes p ↦ omega arith | no n ↦ absurd (let z = (table-sound rules table).empty (λ k. n (omega arith)) in omega arith) ]
+    elim (dec_le (refusal_in (table_of rules table)) 0) [ yes p ↦ omega arith | no n ↦ absurd (let z = (table-sound rules table).empty (λ k. n (omega arith)) in omega arith) ]
 
 -- the functions go by the steps of which the claims speak
 pub table-steps-good : TableStepsGood
@@ -80,97 +78,62 @@ pub table-steps : TableSteps
 table-steps rules table e h = table-steps-good rules table (entry-good rules table e h)
 
 -- what `due` says of an entry is what the claims' jobs say
-pub table-due : TableDue
+due-by-table : (t : Result Table TableFault) (e minute : ℕ) → e < (jobs_of t).count → minute ≤ last_minute → due_in t e minute ≡ Ok ((jobs_of t).matches e minute)
 unfolding due_in due_answer entry_in due_of jobs_of job_at
-table-due rules table e minute h on =
-    rw (eq-eqb (table_of rules table).refusal 0 (entry-good rules table e h), lt-ltb e (table_of rules table).count h, le-leb minute last_minute on)
+due-by-table (Ok x) e minute h on = rw (lt-ltb e x.count h, le-leb minute last_minute on)
+due-by-table (Err f) e minute h on = absurd (omega arith)
+
+pub table-due : TableDue
+table-due rules table = due-by-table (table_of rules table)
 
 -- no more than the table's entries join, and an entry that is named is one of them
-module _ (t : Table) (room : List ℕ) (small : t.refusal ≤ 255) where
-  pub init-told : TickedWithin t.count (init_table t room).answer
-  unfolding init_table jobs_of
-  init-told = go (eqb t.refusal 0) refl
-    where
-      go : (b : Bool) → eqb t.refusal 0 ≡ b
-          → TickedWithin t.count (cond {A = Step CountAnswer} b (init_step (jobs_of t) room) (record { answer = NotTicked t.refusal; room = room })).answer
-      go true e = init-within (jobs_of t) room
-      go false e = omega (arith, eqb-false t.refusal 0 e, small)
+pub init-told : (t : Result Table TableFault) (room : List ℕ) → TickedWithin (count_in t) (init_table t room).answer
+unfolding init_table jobs_of
+init-told (Ok x) room = init-within (jobs_of (Ok x)) room
+init-told (Err f) room = number-small f.refusal
 
-  pub tick-told : (minute : ℕ) → TickedWithin t.count (tick_table t minute room).answer
-  unfolding tick_table jobs_of
-  tick-told minute = go (eqb t.refusal 0) refl
-    where
-      go : (b : Bool) → eqb t.refusal 0 ≡ b
-          → TickedWithin t.count (cond {A = Step CountAnswer} b (tick_step (jobs_of t) minute room) (record { answer = NotTicked t.refusal; room = room })).answer
-      go true e = tick-within (jobs_of t) minute room
-      go false e = omega (arith, eqb-false t.refusal 0 e, small)
+pub tick-told : (t : Result Table TableFault) (room : List ℕ) (minute : ℕ) → TickedWithin (count_in t) (tick_table t minute room).answer
+unfolding tick_table jobs_of
+tick-told (Ok x) room minute = tick-within (jobs_of (Ok x)) minute room
+tick-told (Err f) room minute = number-small f.refusal
 
-  pub pop-told : PoppedWithin t.count (pop_table t room).answer
-  unfolding pop_table
-  pop-told = go (eqb t.refusal 0) refl
-    where
-      go : (b : Bool) → eqb t.refusal 0 ≡ b
-          → PoppedWithin t.count (cond {A = Step FrontAnswer} b (pop_step t.count room) (record { answer = NotPopped t.refusal; room = room })).answer
-      go true e = pop-within t.count room
-      go false e = omega (arith, eqb-false t.refusal 0 e, small)
+pub pop-told : (t : Result Table TableFault) (room : List ℕ) → PoppedWithin (count_in t) (pop_table t room).answer
+unfolding pop_table
+pop-told (Ok x) room = pop-within x.count room
+pop-told (Err f) room = number-small f.refusal
 
-  pub entry-told : (place : ℕ) → PoppedWithin t.count (entry_table t place room)
-  unfolding entry_table
-  entry-told place = go (eqb t.refusal 0) refl
-    where
-      go : (b : Bool) → eqb t.refusal 0 ≡ b → PoppedWithin t.count (cond b (entry_step t.count place room) (NotPopped t.refusal))
-      go true e = entry-within t.count place room
-      go false e = omega (arith, eqb-false t.refusal 0 e, small)
+pub entry-told : (t : Result Table TableFault) (room : List ℕ) (place : ℕ) → PoppedWithin (count_in t) (entry_table t place room)
+unfolding entry_table
+entry-told (Ok x) room place = entry-within x.count place room
+entry-told (Err f) room place = number-small f.refusal
 
-module _ (t : Table) (room : List ℕ) where
-  -- a look at the line: the front is who a request names
-  pub front-waits : entry_table t 0 room ≡ (pop_table t room).answer
-  unfolding entry_table pop_table
-  front-waits = go (eqb t.refusal 0)
-    where
-      go : (b : Bool)
-          → cond b (entry_step t.count 0 room) (NotPopped t.refusal)
-          ≡ (cond {A = Step FrontAnswer} b (pop_step t.count room) (record { answer = NotPopped t.refusal; room = room })).answer
-      go true = fifo.front-waits t.count room
-      go false = refl
+-- a look at the line: the front is who a request names
+pub front-waits : (t : Result Table TableFault) (room : List ℕ) → entry_table t 0 room ≡ (pop_table t room).answer
+unfolding entry_table pop_table
+front-waits (Ok x) room = fifo.front-waits x.count room
+front-waits (Err f) room = refl
 
 -- and a request of a line moves everybody a place on
 pub request-moves : (rules : Rules) (table room : List ℕ) (place : ℕ)
     → let t = table_of rules table in
-    t.refusal ≡ 0 → is_queue t.count room ≡ true → entry_table t place (pop_table t room).room ≡ entry_table t (suc place) room
+    refusal_in t ≡ 0 → is_queue (count_in t) room ≡ true → entry_table t place (pop_table t room).room ≡ entry_table t (suc place) room
 request-moves rules table room place good e =
     let t = table_of rules table in
     rw (exits.entry-good t (pop_table t room).room good place, exits.entry-good t room good (suc place), pop-good t room good)
-    (fifo.request-moves t.count place room (omega (arith, (table-sound rules table).few)) e)
+    (fifo.request-moves (count_in t) place room (omega (arith, (table-sound rules table).few)) e)
 
 -- a refused call leaves the room as it was
-module _ (t : Table) (room : List ℕ) (n : ℕ) where
-  pub init-stays : (init_table t room).answer ≡ NotTicked n → (init_table t room).room ≡ room
-  unfolding init_table
-  init-stays = go (eqb t.refusal 0)
-    where
-      go : (b : Bool)
-          → let s : Step CountAnswer = cond b (init_step (jobs_of t) room) (record { answer = NotTicked t.refusal; room = room }) in
-          s.answer ≡ NotTicked n → s.room ≡ room
-      go true e = fifo.init-stays (jobs_of t) room n e
-      go false e = refl
+pub init-stays : (t : Result Table TableFault) (room : List ℕ) (n : Refusal) → (init_table t room).answer ≡ Err n → (init_table t room).room ≡ room
+unfolding init_table
+init-stays (Ok x) room n e = fifo.init-stays (jobs_of (Ok x)) room n e
+init-stays (Err f) room n e = refl
 
-  pub tick-stays : (minute : ℕ) → (tick_table t minute room).answer ≡ NotTicked n → (tick_table t minute room).room ≡ room
-  unfolding tick_table
-  tick-stays minute = go (eqb t.refusal 0)
-    where
-      go : (b : Bool)
-          → let s : Step CountAnswer = cond b (tick_step (jobs_of t) minute room) (record { answer = NotTicked t.refusal; room = room }) in
-          s.answer ≡ NotTicked n → s.room ≡ room
-      go true e = fifo.tick-stays (jobs_of t) minute room n e
-      go false e = refl
+pub tick-stays : (t : Result Table TableFault) (room : List ℕ) (n : Refusal) (minute : ℕ) → (tick_table t minute room).answer ≡ Err n → (tick_table t minute room).room ≡ room
+unfolding tick_table
+tick-stays (Ok x) room n minute e = fifo.tick-stays (jobs_of (Ok x)) minute room n e
+tick-stays (Err f) room n minute e = refl
 
-  pub pop-stays : (pop_table t room).answer ≡ NotPopped n → (pop_table t room).room ≡ room
-  unfolding pop_table
-  pop-stays = go (eqb t.refusal 0)
-    where
-      go : (b : Bool)
-          → let s : Step FrontAnswer = cond b (pop_step t.count room) (record { answer = NotPopped t.refusal; room = room }) in
-          s.answer ≡ NotPopped n → s.room ≡ room
-      go true e = fifo.pop-stays t.count room n e
-      go false e = refl
+pub pop-stays : (t : Result Table TableFault) (room : List ℕ) (n : Refusal) → (pop_table t room).answer ≡ Err n → (pop_table t room).room ≡ room
+unfolding pop_table
+pop-stays (Ok x) room n e = fifo.pop-stays x.count room n e
+pop-stays (Err f) room n e = refl

@@ -10,7 +10,7 @@ use lib.ListN.{take}
 use Rattle.field.specs.declared.Dialect.TheVariants.{Rising, Wrapping}
 use Rattle.line.specs.declared.Rules.{Rules}
 use Rattle.line.specs.declared.Kind.TheVariants.{User, System}
-use Rattle.crontab.specs.Tables.{table_of}
+use Rattle.crontab.specs.Tables.{table_of, count_in, refusal_in}
 use Rattle.fifo.specs.Layout.{roomy}
 use Rattle.fifo.specs.Fairness.{up_to, Names}
 use Rattle.fifo.specs.Buffer.{calls_on, buffer_after_all, started}
@@ -26,7 +26,7 @@ system = record { kind = System; dialect = Wrapping }
 -- I7 from a fresh queue on: the chain of the last entry is what announcements one by one find there
 pub fresh-chain : (table room chain : List ℕ)
     → let t = table_of system table in
-    t.refusal ≡ 0 → t.count ≡ 512 → roomy 512 room ≡ true
+    refusal_in t ≡ 0 → count_in t ≡ 512 → roomy 512 room ≡ true
     → Chain t 511 0 chain ↔ (chain ≡ joins_after t 511 0 (init_table t room).room)
 fresh-chain table room chain good all enough =
     let t = table_of system table in

@@ -1,21 +1,18 @@
 -- Asking for the next firing again and again (I6, I7, I8), and what it is compared with, which is what `next`, `due` and `tick` promise by
 -- table bytes. docs/GUARANTEES.md says the claims in plain words; that they hold is proved in proofs/Theorems.
 -- Assumes nothing.
-use Rattle.std.specs.Prelude.{ℕ, zero, suc, ◌+◌, ◌-◌, ◌≤◌, ◌≡◌, ◌↔◌, Bool, true, false, cond, List, [], ◌∷◌}
+use Rattle.std.specs.Prelude.{ℕ, zero, suc, ◌+◌, ◌-◌, ◌≤◌, ◌≡◌, ◌↔◌, Bool, true, false, cond, List, [], ◌∷◌, Ok, Err, Result, Some, None}
+use Rattle.refusal.specs.declared.Refusal.{Refusal}
 use Rattle.schedule.specs.Local.{max_west}
 use Rattle.octets.specs.Texts.{text}
 use Rattle.octets.specs.Passing.{passing_up_to}
 use Rattle.calendar.specs.Dates.{last_minute, cycle_minutes}
-use Rattle.schedule.specs.declared.jump.Mark.TheVariants as mark
-use Rattle.schedule.specs.declared.jump.Mark.TheVariants.{None}
 use Rattle.field.specs.declared.Dialect.TheVariants.{Rising}
 use Rattle.line.specs.declared.Rules.{Rules}
 use Rattle.line.specs.declared.Kind.TheVariants.{User}
 use Rattle.crontab.specs.declared.table.Table.{Table}
-use Rattle.crontab.specs.declared.firing.DueAnswer.{DueAnswer}
-use Rattle.crontab.specs.declared.firing.DueAnswer.TheVariants as due
-use Rattle.crontab.specs.declared.firing.NextAnswer.TheVariants.{At, Refused}
-use Rattle.crontab.specs.Tables.{table_of}
+use Rattle.crontab.specs.Tables.{table_of, count_in, refusal_in}
+use Rattle.crontab.specs.declared.table.TableFault.{TableFault}
 use Rattle.crontab.specs.Firings.{due_in, next_in}
 use Rattle.fifo.specs.Queues.{is_waiting}
 use Rattle.fifo.specs.Layout.{queue_of, roomy, is_queue}
@@ -26,20 +23,19 @@ use Rattle.runqueue.specs.Demand.{biased_offset_of}
 -- ---- the chain
 
 -- I6: the minutes that next firing answers for entry e from minute m on, until it is refused
-abbrev pub Chain : Table → ℕ → ℕ → List ℕ → Type 0
-Chain t e m [] = (number : ℕ) × (next_in t e m ≡ Refused number)
-Chain t e m (n ∷ chain) = (next_in t e m ≡ At n) × Chain t e n chain
+abbrev pub Chain : Result Table TableFault → ℕ → ℕ → List ℕ → Type 0
+Chain t e m [] = (refusal : Refusal) × (next_in t e m ≡ Err refusal)
+Chain t e m (n ∷ chain) = (next_in t e m ≡ Ok n) × Chain t e n chain
 
 -- ---- the later minutes at which an entry is due
 
 -- M5: due says yes
-abbrev pub is_yes : DueAnswer → Bool
-is_yes due.Yes = true
-is_yes due.No = false
-is_yes (due.Refused number) = false
+abbrev pub is_yes : Result Bool Refusal → Bool
+is_yes (Ok answer) = answer
+is_yes (Err refusal) = false
 
 -- I6: the minutes after minute m, rising, at which `due` says yes
-unfoldable pub due_after : Table → ℕ → ℕ → List ℕ
+unfoldable pub due_after : Result Table TableFault → ℕ → ℕ → List ℕ
 due_after t e m = passing_up_to (λ n. is_yes (due_in t e n)) last_minute (m + 1)
 
 -- ---- announcements one by one, on a queue that is emptied before each
@@ -49,11 +45,11 @@ unfoldable pub emptied : List ℕ → List ℕ
 emptied room = refilled [] room
 
 -- I7: the buffer after minute m is announced on it
-unfoldable pub announced : Table → ℕ → List ℕ → List ℕ
+unfoldable pub announced : Result Table TableFault → ℕ → List ℕ → List ℕ
 announced t m room = (tick_table t m (emptied room)).room
 
 -- I7: those of n minutes from m on at whose announcement entry e joins
-unfoldable pub joins_over : Table → ℕ → ℕ → ℕ → List ℕ → List ℕ
+unfoldable pub joins_over : Result Table TableFault → ℕ → ℕ → ℕ → List ℕ → List ℕ
 joins_over t e zero m room = []
 joins_over t e (suc n) m room =
     let after = announced t m room in
@@ -61,7 +57,7 @@ joins_over t e (suc n) m room =
     cond (is_waiting e (queue_of after).waiting) (m ∷ later) later
 
 -- I7: of all minutes after m
-unfoldable pub joins_after : Table → ℕ → ℕ → List ℕ → List ℕ
+unfoldable pub joins_after : Result Table TableFault → ℕ → ℕ → List ℕ → List ℕ
 joins_after t e m room = joins_over t e (last_minute - m) (m + 1) room
 
 -- ---- the claims
@@ -76,14 +72,14 @@ ChainIsDue = (rules : Rules) (table : List ℕ) (e m : ℕ) (chain : List ℕ)
 abbrev pub ChainIsTicks : Type 0
 ChainIsTicks = (rules : Rules) (table : List ℕ) (e m : ℕ) (room chain : List ℕ)
     → let t = table_of rules table in
-    is_queue t.count room ≡ true → (queue_of room).mark ≡ None
+    is_queue (count_in t) room ≡ true → (queue_of room).mark ≡ None
     → Chain t e m chain ↔ (chain ≡ joins_after t e m room)
 
 -- I7: and on one whose mark is the start, as a daemon's is
 abbrev pub ChainGoesOn : Type 0
 ChainGoesOn = (rules : Rules) (table : List ℕ) (e m : ℕ) (room chain : List ℕ)
     → let t = table_of rules table in
-    is_queue t.count room ≡ true → (queue_of room).mark ≡ mark.At m
+    is_queue (count_in t) room ≡ true → (queue_of room).mark ≡ Some m
     → Chain t e m chain ↔ (chain ≡ joins_after t e m room)
 
 -- ---- a start that is a cycle later
@@ -106,7 +102,7 @@ abbrev pub NextShifts : Type 0
 NextShifts = (rules : Rules) (table : List ℕ) (e m n n' : ℕ)
     → let t = table_of rules table in
     Shifting (biased_offset_of rules table e) m n n'
-    → next_in t e m ≡ At n → next_in t e (m + cycle_minutes) ≡ At n'
+    → next_in t e m ≡ Ok n → next_in t e (m + cycle_minutes) ≡ Ok n'
     → n' ≡ n + cycle_minutes
 
 -- I8: and the one start has its answer just if the other has it
@@ -114,7 +110,7 @@ abbrev pub AnswerShifts : Type 0
 AnswerShifts = (rules : Rules) (table : List ℕ) (e m n : ℕ)
     → let t = table_of rules table in
     Shifting (biased_offset_of rules table e) m n (n + cycle_minutes)
-    → (next_in t e m ≡ At n) ↔ (next_in t e (m + cycle_minutes) ≡ At (n + cycle_minutes))
+    → (next_in t e m ≡ Ok n) ↔ (next_in t e (m + cycle_minutes) ≡ Ok (n + cycle_minutes))
 
 -- ---- the hypotheses can be met, and are needed
 
@@ -123,7 +119,7 @@ abbrev pub FreshUnmarked : Type 0
 FreshUnmarked = (rules : Rules) (table room : List ℕ)
     → let t = table_of rules table in
     let fresh = (init_table t room).room in
-    t.refusal ≡ 0 → roomy t.count room ≡ true → (is_queue t.count fresh ≡ true) × ((queue_of fresh).mark ≡ None)
+    refusal_in t ≡ 0 → roomy (count_in t) room ≡ true → (is_queue (count_in t) fresh ≡ true) × ((queue_of fresh).mark ≡ None)
 
 -- A6: a user table in the rising dialect
 abbrev pub user_rules : Rules
@@ -134,13 +130,13 @@ abbrev pub midnight_table : List ℕ
 midnight_table = text "0 0 * * * a\n"
 
 -- I7: the same, read
-abbrev pub midnights : Table
+abbrev pub midnights : Result Table TableFault
 midnights = table_of user_rules midnight_table
 
 -- I7: with a mark of that minute, 1970-01-02 00:00 is due, and nothing joins
 abbrev pub MarkNeeded : Type 0
-MarkNeeded = (room : List ℕ) → is_queue midnights.count room ≡ true → (queue_of room).mark ≡ mark.At 1440
-    → (due_in midnights 0 1440 ≡ due.Yes) × (joins_over midnights 0 1 1440 room ≡ [])
+MarkNeeded = (room : List ℕ) → is_queue (count_in midnights) room ≡ true → (queue_of room).mark ≡ Some 1440
+    → (due_in midnights 0 1440 ≡ Ok true) × (joins_over midnights 0 1 1440 room ≡ [])
 
 -- I8: the last minutes that are on the calendar both ways, at +14:00 and at -12:00
 abbrev pub BothEnds : Type 0
@@ -155,8 +151,8 @@ abbrev pub ShiftMet : Type 0
 ShiftMet =
     let t = table_of user_rules west_evenings in
     Shifting (biased_offset_of user_rules west_evenings 0) max_west 1800 (1800 + cycle_minutes)
-    × (next_in t 0 max_west ≡ At 1800)
-    × (next_in t 0 (max_west + cycle_minutes) ≡ At (1800 + cycle_minutes))
+    × (next_in t 0 max_west ≡ Ok 1800)
+    × (next_in t 0 (max_west + cycle_minutes) ≡ Ok (1800 + cycle_minutes))
 
 -- I8: from minute 0 all but its local minute is, and the answers differ by another number
 abbrev pub ShiftFails : Type 0
@@ -166,5 +162,5 @@ ShiftFails =
     OnBoth o cycle_minutes
     × OnBoth o 1800
     × OnBoth o (cycle_minutes + 360)
-    × (next_in t 0 0 ≡ At 1800)
-    × (next_in t 0 cycle_minutes ≡ At (cycle_minutes + 360))
+    × (next_in t 0 0 ≡ Ok 1800)
+    × (next_in t 0 cycle_minutes ≡ Ok (cycle_minutes + 360))

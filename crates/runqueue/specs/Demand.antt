@@ -2,7 +2,7 @@
 -- minute, and the gap is the schedule's. They are made of the steps that `init`, `tick` and `pop` promise (`TableSteps`). docs/PROMISES.md
 -- puts the demand's own words beside `TableFair`. That the claims hold is proved in proofs/Theorems.
 -- Assumes nothing.
-use Rattle.std.specs.Prelude.{◌≡◌, ℕ, ◌+◌, ◌-◌, ◌≤◌, ◌<◌, true, false, cond, List, ◌++◌, take}
+use Rattle.std.specs.Prelude.{◌≡◌, ℕ, ◌+◌, ◌-◌, ◌≤◌, ◌<◌, true, false, List, ◌++◌, take, Ok}
 use Rattle.schedule.specs.Local.{max_west}
 use Rattle.octets.specs.Texts.{text}
 use Rattle.calendar.specs.Dates.{last_minute, cycle_minutes}
@@ -11,8 +11,7 @@ use Rattle.schedule.specs.Local.{biased_offset, gap_in}
 use Rattle.line.specs.declared.Rules.{Rules}
 use Rattle.field.specs.declared.Dialect.TheVariants.{Rising}
 use Rattle.line.specs.declared.Kind.TheVariants.{User}
-use Rattle.crontab.specs.declared.firing.DueAnswer.TheVariants.{Yes, No}
-use Rattle.crontab.specs.Tables.{table_of}
+use Rattle.crontab.specs.Tables.{table_of, refusal_in}
 use Rattle.crontab.specs.Firings.{by_when, due_in}
 use Rattle.fifo.specs.Queues.{Queue, proper}
 use Rattle.fifo.specs.Layout.{roomy}
@@ -93,18 +92,18 @@ TableSteps = (rules : Rules) (table : List ℕ) (e : ℕ) → e < (jobs_in rules
 
 -- D2: and for every table that isn't refused
 abbrev pub TableStepsGood : Type 0
-TableStepsGood = (rules : Rules) (table : List ℕ) → (table_of rules table).refusal ≡ 0 → ByTheSteps rules table
+TableStepsGood = (rules : Rules) (table : List ℕ) → refusal_in (table_of rules table) ≡ 0 → ByTheSteps rules table
 
 -- D1, M5: the jobs of which the claims speak are due when the table's entries are
 abbrev pub TableDue : Type 0
 TableDue = (rules : Rules) (table : List ℕ) (e minute : ℕ) → e < (jobs_in rules table).count → minute ≤ last_minute
-    → due_in (table_of rules table) e minute ≡ cond ((jobs_in rules table).matches e minute) Yes No
+    → due_in (table_of rules table) e minute ≡ Ok ((jobs_in rules table).matches e minute)
 
 -- D6: in a list from the fresh queue of a good table
 abbrev pub TableRefusedOnly : Type 0
 TableRefusedOnly = (rules : Rules) (table : List ℕ) (cs : List Call)
     → let jobs = jobs_in rules table in
-    (table_of rules table).refusal ≡ 0 → Follows jobs (fresh jobs) cs → Expected jobs cs
+    refusal_in (table_of rules table) ≡ 0 → Follows jobs (fresh jobs) cs → Expected jobs cs
 
 -- D1: the same claim for one buffer, of which each call is lent the first bytes
 abbrev pub TableFairInBuffer : Type 0

@@ -1,9 +1,8 @@
 -- How long a queued entry of a table waits (D9, D10): the claims of fifo's Waits and FairEvery, in their words, where the jobs are a
 -- table's. That they hold is proved in proofs/Theorems.
 -- Assumes nothing.
-use Rattle.std.specs.Prelude.{◌≡◌, ℕ, suc, ◌+◌, ◌-◌, ◌*◌, ◌≤◌, ◌<◌, true, false, List, ◌∷◌}
+use Rattle.std.specs.Prelude.{◌≡◌, ℕ, suc, ◌+◌, ◌-◌, ◌*◌, ◌≤◌, ◌<◌, true, false, List, ◌∷◌, Some}
 use Rattle.line.specs.declared.Rules.{Rules}
-use Rattle.fifo.specs.declared.FrontAnswer.TheVariants.{Entry}
 use Rattle.fifo.specs.Queues.{Queue, is_waiting, proper}
 use Rattle.fifo.specs.Steps.{calls, standing}
 use Rattle.fifo.specs.Fairness.{Call, tick, is_refused, unrefused, Follows, up_to, Names}
@@ -17,7 +16,7 @@ abbrev pub TableWaitsExactly : Type 0
 TableWaitsExactly = (rules : Rules) (table : List ℕ) (e p : ℕ) (l : Queue) (cs : List Call)
     → let jobs = jobs_in rules table in
     proper jobs.count l ≡ true
-    → standing p l.waiting ≡ Entry e
+    → standing p l.waiting ≡ Some e
     → Follows jobs l cs
     → (Names jobs e (up_to_request p (unrefused jobs cs)) → ⊥)
     × (p < requests (unrefused jobs cs) → Names jobs e (up_to_request (suc p) (unrefused jobs cs)))
@@ -49,7 +48,7 @@ abbrev pub TableWaitsEvery : Type 0
 TableWaitsEvery = (rules : Rules) (table : List ℕ) (k e p m : ℕ) (l : Queue) (cs : List Call)
     → let jobs = jobs_in rules table in
     proper jobs.count l ≡ true
-    → standing p l.waiting ≡ Entry e
+    → standing p l.waiting ≡ Some e
     → Follows jobs l cs
     → let n = k * suc p - 1 in
     ConsecutiveTicksEvery k m n 1 (unrefused jobs cs) → Names jobs e (up_to n (unrefused jobs cs))

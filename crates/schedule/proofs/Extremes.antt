@@ -6,8 +6,8 @@ use mathlib.Core.Bool.{true, false, ◌&&◌}
 use Prim.Native.Nat.{ℕ, ◌≤◌, ◌<◌}
 use native.Mathlib.Omega.{arith}
 use lib.Dec.{ltb}
+use Rattle.std.specs.Prelude.{Ok, Err}
 use Rattle.schedule.specs.declared.Schedule.{Schedule}
-use Rattle.schedule.specs.declared.Next.TheVariants.{At, Never, PastEnd}
 use Rattle.schedule.specs.Match.{matches, matches_at}
 use Rattle.schedule.specs.Search.{from}
 use Rattle.schedule.specs.Days.{some_day}
@@ -15,16 +15,17 @@ use Rattle.schedule.specs.Next.{can_fire, next_after}
 use Rattle.schedule.specs.Local.{matches_in, next_after_in}
 use Rattle.schedule.specs.Clocks.{clock_after_in}
 use Rattle.schedule.proofs.Theorems.{can-fire, next-at, next-never, next_past, next-at-in, next-is-in, next-never-in, next-past-in, next-within-in, fires-within-in, slow-agrees}
+use Rattle.schedule.specs.Refusals.{never_fires, past_the_end}
 
 module _ (s : Schedule) where
   -- the calendar's first minute that can be answered, and its last, under each offset
   pub next-ends :
-      (matches_in s 1560 1 ≡ true → next_after_in s 1560 0 ≡ At 1)
-      × (matches_in s 0 4223371679 ≡ true → next_after_in s 0 4223371678 ≡ At 4223371679)
-      × (matches s 4223371679 ≡ true → next_after s 4223371678 ≡ At 4223371679)
-      × (can_fire s ≡ true → next_after_in s 1560 4223371679 ≡ PastEnd)
-      × (can_fire s ≡ true → next_after_in s 0 18446744073709551615 ≡ PastEnd)
-      × (can_fire s ≡ true → next_after s 4223371679 ≡ PastEnd)
+      (matches_in s 1560 1 ≡ true → next_after_in s 1560 0 ≡ Ok 1)
+      × (matches_in s 0 4223371679 ≡ true → next_after_in s 0 4223371678 ≡ Ok 4223371679)
+      × (matches s 4223371679 ≡ true → next_after s 4223371678 ≡ Ok 4223371679)
+      × (can_fire s ≡ true → next_after_in s 1560 4223371679 ≡ Err past_the_end)
+      × (can_fire s ≡ true → next_after_in s 0 18446744073709551615 ≡ Err past_the_end)
+      × (can_fire s ≡ true → next_after s 4223371679 ≡ Err past_the_end)
   next-ends = (
     (λ t. next-at-in s 1560 0 1 (omega arith) (omega arith) t (λ k h i. absurd (omega arith))),
     (λ t. next-at-in s 0 4223371678 4223371679 (omega arith) (omega arith) t (λ k h i. absurd (omega arith))),
@@ -35,13 +36,13 @@ module _ (s : Schedule) where
   )
 
   -- what is answered from before 1970 locally
-  pub next-is-west : (n : ℕ) → next_after_in s 0 0 ≡ At n
+  pub next-is-west : (n : ℕ) → next_after_in s 0 0 ≡ Ok n
       → (0 < n) × (n ≤ 4223371679) × (matches_in s 0 n ≡ true) × ((k : ℕ) → 0 < k → k < n → matches_in s 0 k ≡ false) × (n ≤ 21036960)
   next-is-west n e = let (u, v, t, none) = next-is-in s 0 0 n e in (u, v, t, none, next-within-in s 0 0 n e)
 
   -- none of the cycle's minutes matches: never, from any number
   pub never_ends : ((k : ℕ) → k < 210379680 → matches s k ≡ false)
-      → (next_after_in s 1560 0 ≡ Never) × (next_after_in s 0 18446744073709551615 ≡ Never) × (next_after s 4223371680 ≡ Never)
+      → (next_after_in s 1560 0 ≡ Err never_fires) × (next_after_in s 0 18446744073709551615 ≡ Err never_fires) × (next_after s 4223371680 ≡ Err never_fires)
   never_ends none = (next-never-in s 1560 0 none, next-never-in s 0 18446744073709551615 none, next-never s 4223371680 none)
 
   -- the closed test of any sets of bits, both ways

@@ -1,6 +1,7 @@
 -- Laws of a minute beside the mark: which case it is, by plain orders, and what calls an entry there.
 -- Assumes nothing.
 use mathlib.Core.Path.{◌≡◌, refl}
+use Rattle.std.specs.Prelude.{Option, Some}
 use Rattle.schedule.specs.Jumps.{catch_up_limit}
 use mathlib.Core.Bool.{Bool, true, false, or-true}
 use Prim.Native.Nat.{ℕ, ◌+◌, ◌≤◌, ◌<◌}
@@ -8,26 +9,24 @@ use native.Mathlib.Omega.{arith}
 use lib.Dec.{ltb}
 use borrow.Author.Tests.{le-leb, lt-leb, lt-ltb, le-ltb}
 use Rattle.calendar.specs.Dates.{last_minute}
-use Rattle.schedule.specs.declared.jump.Mark.{Mark}
-use Rattle.schedule.specs.declared.jump.Mark.TheVariants.{At}
 use Rattle.schedule.specs.declared.jump.Case.{Case}
 use Rattle.schedule.specs.declared.jump.Case.TheVariants.{Anew, After, Held}
 use Rattle.schedule.specs.Jumps.{is_mark, case_of, judged, mark_in, mark_after}
 
 module _ (h m : ℕ) where
-  pub case-above : h + catch_up_limit < m → case_of (At h) m ≡ Anew
+  pub case-above : h + catch_up_limit < m → case_of (Some h) m ≡ Anew
   unfolding case_of
   case-above k = rw (lt-ltb (h + catch_up_limit) m k)
 
-  pub case-below : m + catch_up_limit ≤ h → case_of (At h) m ≡ Anew
+  pub case-below : m + catch_up_limit ≤ h → case_of (Some h) m ≡ Anew
   unfolding case_of
   case-below k = rw (le-leb (m + catch_up_limit) h k, or-true (ltb (h + catch_up_limit) m))
 
-  pub case-after : h < m → m ≤ h + catch_up_limit → case_of (At h) m ≡ After h
+  pub case-after : h < m → m ≤ h + catch_up_limit → case_of (Some h) m ≡ After h
   unfolding case_of
   case-after k l = rw (le-ltb (h + catch_up_limit) m l, lt-leb (m + catch_up_limit) h (omega arith), lt-ltb h m k)
 
-  pub case-held : m ≤ h → h < m + catch_up_limit → case_of (At h) m ≡ Held
+  pub case-held : m ≤ h → h < m + catch_up_limit → case_of (Some h) m ≡ Held
   unfolding case_of
   case-held k l = rw (le-ltb (h + catch_up_limit) m (omega arith), lt-leb (m + catch_up_limit) h l, le-ltb h m k)
 
@@ -39,7 +38,7 @@ judged-unfixed (After h) p m = refl
 judged-unfixed Held p m = refl
 
 -- a mark of the calendar stays one
-pub mark-stays : (mark : Mark) (m : ℕ) → is_mark mark ≡ true → m ≤ last_minute → is_mark (mark_after mark m) ≡ true
+pub mark-stays : (mark : Option ℕ) (m : ℕ) → is_mark mark ≡ true → m ≤ last_minute → is_mark (mark_after mark m) ≡ true
 unfolding mark_after
 mark-stays mark m e on = go (case_of mark m)
   where

@@ -6,10 +6,10 @@ use mathlib.Core.Bool.{Bool, true, false, ◌&&◌}
 use Prim.Native.Nat.{ℕ, ◌+◌, ◌/◌, ◌<◌}
 use lib.Dec.{T, ltb, eqb, eqb→eq, ltb→lt, lit≤}
 use mir.Facts.{and_yes}
+use Rattle.std.specs.Prelude.{Ok, Err}
 use Rattle.calendar.specs.Dates.{calendar_days, last_minute}
 use Rattle.calendar.proofs.Months.{length_of}
 use Rattle.schedule.specs.declared.Schedule.{Schedule}
-use Rattle.schedule.specs.declared.Next.TheVariants.{At, Never, PastEnd}
 use Rattle.schedule.specs.Match.{matches, matches_at}
 use Rattle.schedule.specs.Search.{from}
 use Rattle.schedule.specs.Days.{some_day}
@@ -19,6 +19,7 @@ use Rattle.schedule.specs.Examples.{leap_day, fridays, february30, mondays30, la
 use Rattle.schedule.proofs.Search.{from_past}
 use Rattle.schedule.proofs.Gap.{can-fire}
 use Rattle.schedule.proofs.Quick.{months_from, day_from, quick, quick-right}
+use Rattle.schedule.specs.Refusals.{never_fires, past_the_end}
 
 -- ---- tests that antt computes, and what they show
 
@@ -34,7 +35,7 @@ pub T_true : (b : Bool) → T b → b ≡ true
 T_true true t = refl
 T_true false t = absurd t
 
-pub fires : (s : Schedule) (m n : ℕ) → T (fires_at s m n) → next_after s m ≡ At n
+pub fires : (s : Schedule) (m n : ℕ) → T (fires_at s m n) → next_after s m ≡ Ok n
 unfolding fires_at ever next_after
 fires s m n t =
     let e = and_yes (ltb (from (matches_at s) 1440 0) 1440 && some_day s) _ t in
@@ -44,26 +45,26 @@ fires s m n t =
     let time = and_yes (ltb (from (matches_at s) 1440 0) 1440) (some_day s) e.0 in
     let h : m < last_minute = ltb→lt _ _ a.0 in
     rw (can-fire s, T_true (ltb (from (matches_at s) 1440 0) 1440 && some_day s) e.0)
-    (quick-right s 500 m h (ltb→lt _ _ b.0) (ltb→lt _ _ c.0) (ltb→lt _ _ time.0) ∙ ap At (eqb→eq _ _ c.1))
+    (quick-right s 500 m h (ltb→lt _ _ b.0) (ltb→lt _ _ c.0) (ltb→lt _ _ time.0) ∙ ap Ok (eqb→eq _ _ c.1))
 
-pub never : (s : Schedule) (m : ℕ) → ever s ≡ false → next_after s m ≡ Never
+pub never : (s : Schedule) (m : ℕ) → ever s ≡ false → next_after s m ≡ Err never_fires
 unfolding ever next_after
 never s m e = rw (can-fire s, e)
 
 -- nothing is left after the last minute
-pub past : (s : Schedule) → ever s ≡ true → next_after s last_minute ≡ PastEnd
+pub past : (s : Schedule) → ever s ≡ true → next_after s last_minute ≡ Err past_the_end
 unfolding ever next_after firing_after
 past s e = rw (can-fire s, e, sym (from_past (matches s) (last_minute + 1) (last_minute + 1) (lit≤ tt)))
 
 -- ---- the known days
 
 pub known-days :
-    (next_after leap_day 66355200 ≡ At 70561440)
-    × (next_after fridays 0 ≡ At 270)
-    × (next_after fridays 270 ≡ At 1710)
-    × (next_after february30 0 ≡ Never)
-    × (next_after mondays30 0 ≡ At 46080)
-    × (next_after last_day 4223371679 ≡ PastEnd)
+    (next_after leap_day 66355200 ≡ Ok 70561440)
+    × (next_after fridays 0 ≡ Ok 270)
+    × (next_after fridays 270 ≡ Ok 1710)
+    × (next_after february30 0 ≡ Err never_fires)
+    × (next_after mondays30 0 ≡ Ok 46080)
+    × (next_after last_day 4223371679 ≡ Err past_the_end)
 unfolding fires_at ever schedules quick day_from months_from length_of
 known-days = (
   fires leap_day 66355200 70561440 tt,
@@ -78,6 +79,6 @@ known-days = (
 pub gap_is : gap ≡ 21036960
 gap_is = refl
 
-pub gap-reached : next_after leap_sundays 62147520 ≡ At (62147520 + gap)
+pub gap-reached : next_after leap_sundays 62147520 ≡ Ok (62147520 + gap)
 unfolding fires_at ever schedules quick day_from months_from length_of
 gap-reached = fires leap_sundays 62147520 83184480 tt

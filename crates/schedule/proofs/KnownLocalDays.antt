@@ -6,9 +6,9 @@ use Prim.Native.Nat.{ℕ, ◌+◌, ◌≤◌}
 use native.Mathlib.Omega.{arith}
 use lib.Dec.{T, leb, ltb, eqb, eqb→eq, ltb→lt, leb→le}
 use mir.Facts.{and_yes}
+use Rattle.std.specs.Prelude.{Ok, Err}
 use Rattle.calendar.specs.Dates.{last_minute}
 use Rattle.schedule.specs.declared.Schedule.{Schedule}
-use Rattle.schedule.specs.declared.Next.TheVariants.{At, Never, PastEnd}
 use Rattle.schedule.specs.Search.{from}
 use Rattle.schedule.specs.Local.{matches_in, next_after_in}
 use Rattle.schedule.specs.Examples.{february30, mondays, evenings, every_minute, schedules}
@@ -17,13 +17,14 @@ use Rattle.schedule.proofs.Gap.{can-fire}
 use Rattle.schedule.proofs.KnownDays.{ever, T_true}
 use Rattle.schedule.proofs.LocalMinutes.{matches-after}
 use Rattle.schedule.proofs.LocalTheorems.{next-at-in, next-past-in}
+use Rattle.schedule.specs.Refusals.{never_fires, past_the_end}
 
 -- ---- a test that antt computes, and what it shows
 
 unfoldable pub fires_in : Schedule → ℕ → ℕ → ℕ → Bool
 fires_in s o m n = ltb m n && (leb n last_minute && (matches_in s o n && eqb (from (matches_in s o) n (m + 1)) n))
 
-fires : (s : Schedule) (o m n : ℕ) → T (fires_in s o m n) → next_after_in s o m ≡ At n
+fires : (s : Schedule) (o m n : ℕ) → T (fires_in s o m n) → next_after_in s o m ≡ Ok n
 unfolding fires_in
 fires s o m n t =
     let a = and_yes (ltb m n) _ t in
@@ -35,11 +36,11 @@ fires s o m n t =
     (λ k u v. (from-least (matches_in s o) n (m + 1) (omega arith)).none k (omega arith) (omega arith))
 
 -- past the calendar locally nothing is left
-past : (s : Schedule) (o m : ℕ) → ever s ≡ true → last_minute + 720 ≤ m + o → next_after_in s o m ≡ PastEnd
+past : (s : Schedule) (o m : ℕ) → ever s ≡ true → last_minute + 720 ≤ m + o → next_after_in s o m ≡ Err past_the_end
 unfolding ever
 past s o m e h = next-past-in s o m (rw (can-fire s, e)) (λ k u v. matches-after o k s (omega arith))
 
-never : (s : Schedule) (o m : ℕ) → ever s ≡ false → next_after_in s o m ≡ Never
+never : (s : Schedule) (o m : ℕ) → ever s ≡ false → next_after_in s o m ≡ Err never_fires
 unfolding ever next_after_in
 never s o m e = rw (can-fire s, e)
 
@@ -47,18 +48,18 @@ never s o m e = rw (can-fire s, e)
 
 pub known-days-in :
     -- at -12:00 the local calendar begins with minute 720
-    (next_after_in every_minute 0 0 ≡ At 720)
-    × (next_after_in every_minute 0 719 ≡ At 720)
-    × (next_after_in every_minute 0 720 ≡ At 721)
-    × (next_after_in evenings 0 0 ≡ At 1800)
+    (next_after_in every_minute 0 0 ≡ Ok 720)
+    × (next_after_in every_minute 0 719 ≡ Ok 720)
+    × (next_after_in every_minute 0 720 ≡ Ok 721)
+    × (next_after_in evenings 0 0 ≡ Ok 1800)
     -- 400 years later minute 0 is on the local calendar, and has an evening before it
-    × (next_after_in evenings 0 210379680 ≡ At 210380040)
+    × (next_after_in evenings 0 210379680 ≡ Ok 210380040)
     -- at +14:00 it ends 840 minutes before the last
-    × (next_after_in mondays 1560 0 ≡ At 4920)
-    × (next_after_in every_minute 1560 4223370838 ≡ At 4223370839)
-    × (next_after_in every_minute 1560 4223370839 ≡ PastEnd)
+    × (next_after_in mondays 1560 0 ≡ Ok 4920)
+    × (next_after_in every_minute 1560 4223370838 ≡ Ok 4223370839)
+    × (next_after_in every_minute 1560 4223370839 ≡ Err past_the_end)
     -- 16 doesn't look at the offset
-    × (next_after_in february30 1560 4223370839 ≡ Never)
+    × (next_after_in february30 1560 4223370839 ≡ Err never_fires)
 unfolding fires_in ever schedules
 known-days-in = (
   fires every_minute 0 0 720 tt,

@@ -1,6 +1,7 @@
 -- Laws of the next firing under an offset: the search goes over local minutes, and what it finds is carried back to UTC.
 -- Assumes nothing.
 use mathlib.Core.Path.{◌≡◌, ◌∙◌}
+use Rattle.std.specs.Prelude.{Ok, Err}
 use Rattle.schedule.specs.Local.{max_west}
 use mathlib.Core.Bool.{true, false, ◌&&◌}
 use mathlib.Core.Logic.{◌⊎◌, inl, inr}
@@ -13,12 +14,12 @@ use borrow.Author.Tests.{leb-true, leb-false, le-leb, lt-leb}
 use Rattle.calendar.specs.Dates.{last_minute}
 use Rattle.calendar.proofs.Tests.{and-true, and-false}
 use Rattle.schedule.specs.declared.Schedule.{Schedule}
-use Rattle.schedule.specs.declared.Next.TheVariants.{At, PastEnd}
 use Rattle.schedule.specs.Match.{matches}
 use Rattle.schedule.specs.Search.{from}
 use Rattle.schedule.specs.Local.{matches_in, firing_from_in}
 use Rattle.schedule.proofs.Search.{Least, least-from, from-least, from-none, from_past, from-skip}
 use Rattle.schedule.proofs.LocalMinutes.{matches-before, matches-at, matches-after}
+use Rattle.schedule.specs.Refusals.{past_the_end}
 
 module _ (s : Schedule) (o : ℕ) where
   -- ---- a minute m whose local minute is l: n is the least local minute from there on
@@ -33,7 +34,7 @@ module _ (s : Schedule) (o : ℕ) where
           | no w ↦ let x = lt_of_not-le w in matches-after o i s (omega arith)
         ]
 
-    pub firing-at : (leb n last_minute && leb (m + (n - l)) last_minute) ≡ true → At (m + (n - l)) ≡ firing_from_in s o m
+    pub firing-at : (leb n last_minute && leb (m + (n - l)) last_minute) ≡ true → Ok (m + (n - l)) ≡ firing_from_in s o m
     unfolding firing_from_in
     firing-at t =
         let w = and-true (leb n last_minute) (leb (m + (n - l)) last_minute) t in
@@ -50,7 +51,7 @@ module _ (s : Schedule) (o : ℕ) where
         in
         rw (← x, le-leb (m + (n - l)) last_minute b)
 
-    pub firing-none : (leb n last_minute && leb (m + (n - l)) last_minute) ≡ false → PastEnd ≡ firing_from_in s o m
+    pub firing-none : (leb n last_minute && leb (m + (n - l)) last_minute) ≡ false → Err past_the_end ≡ firing_from_in s o m
     unfolding firing_from_in
     firing-none t = let x = from-none (matches_in s o) (last_minute + 1) m (omega arith) (λ i u v. none_before i u (λ w. late i u v w (and-false (leb n last_minute) (leb (m + (n - l)) last_minute) t))) in rw (← x)
       where
@@ -68,13 +69,13 @@ module _ (s : Schedule) (o : ℕ) where
       rw (from-skip (matches_in s o) (last_minute + 1) m (max_west - o) (omega arith) (omega arith) (λ i u v. matches-before o i s (omega arith)))
 
   -- past the calendar locally
-  pub firing-past : (m : ℕ) → last_minute + max_west < m + o → m ≤ last_minute → PastEnd ≡ firing_from_in s o m
+  pub firing-past : (m : ℕ) → last_minute + max_west < m + o → m ≤ last_minute → Err past_the_end ≡ firing_from_in s o m
   unfolding firing_from_in
   firing-past m h k =
       let x = from-none (matches_in s o) (last_minute + 1) m (omega arith) (λ i u v. matches-after o i s (omega arith)) in
       rw (← x)
 
   -- past it in UTC
-  pub firing-end : (m : ℕ) → last_minute < m → PastEnd ≡ firing_from_in s o m
+  pub firing-end : (m : ℕ) → last_minute < m → Err past_the_end ≡ firing_from_in s o m
   unfolding firing_from_in
   firing-end m h = rw (← from_past (matches_in s o) (last_minute + 1) m (omega arith), lt-leb m last_minute h)

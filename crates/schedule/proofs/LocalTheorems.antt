@@ -1,8 +1,11 @@
 -- What holds of a schedule's firings under an offset from UTC, with no search in it; proofs/Theorems lists them.
 -- Assumes nothing.
 use mathlib.Core.Path.{◌≡◌, refl, sym, ap, ◌∙◌}
+use Rattle.std.specs.Prelude.{Ok, Err}
+use Rattle.refusal.specs.declared.Refusal.{Refusal}
 use Rattle.schedule.specs.Local.{max_west}
 use mathlib.Core.Bool.{Bool, true, false, cond, ◌&&◌, true≢false}
+use mathlib.Core.Logic.{◌⊎◌, inl, inr}
 use Prim.Native.Nat.{ℕ, ◌+◌, ◌-◌, ◌≤◌, ◌<◌}
 use native.Mathlib.Nat.{lt_of_not-le}
 use native.Mathlib.Decide.{dec_le}
@@ -11,7 +14,6 @@ use lib.Dec.{leb}
 use borrow.Author.Tests.{le-leb, lt-leb, lt-ltb, le-ltb, leb-true, leb-false}
 use Rattle.calendar.specs.Dates.{last_minute, cycle_minutes}
 use Rattle.schedule.specs.declared.Schedule.{Schedule}
-use Rattle.schedule.specs.declared.Next.TheVariants.{At, Never, PastEnd}
 use Rattle.schedule.specs.declared.local.LocalMinute.{LocalMinute}
 use Rattle.schedule.specs.declared.local.LocalMinute.TheVariants as local
 use Rattle.schedule.specs.Match.{matches}
@@ -22,6 +24,7 @@ use Rattle.schedule.specs.Local.{local_of, matches_minute, matches_in, firing_fr
 use Rattle.schedule.proofs.Search.{Least, least-from, from-least, from-none, from_past, from-same, passes-search, none_passes}
 use Rattle.schedule.proofs.Gap.{matching-fires, fires-within, fires-first}
 use Rattle.schedule.proofs.LocalMinutes.{by_place, matches-before, matches-at, matches-after}
+use Rattle.schedule.specs.Refusals.{never_fires, past_the_end}
 
 -- ---- by dates
 
@@ -48,7 +51,7 @@ utc-same s m = elim (dec_le m last_minute) [ yes h ↦ rw (le-leb m last_minute 
 
 pub utc-next : (s : Schedule) (m : ℕ) → next_after_in s max_west m ≡ next_after s m
 unfolding next_after_in firing_after_in firing_from_in next_after firing_after
-utc-next s m = ap (λ (n : ℕ). cond (can_fire s) (cond (leb n last_minute) (At n) PastEnd) Never) least
+utc-next s m = ap (λ (n : ℕ). cond (can_fire s) (cond (leb n last_minute) (Ok n) (Err past_the_end)) (Err never_fires)) least
   where
     on : m ≤ last_minute → from (matches_in s max_west) (last_minute + 1) (m + 1) ≡ from (matches s) (last_minute + 1) (m + 1)
     on h = from-same (matches_in s max_west) (matches s) (last_minute + 1) (m + 1) (omega arith) (λ k u v. utc-on s k (omega arith))
@@ -77,7 +80,7 @@ module _ (s : Schedule) (o : ℕ) where
 
   -- the least matching minute after m, up to the calendar's last
   pub next-at-in : (m n : ℕ) → m < n → n ≤ last_minute → matches_in s o n ≡ true
-      → ((k : ℕ) → m < k → k < n → matches_in s o k ≡ false) → next_after_in s o m ≡ At n
+      → ((k : ℕ) → m < k → k < n → matches_in s o k ≡ false) → next_after_in s o m ≡ Ok n
   unfolding next_after_in firing_after_in firing_from_in
   next-at-in m n h k t none =
       let l : Least (matches_in s o) (last_minute + 1) (m + 1) n =
@@ -86,25 +89,39 @@ module _ (s : Schedule) (o : ℕ) where
       rw (matching-fires-in n t, ← least-from (omega arith) l, le-leb n last_minute k)
 
   -- never, where no minute of the cycle matches, whatever the offset
-  pub next-never-in : (m : ℕ) → ((k : ℕ) → k < cycle_minutes → matches s k ≡ false) → next_after_in s o m ≡ Never
+  pub next-never-in : (m : ℕ) → ((k : ℕ) → k < cycle_minutes → matches s k ≡ false) → next_after_in s o m ≡ Err never_fires
   unfolding next_after_in can_fire
   next-never-in m none =
       let e = from-none (matches s) cycle_minutes 0 (omega arith) (λ k _ v. none k v) in
       rw (← e)
 
   -- past the end, where one matches and none is left
-  pub next-past-in : (m : ℕ) → can_fire s ≡ true → ((k : ℕ) → m < k → k ≤ last_minute → matches_in s o k ≡ false) → next_after_in s o m ≡ PastEnd
+  pub next-past-in : (m : ℕ) → can_fire s ≡ true → ((k : ℕ) → m < k → k ≤ last_minute → matches_in s o k ≡ false) → next_after_in s o m ≡ Err past_the_end
   unfolding next_after_in firing_after_in firing_from_in
   next-past-in m f none = rw f (elim (dec_le m last_minute) [ yes h ↦ rw (← within h) | no h ↦ after (lt_of_not-le h) ])
     where
       within : m ≤ last_minute → last_minute + 1 ≡ from (matches_in s o) (last_minute + 1) (m + 1)
       within h = from-none (matches_in s o) (last_minute + 1) (m + 1) (omega arith) (λ k u v. none k (omega arith) (omega arith))
 
-      after : last_minute < m → (let n = from (matches_in s o) (last_minute + 1) (m + 1) in cond (leb n last_minute) (At n) PastEnd) ≡ PastEnd
+      after : last_minute < m → (let n = from (matches_in s o) (last_minute + 1) (m + 1) in cond (leb n last_minute) (Ok n) (Err past_the_end)) ≡ Err past_the_end
       after h = rw (← from_past (matches_in s o) (last_minute + 1) (m + 1) (omega arith), lt-leb (m + 1) last_minute (omega arith))
 
+  -- there are two refusals, whatever the minute
+  pub next-refused-in : (m : ℕ) (refusal : Refusal) → next_after_in s o m ≡ Err refusal → (refusal ≡ never_fires) ⊎ (refusal ≡ past_the_end)
+  unfolding next_after_in firing_after_in firing_from_in
+  next-refused-in m refusal e = go (can_fire s) (leb k last_minute) e
+    where
+      k : ℕ
+      k = from (matches_in s o) (last_minute + 1) (m + 1)
+
+      go : (b c : Bool) → cond b (cond c (Ok k) (Err past_the_end)) (Err never_fires) ≡ Err refusal
+          → (refusal ≡ never_fires) ⊎ (refusal ≡ past_the_end)
+      go true true f = absurd (let z : ◌≡◌ {A = ℕ} 0 1 = cc in omega arith)
+      go true false f = inr cc
+      go false c f = inl cc
+
   -- a firing that is told is later, on the calendar, matches, and no minute between does
-  pub next-is-in : (m n : ℕ) → next_after_in s o m ≡ At n
+  pub next-is-in : (m n : ℕ) → next_after_in s o m ≡ Ok n
       → (m < n) × (n ≤ last_minute) × (matches_in s o n ≡ true) × ((k : ℕ) → m < k → k < n → matches_in s o k ≡ false)
   unfolding next_after_in firing_after_in firing_from_in
   next-is-in m n e = go (can_fire s) (leb k last_minute) refl e
@@ -124,13 +141,13 @@ module _ (s : Schedule) (o : ℕ) where
           let l = from-least (matches_in s o) (last_minute + 1) (m + 1) (omega (arith, on h)) in
           (omega (arith, l.low), h, l.passes (omega arith), (λ i u v. l.none i (omega arith) v))
 
-      go : (b c : Bool) → leb k last_minute ≡ c → cond b (cond c (At k) PastEnd) Never ≡ At n
+      go : (b c : Bool) → leb k last_minute ≡ c → cond b (cond c (Ok k) (Err past_the_end)) (Err never_fires) ≡ Ok n
           → (m < n) × (n ≤ last_minute) × (matches_in s o n ≡ true) × ((i : ℕ) → m < i → i < n → matches_in s o i ≡ false)
       go true true r f = let i : k ≡ n = cc in rw i at (found (leb-true k last_minute r))
       go true false r f = absurd (let z : ◌≡◌ {A = ℕ} 0 1 = cc in omega arith)
       go false c r f = absurd (let z : ◌≡◌ {A = ℕ} 0 1 = cc in omega arith)
 
-  pub next-on-calendar-in : (m n : ℕ) → next_after_in s o m ≡ At n → n ≤ last_minute
+  pub next-on-calendar-in : (m n : ℕ) → next_after_in s o m ≡ Ok n → n ≤ last_minute
   next-on-calendar-in m n e = (next-is-in m n e).1
 
   -- Q5: an entry matches a minute after h, up to m, just where its next firing after h comes by m
@@ -142,7 +159,7 @@ module _ (s : Schedule) (o : ℕ) where
       k = from (matches_in s o) (last_minute + 1) (h + 1)
 
       go : (b : Bool) → can_fire s ≡ b → (c : Bool) → leb k last_minute ≡ c
-          → by_then (cond b (cond c (At k) PastEnd) Never) m ≡ passes (matches_in s o) h m
+          → by_then (cond b (cond c (Ok k) (Err past_the_end)) (Err never_fires)) m ≡ passes (matches_in s o) h m
       go true f true e = sym (passes-search (matches_in s o) h m (last_minute + 1) (omega arith))
       go true f false e =
           sym (passes-search (matches_in s o) h m (last_minute + 1) (omega arith) ∙ lt-leb k m (omega (arith, leb-false k last_minute e)))
@@ -186,7 +203,7 @@ module _ (s : Schedule) (o : ℕ) where
           )
 
   -- A firing that is told is at most `gap` minutes ahead, from before 1970 locally too: the first one there comes in 27 years.
-  pub next-within-in : (t n : ℕ) → next_after_in s o t ≡ At n → n ≤ t + gap
+  pub next-within-in : (t n : ℕ) → next_after_in s o t ≡ Ok n → n ≤ t + gap
   next-within-in t n e = elim (dec_le max_west (t + o)) [ yes k ↦ elim (dec_le (t + gap + o) (last_minute + max_west)) [ yes h ↦ near k h | no h ↦ far (lt_of_not-le h) ] | no k ↦ below (lt_of_not-le k) ]
     where
       -- it comes no later than any later minute that matches
@@ -213,5 +230,5 @@ module _ (s : Schedule) (o : ℕ) where
           omega (arith, by m (omega arith) (matches-at o m s l (omega arith) (omega arith) ∙ w))
 
 -- in UTC too
-pub next-within : (s : Schedule) (t n : ℕ) → next_after s t ≡ At n → n ≤ t + gap
+pub next-within : (s : Schedule) (t n : ℕ) → next_after s t ≡ Ok n → n ≤ t + gap
 next-within s t n e = next-within-in s max_west t n (utc-next s t ∙ e)

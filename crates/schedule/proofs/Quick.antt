@@ -6,11 +6,11 @@ use Prim.Native.Nat.{ℕ, zero, suc, ◌+◌, ◌-◌, ◌*◌, ◌/◌, ◌%◌
 use native.Mathlib.Omega.{arith}
 use lib.Dec.{ltb, lit<}
 use borrow.Author.Tests.{ltb-true, ltb-false, lt-ltb}
+use Rattle.std.specs.Prelude.{Ok}
 use Rattle.calendar.specs.Dates.{calendar_days, last_minute, date_at}
 use Rattle.calendar.proofs.Tests.{and-true}
 use Rattle.calendar.proofs.Months.{length_of}
 use Rattle.schedule.specs.declared.Schedule.{Schedule}
-use Rattle.schedule.specs.declared.Next.TheVariants.{At}
 use Rattle.schedule.specs.Match.{matches_on, matches_at}
 use Rattle.schedule.specs.Search.{from}
 use Rattle.schedule.specs.Days.{matches_in_month}
@@ -66,7 +66,7 @@ day-found s n day h k = months-found s n (searching-starts s day h) k
 
 -- where it finds one, that is the next firing
 pub quick-right : (s : Schedule) (n m : ℕ) → m < last_minute → (m + 1) / 1440 + 1 < calendar_days
-    → day_from s n ((m + 1) / 1440 + 1) < calendar_days → from (matches_at s) 1440 0 < 1440 → firing_after s m ≡ At (quick s n m)
+    → day_from s n ((m + 1) / 1440 + 1) < calendar_days → from (matches_at s) 1440 0 < 1440 → firing_after s m ≡ Ok (quick s n m)
 unfolding quick
 quick-right s n m h k a b = go (matches_on s day && ltb time 1440) refl
   where
@@ -80,7 +80,7 @@ quick-right s n m h k a b = go (matches_on s day && ltb time 1440) refl
     later = day_from s n (day + 1)
 
     go : (u : Bool) → (matches_on s day && ltb time 1440) ≡ u
-        → firing_after s m ≡ At (cond u (day * 1440 + time) (later * 1440 + from (matches_at s) 1440 0))
+        → firing_after s m ≡ Ok (cond u (day * 1440 + time) (later * 1440 + from (matches_at s) 1440 0))
     go true e =
         let t : time < 1440 = ltb-true _ _ (and-true (matches_on s day) _ e).1 in
         sym

@@ -1,6 +1,7 @@
 -- The next firing under an offset where it falls on the local day of the one before.
 -- Assumes nothing.
 use mathlib.Core.Path.{◌≡◌, refl, sym, ◌∙◌}
+use Rattle.std.specs.Prelude.{Ok}
 use Rattle.schedule.specs.Local.{max_west}
 use mathlib.Core.Bool.{Bool, true, false, ◌&&◌}
 use Prim.Native.Nat.{ℕ, ◌+◌, ◌-◌, ◌*◌, ◌/◌, ◌%◌, ◌≤◌, ◌<◌}
@@ -8,7 +9,6 @@ use native.Mathlib.Omega.{arith}
 use Rattle.calendar.specs.Dates.{last_minute}
 use Rattle.calendar.proofs.Tests.{and-true}
 use Rattle.schedule.specs.declared.Schedule.{Schedule}
-use Rattle.schedule.specs.declared.Next.TheVariants.{At}
 use Rattle.schedule.specs.Match.{matches, matches_on, matches_at}
 use Rattle.schedule.specs.Search.{from}
 use Rattle.schedule.specs.Local.{matches_in, next_after_in}
@@ -31,7 +31,7 @@ module _ (s : Schedule) (o m l later : ℕ) (e : m + o ≡ l + max_west) (h : l 
   at-time t k = (omega arith, omega arith, omega arith)
 
   pub same-day : later ≡ from (matches_at s) 1440 (l % 1440 + 1) → later < 1440 → m + (later - l % 1440) ≤ last_minute
-      → At (m + (later - l % 1440)) ≡ next_after_in s o m
+      → Ok (m + (later - l % 1440)) ≡ next_after_in s o m
   same-day f k on = sym (next-at-in s o m (m + (later - l % 1440)) (omega (arith, least.low)) on here none)
     where
       least : Least (matches_at s) 1440 (l % 1440 + 1) later

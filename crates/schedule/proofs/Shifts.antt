@@ -1,6 +1,7 @@
 -- The calendar comes round after 400 years, and firings with it (G9, I8).
 -- Assumes nothing.
 use mathlib.Core.Path.{◌≡◌, sym, ◌∙◌}
+use Rattle.std.specs.Prelude.{Ok}
 use Rattle.schedule.specs.Local.{max_west}
 use mathlib.Core.Logic.{◌↔◌}
 use mathlib.Core.Bool.{false}
@@ -9,7 +10,6 @@ use native.Mathlib.Omega.{arith}
 use Rattle.calendar.specs.Dates.{last_minute, cycle_minutes}
 use Rattle.calendar.proofs.Theorems.{cycle}
 use Rattle.schedule.specs.declared.Schedule.{Schedule}
-use Rattle.schedule.specs.declared.Next.TheVariants.{At}
 use Rattle.schedule.specs.Match.{matches_date, matches}
 use Rattle.schedule.specs.Local.{matches_in, next_after_in}
 use Rattle.schedule.proofs.LocalMinutes.{matches-at}
@@ -30,10 +30,10 @@ module _ (s : Schedule) (o : ℕ) where
       ∙ sym (matches-at o m s l (omega arith) (omega arith))
 
   module _ (m n : ℕ) (from : max_west ≤ m + o) (utc : n + cycle_minutes ≤ last_minute) (to : n + cycle_minutes + o ≤ last_minute + max_west) where
-    pub next-shifts-in : (next_after_in s o m ≡ At n) ↔ (next_after_in s o (m + cycle_minutes) ≡ At (n + cycle_minutes))
+    pub next-shifts-in : (next_after_in s o m ≡ Ok n) ↔ (next_after_in s o (m + cycle_minutes) ≡ Ok (n + cycle_minutes))
     next-shifts-in = (later, sooner)
       where
-        later : next_after_in s o m ≡ At n → next_after_in s o (m + cycle_minutes) ≡ At (n + cycle_minutes)
+        later : next_after_in s o m ≡ Ok n → next_after_in s o (m + cycle_minutes) ≡ Ok (n + cycle_minutes)
         later e =
             let (u, v, t, none) = next-is-in s o m n e in
             next-at-in s o (m + cycle_minutes) (n + cycle_minutes) (omega arith) utc (matches-shifts-in n (omega arith) to ∙ t) (quiet none)
@@ -44,7 +44,7 @@ module _ (s : Schedule) (o : ℕ) where
                 let e : k - cycle_minutes + cycle_minutes ≡ k = omega arith in
                 rw e at (matches-shifts-in (k - cycle_minutes) (omega arith) (omega arith) ∙ none (k - cycle_minutes) (omega arith) (omega arith))
 
-        sooner : next_after_in s o (m + cycle_minutes) ≡ At (n + cycle_minutes) → next_after_in s o m ≡ At n
+        sooner : next_after_in s o (m + cycle_minutes) ≡ Ok (n + cycle_minutes) → next_after_in s o m ≡ Ok n
         sooner e =
             let (u, v, t, none) = next-is-in s o (m + cycle_minutes) (n + cycle_minutes) e in
             next-at-in s o m n (omega arith) (omega arith) (sym (matches-shifts-in n (omega arith) to) ∙ t)

@@ -9,7 +9,8 @@
 -- And under an offset from UTC:
 --   local-date: a local date serves as well as the minute
 --   utc-same, utc-next: an offset of 0 changes nothing
---   next-at-in, next-never-in, next-past-in: the next firing, all of it in UTC; next-is-in: and what one that is told is
+--   next-at-in, next-never-in, next-past-in: the next firing, all of it in UTC; next-is-in: and what one that is told is;
+--     next-refused-in: and that there are two refusals
 --   matching-fires-in, next-on-calendar-in: as without an offset
 --   slow-agrees: a plain clock walk, minute by minute, comes to the same for every schedule, offset and minute
 --   next-by: an entry matches a minute after h, up to m, just where its next firing after h comes by m
@@ -34,13 +35,14 @@ use native.Mathlib.Decide.{dec_le}
 use native.Mathlib.Omega.{arith}
 use lib.Dec.{leb}
 use borrow.Author.Tests.{le-leb, lt-leb, leb-true}
+use Rattle.std.specs.Prelude.{Ok, Err}
 use Rattle.calendar.specs.Dates.{last_minute, cycle_minutes}
 use Rattle.schedule.specs.declared.Schedule.{Schedule}
-use Rattle.schedule.specs.declared.Next.TheVariants.{At, Never, PastEnd}
 use Rattle.schedule.specs.Match.{matches}
 use Rattle.schedule.specs.Search.{from}
 use Rattle.schedule.specs.Next.{can_fire, firing_after, next_after}
 use Rattle.schedule.proofs.Search.{Least, least-from, from-none, from_past}
+use Rattle.schedule.specs.Refusals.{never_fires, past_the_end}
 pub use Rattle.schedule.proofs.Gap.{can-fire, matching-fires, fires-within, fires-first}
 unfoldable pub use Rattle.schedule.proofs.KnownDays.{ever}
 pub use Rattle.schedule.proofs.KnownDays.{known-days, never, gap_is, gap-reached}
@@ -51,11 +53,11 @@ pub use Rattle.schedule.proofs.Jumps.{case-above, case-below, case-after, case-h
 pub use Rattle.schedule.proofs.JumpRules.{unmarked-judged, far-judged, caught-up, held-judged, first-mark, mark-moves, mark-held}
 pub use Rattle.schedule.proofs.Shifts.{matches-shifts, matches-shifts-in, next-shifts-in}
 pub use Rattle.schedule.proofs.Offsets.{zone-fits}
-pub use Rattle.schedule.proofs.LocalTheorems.{local-date, utc-same, utc-next, next-at-in, next-never-in, next-past-in, next-is-in, matching-fires-in, next-on-calendar-in, next-by, gap-on, gap-before, fires-within-in, next-within-in, next-within}
+pub use Rattle.schedule.proofs.LocalTheorems.{local-date, utc-same, utc-next, next-at-in, next-never-in, next-past-in, next-refused-in, next-is-in, matching-fires-in, next-on-calendar-in, next-by, gap-on, gap-before, fires-within-in, next-within-in, next-within}
 
 -- the least matching minute after m, up to the calendar's last
 pub next-at : (s : Schedule) (m n : ℕ) → m < n → n ≤ last_minute → matches s n ≡ true
-    → ((k : ℕ) → m < k → k < n → matches s k ≡ false) → next_after s m ≡ At n
+    → ((k : ℕ) → m < k → k < n → matches s k ≡ false) → next_after s m ≡ Ok n
 unfolding next_after firing_after
 next-at s m n h k t none =
     let l : Least (matches s) (last_minute + 1) (m + 1) n =
@@ -64,14 +66,14 @@ next-at s m n h k t none =
     rw (matching-fires s n k t, ← least-from (omega arith) l, le-leb n last_minute k)
 
 -- never, where no minute of the cycle matches
-pub next-never : (s : Schedule) (m : ℕ) → ((k : ℕ) → k < cycle_minutes → matches s k ≡ false) → next_after s m ≡ Never
+pub next-never : (s : Schedule) (m : ℕ) → ((k : ℕ) → k < cycle_minutes → matches s k ≡ false) → next_after s m ≡ Err never_fires
 unfolding next_after can_fire
 next-never s m none =
     let e = from-none (matches s) cycle_minutes 0 (omega arith) (λ k _ v. none k v) in
     rw (← e)
 
 -- past the end, where one matches and none is left
-pub next_past : (s : Schedule) (m : ℕ) → can_fire s ≡ true → ((k : ℕ) → m < k → k ≤ last_minute → matches s k ≡ false) → next_after s m ≡ PastEnd
+pub next_past : (s : Schedule) (m : ℕ) → can_fire s ≡ true → ((k : ℕ) → m < k → k ≤ last_minute → matches s k ≡ false) → next_after s m ≡ Err past_the_end
 unfolding next_after firing_after
 next_past s m f none = rw f (elim (dec_le m last_minute) [ yes h ↦ rw (← within h) | no h ↦ rw (← from_past (matches s) (last_minute + 1) (m + 1) (after h), lt-leb (m + 1) last_minute (after' h)) ])
   where
@@ -85,14 +87,14 @@ next_past s m f none = rw f (elim (dec_le m last_minute) [ yes h ↦ rw (← wit
     after h = let l = lt_of_not-le h in omega arith
 
 -- a firing that is told is on the calendar
-pub next-on-calendar : (s : Schedule) (m n : ℕ) → next_after s m ≡ At n → n ≤ last_minute
+pub next-on-calendar : (s : Schedule) (m n : ℕ) → next_after s m ≡ Ok n → n ≤ last_minute
 unfolding next_after firing_after
 next-on-calendar s m n e = go (can_fire s) (leb k last_minute) refl e
   where
     k : ℕ
     k = from (matches s) (last_minute + 1) (m + 1)
 
-    go : (b c : Bool) → leb k last_minute ≡ c → cond b (cond c (At k) PastEnd) Never ≡ At n → n ≤ last_minute
+    go : (b c : Bool) → leb k last_minute ≡ c → cond b (cond c (Ok k) (Err past_the_end)) (Err never_fires) ≡ Ok n → n ≤ last_minute
     go true true r f = let i : k ≡ n = cc in omega (arith, leb-true k last_minute r)
     go true false r f = let z : ◌≡◌ {A = ℕ} 0 1 = cc in omega arith
     go false c r f = let z : ◌≡◌ {A = ℕ} 0 1 = cc in omega arith

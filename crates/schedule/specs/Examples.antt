@@ -5,10 +5,7 @@ use Rattle.octets.specs.Rows.{Hold}
 use Rattle.octets.specs.Sets.{set_of, up_to}
 use Rattle.schedule.specs.declared.Stars.{Stars}
 use Rattle.schedule.specs.declared.Schedule.{Schedule}
-use Rattle.schedule.specs.declared.Next.{Next}
-use Rattle.schedule.specs.declared.Next.TheVariants.{At, Never, PastEnd}
 use Rattle.schedule.specs.Match.{matches}
-use Rattle.schedule.specs.Next.{refusal_of, minute_in}
 use Rattle.schedule.specs.Computing.{firing}
 
 -- the values of the five fields in their order, and which of them begin with `*`
@@ -151,10 +148,3 @@ strays : Hold matched
     ∷ [])
 unfolding schedules
 strays = refl
-
--- numbers and minutes of a next firing
-abbrev numbered : Next → ℕ × ℕ
-numbered n = (refusal_of n, minute_in n)
-
-next-numbers : Hold numbered ((At 5, (0, 5)) ∷ (Never, (16, 0)) ∷ (PastEnd, (17, 0)) ∷ [])
-next-numbers = refl

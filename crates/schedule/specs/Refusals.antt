@@ -1,11 +1,12 @@
--- The numbers with which a next firing is refused (R16, R17).
+-- The refusals of a next firing (R16, R17).
 -- Assumes nothing.
-use Rattle.std.specs.Prelude.{ℕ}
+use Rattle.refusal.specs.declared.Refusal.{Refusal}
+use Rattle.refusal.specs.declared.Refusal.TheVariants.{Never, PastEnd}
 
 -- R16: no minute of the cycle matches
-abbrev pub never_fires : ℕ
-never_fires = 16
+abbrev pub never_fires : Refusal
+never_fires = Never
 
 -- R17: would fire, but not before the calendar ends
-abbrev pub past_the_end : ℕ
-past_the_end = 17
+abbrev pub past_the_end : Refusal
+past_the_end = PastEnd

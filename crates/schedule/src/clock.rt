@@ -4,46 +4,42 @@ ghost use Rattle.calendar.specs.Dates.{last_minute};
 ghost use Rattle.schedule.specs.Local.{OffsetInRange, biased_offset};
 ghost use Rattle.schedule.specs.Clocks.{clock, clock_after_in};
 
+use crate::Schedule;
 use crate::local::{local_date, matches_local};
-use crate::{Next, Schedule};
 use calendar::{CYCLE_MINUTES, LAST_MINUTE};
+use refusal::Refusal;
 
 // So many minutes from one on, up to the first that matches.
-fn clock(s: Schedule, offset: i32, minutes: u64, from: u64) -> Next
+fn clock(s: Schedule, offset: i32, minutes: u64, from: u64) -> Result<u64, Refusal>
     requires { OffsetInRange offset × (from + minutes ≤ last_minute + 1) }
     ensures { result ≡ clock s (biased_offset offset) minutes from }
 {
-    let mut left = minutes;
-    let mut minute = from;
-    while 0 < left {
+    for minute in from..from + minutes {
         if matches_local(s, local_date(offset, minute)) {
-            return Next::At(minute);
+            return Ok(minute);
         }
-        left -= 1;
-        minute += 1;
     }
-    Next::PastEnd
+    Err(Refusal::PastEnd)
 }
 
 // The minutes after one, to the calendar's end.
-fn rest(s: Schedule, offset: i32, minute: u64) -> Next
+fn rest(s: Schedule, offset: i32, minute: u64) -> Result<u64, Refusal>
     requires { OffsetInRange offset }
     ensures { result ≡ clock s (biased_offset offset) (last_minute - minute) (minute + 1) }
 {
     if LAST_MINUTE <= minute {
-        return Next::PastEnd;
+        return Err(Refusal::PastEnd);
     }
     clock(s, offset, LAST_MINUTE - minute, minute + 1)
 }
 
 // When an entry fires next under an offset, strictly after a minute, both in UTC: never, where no minute of the whole cycle matches.
-pub fn next_by_clock(s: Schedule, offset: i32, minute: u64) -> Next
+pub fn next_by_clock(s: Schedule, offset: i32, minute: u64) -> Result<u64, Refusal>
     requires { OffsetInRange offset }
     ensures { result ≡ clock_after_in s (biased_offset offset) minute }
 {
     match clock(s, 0, CYCLE_MINUTES, 0) {
-        Next::At(_) => rest(s, offset, minute),
-        Next::Never => Next::Never,
-        Next::PastEnd => Next::Never,
+        Ok(_) => rest(s, offset, minute),
+        Err(_) => Err(Refusal::Never),
     }
 }

@@ -87,7 +87,7 @@ pub(crate) fn day_from(s: Schedule, day: u64) -> u64
     if CALENDAR_DAYS <= day {
         return day;
     }
-    let date = calendar::date_of(day * DAY_MINUTES).date;
+    let date = calendar::date_at(day * DAY_MINUTES);
     let mut count = date.year * 12 + (date.month - 1);
     let mut first = day - (date.day - 1);
     let mut at = day;

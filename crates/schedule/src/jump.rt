@@ -1,16 +1,8 @@
 // When the clock jumps (Q4, Q5, Q6): a mark is the minute up to which fixed entries have been judged, and an announced minute is judged beside it.
-// It is the minute that was announced last, unless the clock fell back by less than 180 minutes: then the mark stays.
+// It is the minute that was announced last, unless the clock fell back by less than 180 minutes: then the mark stays. It is `None` where no minute
+// has been announced.
 ghost use Rattle.std.specs.Prelude.{◌≡◌};
 ghost use Rattle.schedule.specs.Jumps.{case_of, mark_after};
-
-// The mark of a queue.
-#[derive(Clone, Copy)]
-pub enum Mark {
-    // No minute has been announced.
-    None,
-    // This minute.
-    At(u64),
-}
 
 // What an announced minute is, beside the mark.
 #[derive(Clone, Copy)]
@@ -27,10 +19,10 @@ pub enum Case {
 const CATCH_UP_LIMIT: u64 = 180;
 
 // The case of a minute.
-pub fn case_of(mark: Mark, minute: u64) -> Case
+pub fn case_of(mark: Option<u64>, minute: u64) -> Case
     ensures { result ≡ case_of mark minute }
 {
-    let Mark::At(marked) = mark else {
+    let Some(marked) = mark else {
         return Case::Anew;
     };
     if marked < minute {
@@ -46,12 +38,11 @@ pub fn case_of(mark: Mark, minute: u64) -> Case
 }
 
 // The mark that an announced minute leaves.
-pub fn mark_after(mark: Mark, minute: u64) -> Mark
+pub fn mark_after(mark: Option<u64>, minute: u64) -> Option<u64>
     ensures { result ≡ mark_after mark minute }
 {
     match case_of(mark, minute) {
-        Case::Anew => Mark::At(minute),
-        Case::After(_) => Mark::At(minute),
+        Case::Anew | Case::After(_) => Some(minute),
         Case::Held => mark,
     }
 }

@@ -12,19 +12,13 @@ ghost use Rattle.std.specs.Prelude.{◌≡◌, ◌+◌, ◌≤◌, ◌<◌};
 ghost use Rattle.calendar.specs.Dates.{calendar_days, last_minute};
 ghost use Rattle.schedule.specs.Match.{matches_date, matches, is_due, matches_on};
 ghost use Rattle.schedule.specs.Search.{from};
-ghost use Rattle.schedule.specs.Next.{refusal_of, minute_in};
 
 use calendar::{CALENDAR_DAYS, DAY_MINUTES, Date, LAST_MINUTE};
 use day::{day_from, matches_day};
 use time::time_from;
 
-// The refusals, by their numbers (R16, R17).
-pub const NEVER: u8 = 16;
-
-pub const PAST_END: u8 = 17;
-
 // Which fields begin with `*`. Matching looks at the two day fields alone.
-#[derive(Clone, Copy)]
+#[derive(Clone, Copy, PartialEq, Eq)]
 pub struct Stars {
     pub minutes: bool,
     pub hours: bool,
@@ -34,7 +28,7 @@ pub struct Stars {
 }
 
 // An entry's times: bit n of a set stands for the value n, and Sunday is bit 0 only.
-#[derive(Clone, Copy)]
+#[derive(Clone, Copy, PartialEq, Eq)]
 pub struct Schedule {
     pub minutes: u64,
     pub hours: u32,
@@ -42,41 +36,6 @@ pub struct Schedule {
     pub months: u16,
     pub weekdays: u8,
     pub stars: Stars,
-}
-
-// When an entry fires next after a minute.
-#[derive(Clone, Copy)]
-pub enum Next {
-    // At this minute.
-    At(u64),
-    // Never: no minute of the 400-year cycle matches.
-    Never,
-    // Not before the calendar ends, though it would.
-    PastEnd,
-}
-
-impl Next {
-    // The number of the refusal, 0 where there is a firing.
-    pub fn refusal(self) -> u8
-        ensures { result ≡ refusal_of self }
-    {
-        match self {
-            Next::At(_) => 0,
-            Next::Never => NEVER,
-            Next::PastEnd => PAST_END,
-        }
-    }
-
-    // The minute of the firing, 0 where there is none.
-    pub fn minute(self) -> u64
-        ensures { result ≡ minute_in self }
-    {
-        match self {
-            Next::At(minute) => minute,
-            Next::Never => 0,
-            Next::PastEnd => 0,
-        }
-    }
 }
 
 // Whether a date matches, whatever numbers it has.
@@ -94,8 +53,7 @@ pub fn matches(s: Schedule, minute: u64) -> bool
     if LAST_MINUTE < minute {
         return false;
     }
-    let date = calendar::date_of(minute).date;
-    matches_date(s, date)
+    matches_date(s, calendar::date_at(minute))
 }
 
 // Whether a day of the calendar matches, counted from 1970-01-01.
@@ -103,7 +61,7 @@ fn matches_on(s: Schedule, day: u64) -> bool
     requires { day < calendar_days }
     ensures { result ≡ matches_on s day }
 {
-    let date = calendar::date_of(day * DAY_MINUTES).date;
+    let date = calendar::date_at(day * DAY_MINUTES);
     matches_day(s, date.month, date.day, date.weekday)
 }
 

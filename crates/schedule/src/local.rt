@@ -8,8 +8,9 @@ ghost use Rattle.schedule.specs.Local.{OffsetInRange, biased_offset, local_of, m
 
 use crate::never::can_fire;
 use crate::time::time_from;
-use crate::{Next, Schedule, matches_date, minute_from};
+use crate::{Schedule, matches_date, minute_from};
 use calendar::{DAY_MINUTES, Date, LAST_MINUTE};
+use refusal::Refusal;
 
 // The local minute of a UTC minute.
 #[derive(Clone, Copy)]
@@ -20,15 +21,6 @@ pub enum LocalMinute {
     At(u64),
     // Past the calendar.
     After,
-}
-
-// The local date of a UTC minute.
-#[derive(Clone, Copy)]
-pub enum LocalDate {
-    // The local minute isn't on the calendar.
-    Off,
-    // It is, on this date.
-    On(Date),
 }
 
 // The local minute of a minute of the calendar.
@@ -46,69 +38,65 @@ pub fn local_minute(offset: i32, minute: u64) -> LocalMinute
     LocalMinute::At(local as u64)
 }
 
-// The local date of a minute of the calendar.
-pub fn local_date(offset: i32, minute: u64) -> LocalDate
+// The local date of a minute of the calendar; none where the local minute isn't on the calendar.
+pub fn local_date(offset: i32, minute: u64) -> Option<Date>
     requires { OffsetInRange offset × (minute ≤ last_minute) }
     ensures { result ≡ local_date (biased_offset offset) minute }
 {
     match local_minute(offset, minute) {
-        LocalMinute::Before => LocalDate::Off,
-        LocalMinute::At(local) => {
-            let date = calendar::date_of(local).date;
-            LocalDate::On(date)
-        }
-        LocalMinute::After => LocalDate::Off,
+        LocalMinute::At(local) => Some(calendar::date_at(local)),
+        LocalMinute::Before | LocalMinute::After => None,
     }
 }
 
 // Whether a local date matches.
-pub fn matches_local(s: Schedule, date: LocalDate) -> bool
+pub fn matches_local(s: Schedule, date: Option<Date>) -> bool
     ensures { result ≡ matches_local s date }
 {
     match date {
-        LocalDate::Off => false,
-        LocalDate::On(local) => matches_date(s, local),
+        Some(local) => matches_date(s, local),
+        None => false,
     }
 }
 
 // The least matching minute from `utc` on, where the local minute of `utc` is `local`.
-fn firing_from(s: Schedule, local: u64, utc: u64) -> Next
+fn firing_from(s: Schedule, local: u64, utc: u64) -> Result<u64, Refusal>
     requires { (local ≤ last_minute) × (utc ≤ last_minute) }
     ensures { (o : ℕ) → utc + o ≡ local + 720 → result ≡ firing_from_in s o utc }
 {
     let found = minute_from(s, local);
     let minute = utc + (found - local);
     if (found <= LAST_MINUTE) & (minute <= LAST_MINUTE) {
-        return Next::At(minute);
+        return Ok(minute);
     }
-    Next::PastEnd
+    Err(Refusal::PastEnd)
 }
 
 // The least matching minute after a minute. Where that is below zero locally, the search begins at the local minute 0.
-fn firing_after_in(s: Schedule, offset: i32, minute: u64) -> Next
+fn firing_after_in(s: Schedule, offset: i32, minute: u64) -> Result<u64, Refusal>
     requires { OffsetInRange offset × (minute ≤ last_minute) }
     ensures { result ≡ firing_after_in s (biased_offset offset) minute }
 {
     if LAST_MINUTE <= minute {
-        return Next::PastEnd;
+        return Err(Refusal::PastEnd);
     }
     let start = minute + 1;
     match local_minute(offset, start) {
         LocalMinute::Before => firing_from(s, 0, (0 - offset) as u64),
         LocalMinute::At(local) => firing_from(s, local, start),
-        LocalMinute::After => Next::PastEnd,
+        LocalMinute::After => Err(Refusal::PastEnd),
     }
 }
 
 // When an entry fires next under an offset, strictly after a minute of the calendar, both in UTC.
-pub fn next_firing_in(s: Schedule, offset: i32, minute: u64) -> Next
+pub fn next_firing_in(s: Schedule, offset: i32, minute: u64) -> Result<u64, Refusal>
     requires { OffsetInRange offset × (minute ≤ last_minute) }
     ensures { result ≡ next_after_in s (biased_offset offset) minute }
 {
     if can_fire(s) {
         return firing_after_in(s, offset, minute);
     }
-    Next::Never
+    Err(Refusal::Never)
 }
 
 // The least time of a day after `t`, or 1,440.
@@ -124,7 +112,7 @@ fn time_after(s: Schedule, t: u64) -> u64
 }
 
 // The same after a minute at which the entry fires: its local date matches, so that the rest of that day needs no calendar.
-pub fn next_after_firing(s: Schedule, offset: i32, minute: u64) -> Next
+pub fn next_after_firing(s: Schedule, offset: i32, minute: u64) -> Result<u64, Refusal>
     requires { OffsetInRange offset × (minute ≤ last_minute) × (matches_in s (biased_offset offset) minute ≡ true) }
     ensures { result ≡ next_after_in s (biased_offset offset) minute }
 {
@@ -135,7 +123,7 @@ pub fn next_after_firing(s: Schedule, offset: i32, minute: u64) -> Next
     let later = time_after(s, time);
     let found = minute + (later - time);
     if (later < DAY_MINUTES) & (found <= LAST_MINUTE) {
-        return Next::At(found);
+        return Ok(found);
     }
     next_firing_in(s, offset, minute)
 }

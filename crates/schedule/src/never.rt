@@ -28,14 +28,12 @@ fn has_date(s: Schedule, month: u64) -> bool
 fn month_with_date(s: Schedule) -> u64
     ensures { result ≡ from (has_date s) 13 1 }
 {
-    let mut month = 1;
-    while month < 13 {
+    for month in 1..13 {
         if has_date(s, month) {
             return month;
         }
-        month += 1;
     }
-    month
+    13
 }
 
 // Whether any day ever matches.

@@ -5,6 +5,7 @@
 
 ghost use Rattle.std.specs.Prelude.{◌+◌, ◌<◌, ◌^◌};
 
+use refusal::Refusal;
 use schedule::{Schedule, Stars};
 use std::io;
 use std::io::{ErrorKind, Read};
@@ -50,17 +51,20 @@ fn schedule_in(case: &[u8; 32]) -> Schedule {
     }
 }
 
-// The next firing after a minute, in UTC, or 4,294,967,296 and the refusal's number: that of the minute comes first.
-fn number_after(s: Schedule, minute: u64) -> u64 {
+// The next firing after a minute, in UTC. A minute off the calendar is refused first.
+fn next_after(s: Schedule, minute: u64) -> Result<u64, Refusal> {
     if calendar::LAST_MINUTE < minute {
-        return 4_294_967_296 + calendar::NOT_ON_CALENDAR as u64;
+        return Err(Refusal::NotOnCalendar);
     }
-    let next = schedule::local::next_firing_in(s, 0, minute);
-    let refusal = next.refusal();
-    if refusal == 0 {
-        return next.minute();
+    schedule::local::next_firing_in(s, 0, minute)
+}
+
+// The same as a number: 4,294,967,296 and the refusal's number where it is refused.
+fn number_after(s: Schedule, minute: u64) -> u64 {
+    match next_after(s, minute) {
+        Ok(next) => next,
+        Err(refusal) => 4_294_967_296 + u8::from(refusal) as u64,
     }
-    4_294_967_296 + refusal as u64
 }
 
 fn print(rt: &impl Print, case: &[u8; 32]) -> io::Result<()> {

@@ -1,12 +1,13 @@
--- The parts of every answer fit the bits that they have in the number.
+-- The parts of every date fit the bits that they have in the number.
 -- Assumes nothing.
 use mathlib.Core.Path.{ap}
 use Prim.Native.Nat.{ℕ, ◌≤◌, ◌<◌}
 use native.Mathlib.Nat.{lt_of_not-le}
 use native.Mathlib.Decide.{dec_le}
 use native.Mathlib.Omega.{arith}
+use Rattle.std.specs.Prelude.{IfOk}
 use Rattle.calendar.specs.declared.Date.{Date}
-use Rattle.calendar.specs.Dates.{last_minute, weekday_of, date_at, no_date, date_of}
+use Rattle.calendar.specs.Dates.{last_minute, weekday_of, date_at, date_of}
 use Rattle.calendar.proofs.Theorems.{direct_at, direct-is-walk}
 use Rattle.calendar.proofs.Theorems.{date_at-on, date_of-on, date_of-off}
 use Rattle.test_calls.specs.Dates.{Small}
@@ -19,12 +20,11 @@ day-small m h = rw (ap (λ (d : Date). d.day) (direct-is-walk m h)) at small
     small : (direct_at m).day < 32
     small = omega arith
 
-on-small : (m : ℕ) → m ≤ last_minute → Small (record { refusal = 0; date = date_at m })
+on-small : (m : ℕ) → m ≤ last_minute → Small (date_at m)
 unfolding date_at weekday_of
 on-small m h =
     let o = date_at-on m h in
     record {
-      refusal = omega arith;
       year = omega (arith, o.year_to);
       month = omega (arith, o.month_to);
       day = day-small m h;
@@ -33,22 +33,9 @@ on-small m h =
       weekday = omega arith;
     }
 
-off_small : Small (record { refusal = 14; date = no_date })
-unfolding no_date
-off_small =
-    record {
-      refusal = omega arith;
-      year = omega arith;
-      month = omega arith;
-      day = omega arith;
-      hour = omega arith;
-      minute = omega arith;
-      weekday = omega arith;
-    }
-
-pub date-small : (m : ℕ) → Small (date_of m)
+pub date-small : (m : ℕ) → IfOk (date_of m) Small
 date-small m =
     elim (dec_le m last_minute) [
       | yes h ↦ rw (date_of-on m h) (on-small m h)
-      | no h ↦ rw (← date_of-off m (lt_of_not-le h)) off_small
+      | no h ↦ rw (← date_of-off m (lt_of_not-le h)) tt
     ]

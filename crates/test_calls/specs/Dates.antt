@@ -1,26 +1,27 @@
--- The calendar's answers as plain numbers.
+-- The calendar's dates as plain numbers.
 -- Assumes nothing.
-use Rattle.std.specs.Prelude.{ℕ, ◌+◌, ◌*◌, ◌<◌, cond, eqb}
-use Rattle.calendar.specs.declared.DateAnswer.{DateAnswer}
-use Rattle.calendar.specs.declared.MinuteAnswer.{MinuteAnswer}
+use Rattle.std.specs.Prelude.{ℕ, ◌+◌, ◌*◌, ◌<◌, Result, Ok, Err}
+use Rattle.refusal.specs.declared.Refusal.{Refusal}
+use Rattle.refusal.specs.Numbers.{number_of}
+use Rattle.calendar.specs.declared.Date.{Date}
 
--- the bits that each part of an answer has in the number
-pub record Small (a : DateAnswer) : Type 0 where
-  pub refusal : a.refusal < 256
-  pub year : a.date.year < 16384
-  pub month : a.date.month < 16
-  pub day : a.date.day < 32
-  pub hour : a.date.hour < 32
-  pub minute : a.date.minute < 64
-  pub weekday : a.date.weekday < 8
+-- the bits that each part of a date has in the number
+pub record Small (d : Date) : Type 0 where
+  pub year : d.year < 16384
+  pub month : d.month < 16
+  pub day : d.day < 32
+  pub hour : d.hour < 32
+  pub minute : d.minute < 64
+  pub weekday : d.weekday < 8
 
-unfoldable pub date_number : DateAnswer → ℕ
-date_number a =
-    let d = a.date in
-    let months = (a.refusal * 16384 + d.year) * 16 + d.month in
+-- inner: a date's parts side by side
+unfoldable pub parts_number : Date → ℕ
+parts_number d =
+    let months = d.year * 16 + d.month in
     let hours = (months * 32 + d.day) * 32 + d.hour in
     (hours * 64 + d.minute) * 8 + d.weekday
 
--- the minute, or 4,294,967,296 and the refusal's number
-unfoldable pub minute_number : MinuteAnswer → ℕ
-minute_number a = cond (eqb a.refusal 0) a.minute (4294967296 + a.refusal)
+-- inner: a date by its parts, or the refusal's number above the bits that they have
+unfoldable pub date_number : Result Date Refusal → ℕ
+date_number (Ok d) = parts_number d
+date_number (Err refusal) = number_of refusal * 137438953472

@@ -1,30 +1,32 @@
 // A whole date in one call, and the walk beside the direct way.
-ghost use Rattle.std.specs.Prelude.{◌≡◌};
+ghost use Rattle.std.specs.Prelude.{◌≡◌, IfOk};
 ghost use Rattle.calendar.specs.Dates.{date_of, minute_of};
-ghost use Rattle.test_calls.specs.Dates.{Small, date_number, minute_number};
+ghost use Rattle.test_calls.specs.Numbers.{number_of};
+ghost use Rattle.test_calls.specs.Dates.{Small, parts_number, date_number};
 
-use calendar::{DateAnswer, MinuteAnswer};
+use crate::number_of;
+use calendar::Date;
+use refusal::Refusal;
 
-// The parts side by side, each in bits of its own: from the lowest weekday 3, minute 6, hour 5, day 5, month 4, year 14,
-// refusal 8.
-fn date_number(answer: DateAnswer) -> u64
-    requires { Small answer }
-    ensures { result ≡ date_number answer }
+// The parts side by side, each in bits of its own: from the lowest weekday 3, minute 6, hour 5, day 5, month 4, year 14.
+fn parts_number(date: Date) -> u64
+    requires { Small date }
+    ensures { result ≡ parts_number date }
 {
-    let date = answer.date;
-    let months = (answer.refusal as u64 * 16384 + date.year) * 16 + date.month;
+    let months = date.year * 16 + date.month;
     let hours = (months * 32 + date.day) * 32 + date.hour;
     (hours * 64 + date.minute) * 8 + date.weekday
 }
 
-// The minute, or 4,294,967,296 and the refusal's number.
-fn minute_number(answer: MinuteAnswer) -> u64
-    ensures { result ≡ minute_number answer }
+// A date by its parts; a refusal's number stands in the 8 bits above them, and they are 0.
+fn date_number(answer: Result<Date, Refusal>) -> u64
+    requires { IfOk answer Small }
+    ensures { result ≡ date_number answer }
 {
-    if answer.refusal == 0 {
-        return answer.minute;
+    match answer {
+        Ok(date) => parts_number(date),
+        Err(refusal) => u8::from(refusal) as u64 * 137_438_953_472,
     }
-    4_294_967_296 + answer.refusal as u64
 }
 
 #[unsafe(no_mangle)]
@@ -43,9 +45,9 @@ pub extern "C" fn calendar_date_by_walk(minute: u64) -> u64
 
 #[unsafe(no_mangle)]
 pub extern "C" fn calendar_minute(year: u64, month: u64, day: u64, hour: u64, minute: u64) -> u64
-    ensures { result ≡ minute_number (minute_of year month day hour minute) }
+    ensures { result ≡ number_of (minute_of year month day hour minute) }
 {
-    minute_number(calendar::minute_of(year, month, day, hour, minute))
+    number_of(calendar::minute_of(year, month, day, hour, minute))
 }
 
 #[unsafe(no_mangle)]
@@ -56,7 +58,7 @@ pub extern "C" fn calendar_minute_by_walk(
     hour: u64,
     minute: u64,
 ) -> u64
-    ensures { result ≡ minute_number (minute_of year month day hour minute) }
+    ensures { result ≡ number_of (minute_of year month day hour minute) }
 {
-    minute_number(calendar::walk::minute_by_walk(year, month, day, hour, minute))
+    number_of(calendar::walk::minute_by_walk(year, month, day, hour, minute))
 }

@@ -1,9 +1,11 @@
 // A schedule's functions, with no text to read.
 ghost use Rattle.std.specs.Prelude.{◌≡◌};
 ghost use Rattle.schedule.specs.Local.{OffsetInRange};
-ghost use Rattle.test_calls.specs.Schedules.{schedule_of, offset_of, number_of, next_number, clock_number, match_number};
+ghost use Rattle.test_calls.specs.Schedules.{schedule_of, offset_of, next_number, clock_number, match_number};
 
-use schedule::{Next, Schedule, Stars};
+use crate::number_of;
+use refusal::Refusal;
+use schedule::{Schedule, Stars};
 
 // The sets by their numbers, cut to their widths; bit 0 of `stars` is for the days, bit 1 for the weekdays, and no other field begins with `*`.
 fn schedule_of(
@@ -44,17 +46,6 @@ fn offset_of(offset: i32) -> i32
     offset
 }
 
-// The next firing as a number, or 4,294,967,296 and the refusal's number.
-fn number_of(next: Next) -> u64
-    ensures { result ≡ number_of next }
-{
-    let refusal = next.refusal();
-    if refusal == 0 {
-        return next.minute();
-    }
-    4_294_967_296 + refusal as u64
-}
-
 // The next firing after a minute, under an offset, by the search that answers a table's entries.
 #[unsafe(no_mangle)]
 pub extern "C" fn schedule_next(
@@ -70,7 +61,7 @@ pub extern "C" fn schedule_next(
     ensures { result ≡ next_number (schedule_of minutes hours days months weekdays stars) offset minute }
 {
     if calendar::LAST_MINUTE < minute {
-        return 4_294_967_296 + calendar::NOT_ON_CALENDAR as u64;
+        return number_of(Err(Refusal::NotOnCalendar));
     }
     let s = schedule_of(minutes, hours, days, months, weekdays, stars);
     number_of(schedule::local::next_firing_in(s, offset_of(offset), minute))
@@ -91,7 +82,7 @@ pub extern "C" fn schedule_next_by_clock(
     ensures { result ≡ clock_number (schedule_of minutes hours days months weekdays stars) offset minute }
 {
     if calendar::LAST_MINUTE < minute {
-        return 4_294_967_296 + calendar::NOT_ON_CALENDAR as u64;
+        return number_of(Err(Refusal::NotOnCalendar));
     }
     let s = schedule_of(minutes, hours, days, months, weekdays, stars);
     number_of(schedule::clock::next_by_clock(s, offset_of(offset), minute))

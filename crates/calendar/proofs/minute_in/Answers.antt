@@ -2,7 +2,7 @@
 -- Assumes nothing.
 use Prim.Native.Nat.{◌+◌, ◌-◌, ◌<◌}
 use native.Mathlib.Omega.{arith}
-use Rattle.calendar.specs.Dates.{calendar_days, days_before, minute_at, minute_of}
+use Rattle.calendar.specs.Dates.{calendar_days, days_before, minute_at}
 use Rattle.calendar.proofs.Dates.{OnCalendar, on-calendar, days_before-small}
 use Rattle.calendar.proofs.minute_in.Goals as goal
 use Rattle.calendar.proofs.minute_in.Goals.{After-days_before_month, Start}
@@ -40,5 +40,5 @@ pub overflow_add-result-2 : goal.overflow_add-result-2
 overflow_add-result-2 c = omega (arith, days-small c, (on c.before).hour_to, (on c.before).minute_to)
 
 pub returns : goal.returns
-unfolding minute_of minute_at days_before
-returns c = rw c.requires.last_year_value (simp (c.days_before_month.ensures, c.requires.start_value))
+unfolding minute_at days_before
+returns c = simp (c.days_before_month.ensures, c.requires.start_value)

@@ -1,28 +1,19 @@
-use mathlib.Core.Path.{ap}
-use mathlib.Core.Bool.{false}
-use native.Mathlib.Omega.{arith}
-use lib.ListN.{length, drop, length-drop}
-use Rattle.command.specs.Inner.{ahead}
-use Rattle.command.proofs.Ahead.{ahead-end}
+use Rattle.std.proofs.Common.{refl, inl, drop, length-drop, Bool, true, false, List, [], ◌∷◌, ℕ, length, ◌≤◌, arith}
+use Rattle.std.proofs.lemmas.Iterator.Consumers.{YieldsList-from_first, count_from_yields_List}
+use Rattle.command.specs.Inner.{ahead, left}
 use Rattle.command.proofs.Sizes.{pieces-length}
 use Rattle.command.proofs.count.Goals as goal
 
-pub loop-i-init : goal.loop-i-init
+ahead-length : (second : Bool) (s : List ℕ) → length (ahead second s) ≤ length s
 unfolding ahead
-loop-i-init c = omega arith
+ahead-length false s = omega (arith, pieces-length false s)
+ahead-length true [] = omega arith
+ahead-length true (b ∷ s) = omega (arith, pieces-length false s)
 
-pub overflow_add-n : goal.overflow_add-n
-overflow_add-n c =
-    let a = c.args in
-    omega (arith, pieces-length false (drop a.from a.c.now), length-drop a.from a.c.now)
-
-pub loop-i-smaller : goal.loop-i-smaller
-loop-i-smaller c = omega (arith, c.read-step.ensures.onward)
-
-pub loop-i-preserved : goal.loop-i-preserved
-loop-i-preserved c = omega (arith, ap length c.read-step.ensures.gives)
+pub count-requires-clause-fits : goal.count-requires-clause-fits
+count-requires-clause-fits c =
+    let p = c.args.pieces in
+    inl (omega (arith, ahead-length p.second (drop p.at p.command.now), length-drop p.at p.command.now, c.ranges.pieces.0))
 
 pub returns : goal.returns
-returns c =
-    let at = c.loop-i in
-    omega (arith, ap length (ahead-end at.second c.args.c.now at.i c.loop-i-test.false))
+returns c = count_from_yields_List _ _ c.count.ensures.ran (YieldsList-from_first (λ x. x) left _ refl)

@@ -10,5 +10,5 @@ returns-in-Whole c =
 
 pub returns-in-Cut : goal.returns-in-Cut
 returns-in-Cut c =
-    cut-lengths c.args.c.now c.in-Cut.length c.count-m.result c.in-Cut.rest
-    (rw c.in-Cut.is at c.shell_end.ensures) c.count-m.ensures
+    cut-lengths c.args.c.now c.in-Cut.length c.count.result c.in-Cut.input
+    (rw c.in-Cut.is at c.shell_end.ensures) c.count.ensures

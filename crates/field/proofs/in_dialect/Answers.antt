@@ -9,4 +9,4 @@ returns-in-Rising c = rw c.in-Rising.is
 
 pub returns-in-Wrapping : goal.returns-in-Wrapping
 unfolding in_dialect
-returns-in-Wrapping c = rw (c.in-Wrapping.is, c.last_bit.ensures)
+returns-in-Wrapping c = rw (c.in-Wrapping.is, c.saturating_sub.ensures)

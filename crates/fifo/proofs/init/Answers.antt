@@ -4,8 +4,7 @@ use mathlib.Core.Path.{◌≡◌, refl, sym, ap, ◌∙◌}
 use mathlib.Core.Bool.{true}
 use mathlib.Core.List.{[]}
 use native.Mathlib.Omega.{arith}
-use Rattle.schedule.specs.declared.jump.Mark.TheVariants.{None}
-use Rattle.fifo.specs.declared.CountAnswer.TheVariants.{Joined}
+use Rattle.std.specs.Prelude.{None, Ok}
 use Rattle.fifo.specs.Layout.{queue_of, roomy}
 use Rattle.fifo.specs.Inner.{joined, init_called}
 use Rattle.fifo.proofs.WaitingBits.{gathered_none}
@@ -36,7 +35,7 @@ unfolding init_called joined
 returns-then-has_room c =
     let over = written_over c.args.n _ c.args.buffer.now (omega arith) (enough (goal.at.returns-then-has_room c).Then-has_room) (none-proper c.args.n None refl) c.clear.ensures in
     let law = enough (goal.at.returns-then-has_room c).Then-has_room in
-    record { answer = rw law (ap Joined (rw (emptied (goal.at.returns-then-has_room c).After-clear) at c.join.ensures.answer)); room = rw law ((rw (emptied (goal.at.returns-then-has_room c).After-clear) at c.join.ensures.bytes) ∙ over _ (omega arith)) }
+    record { answer = rw law (ap Ok (rw (emptied (goal.at.returns-then-has_room c).After-clear) at c.join.ensures.answer)); room = rw law ((rw (emptied (goal.at.returns-then-has_room c).After-clear) at c.join.ensures.bytes) ∙ over _ (omega arith)) }
 
 pub returns : goal.returns
 unfolding init_called

@@ -5,7 +5,7 @@ use mathlib.Core.Bool.{true}
 use Prim.Native.Nat.{◌<◌}
 use native.Mathlib.Omega.{arith}
 use lib.ListN.{length}
-use Rattle.fifo.specs.declared.FrontAnswer.TheVariants.{Entry}
+use Rattle.std.specs.Prelude.{Some, Ok}
 use Rattle.fifo.specs.Layout.{count_of, queue_of, stored, is_queue}
 use Rattle.fifo.specs.Steps.{standing, pop_step}
 use Rattle.fifo.proofs.Numbers.{waiting-at}
@@ -34,7 +34,7 @@ returns-then-count-eq0 c =
     let s = c.args.buffer.now in
     let none = sym (counted (goal.at.returns-then-count-eq0 c).After-number-count) ∙ c.if-count-eq0.true in
     let law = is (goal.at.returns-then-count-eq0 c).Then-is_queue in
-    record { answer = rw law (standing-past (queue_of s).waiting 0 (omega arith)); room = rw law (laid-drop-none (queue_of s) s (held (goal.at.returns-then-count-eq0 c).Then-is_queue) none) }
+    record { answer = rw law (ap Ok (standing-past (queue_of s).waiting 0 (omega arith))); room = rw law (laid-drop-none (queue_of s) s (held (goal.at.returns-then-count-eq0 c).Then-is_queue) none) }
 
 pub drop_front-requires : goal.drop_front-requires
 drop_front-requires c =
@@ -46,7 +46,7 @@ returns-then-is_queue c =
     let s = c.args.buffer.now in
     let some : 0 < length (queue_of s).waiting = omega (arith, c.if-count-eq0.false, counted (goal.at.returns-then-is_queue c).After-number-count) in
     let law = is (goal.at.returns-then-is_queue c).Then-is_queue in
-    record { answer = rw law (ap Entry (c.number-e.ensures ∙ sym (waiting-at s 0 some)) ∙ standing-at (queue_of s).waiting 0 some); room = rw law c.drop_front.ensures }
+    record { answer = rw law (ap Ok (ap Some (c.number-e.ensures ∙ sym (waiting-at s 0 some)) ∙ standing-at (queue_of s).waiting 0 some)); room = rw law c.drop_front.ensures }
 
 pub returns : goal.returns
 unfolding pop_step

@@ -4,7 +4,7 @@ use mathlib.Core.Path.{sym, ap, ◌∙◌}
 use Prim.Native.Nat.{◌<◌}
 use native.Mathlib.Omega.{arith}
 use lib.ListN.{length}
-use Rattle.fifo.specs.declared.FrontAnswer.TheVariants.{Entry}
+use Rattle.std.specs.Prelude.{Some}
 use Rattle.fifo.specs.Layout.{queue_of}
 use Rattle.fifo.proofs.Numbers.{waiting-length, waiting-at}
 use Rattle.fifo.proofs.Peek.{standing-at, standing-past}
@@ -18,7 +18,7 @@ returns-then-place-waiting c =
     let a = c.args in
     let l = (queue_of a.buffer.now).waiting in
     let h : a.place < length l = omega (arith, c.waiting.ensures, c.if-place-waiting.true) in
-    ap Entry (c.number.ensures ∙ sym (waiting-at a.buffer.now a.place h)) ∙ standing-at l a.place h
+    ap Some (c.number.ensures ∙ sym (waiting-at a.buffer.now a.place h)) ∙ standing-at l a.place h
 
 pub returns : goal.returns
 returns c =

@@ -8,7 +8,7 @@ use Rattle.calendar.specs.Dates.{last_minute}
 use Rattle.schedule.proofs.Theorems.{mark-stays}
 use native.Mathlib.Omega.{arith}
 use borrow.Author.Tests.{lt-leb}
-use Rattle.fifo.specs.declared.CountAnswer.TheVariants.{Joined}
+use Rattle.std.specs.Prelude.{Ok}
 use Rattle.fifo.proofs.Filling.{tick-done}
 use mathlib.Core.Path.{refl, sym, ap, ◌∙◌}
 use Rattle.fifo.proofs.tick.Goals as goal
@@ -37,7 +37,7 @@ returns-then-gather c =
     let marked = rw (c.mark_after-mark.ensures, c.mark_of.ensures) at c.announce.ensures.room in
     let a = c.args in
     let law = tick-done a.n a.called.now a.minute a.buffer.now is c.if-minute-gt-LAST_MINUTE.false in
-    record { answer = rw law (ap Joined c.announce.ensures.answer); room = rw law marked }
+    record { answer = rw law (ap Ok c.announce.ensures.answer); room = rw law marked }
 
 pub returns : goal.returns
 unfolding tick_called

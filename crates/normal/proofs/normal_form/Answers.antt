@@ -1,5 +1,6 @@
 -- `normal::normal_form` meets its contract, by what the first walk answers.
 -- Assumes nothing.
+use Rattle.std.proofs.lemmas.Result.{err_from_is_err_and}
 use mathlib.Core.Path.{refl, sym, ◌∙◌}
 use Rattle.normal.specs.NormalForms.{refused_form}
 use Rattle.normal.proofs.Forms.{form-short, form-refused, form-written, normal-form-is}
@@ -8,20 +9,21 @@ use Rattle.normal.proofs.normal_form.Goals as goal
 pub returns-then-text-size : goal.returns-then-text-size
 unfolding refused_form
 returns-then-text-size c =
-    let e = sym c.in-Written.is ∙ c.write.ensures.is in
+    let e = sym c.in_ok-size.was ∙ c.write.ensures.is in
     let law = form-short _ _ _ e c.if-text-size.true in
     record { answer = rw (normal-form-is _ _ _, ← law) refl; text = rw (normal-form-is _ _ _, ← law) refl }
 
-pub returns-else-text-size : goal.returns-else-text-size
-returns-else-text-size c =
-    let e = sym c.in-Written.is ∙ c.write.ensures.is in
+pub returns : goal.returns
+returns c =
+    let e = sym c.in_ok-size.was ∙ c.write.ensures.is in
     record {
-      answer = rw (normal-form-is _ _ _) (form-written _ _ _ e c.if-text-size.false c.write-in-Written.ensures).0;
-      text = rw (normal-form-is _ _ _) (form-written _ _ _ e c.if-text-size.false c.write-in-Written.ensures).1;
+      answer = rw (normal-form-is _ _ _) (form-written _ _ _ e c.if-text-size.false c.write-2.ensures).0;
+      text = rw (normal-form-is _ _ _) (form-written _ _ _ e c.if-text-size.false c.write-2.ensures).1;
     }
 
-pub returns-in-Refused : goal.returns-in-Refused
+pub returns-in_err-size : goal.returns-in_err-size
 unfolding refused_form
-returns-in-Refused c =
-    let e = sym c.in-Refused.is ∙ c.write.ensures.is in
-    record { answer = rw (normal-form-is _ _ _, ← (form-refused _ _ _ e)) refl; text = rw (normal-form-is _ _ _, ← (form-refused _ _ _ e)) refl }
+returns-in_err-size c =
+    let err = err_from_is_err_and c.from_residual.result c.from_residual.ensures.1 in
+    let e = sym c.in_err-size.was ∙ c.write.ensures.is in
+    record { answer = rw (err.1, err.2, normal-form-is _ _ _, ← (form-refused _ _ _ e)) refl; text = rw (normal-form-is _ _ _, ← (form-refused _ _ _ e)) refl }

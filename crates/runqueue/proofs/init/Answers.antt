@@ -1,26 +1,31 @@
 -- `runqueue::init` meets its contract: each return is a law of the calls.
 -- Assumes nothing.
+use Rattle.std.proofs.lemmas.Result.{err_from_is_err_and}
+use mathlib.Core.Path.{sym, ◌∙◌}
 use native.Mathlib.Omega.{arith}
 use Rattle.crontab.specs.Tables.{table_of}
-use Rattle.crontab.specs.Selections.{selected_by}
-use Rattle.crontab.proofs.Theorems.{table-sound}
+use Rattle.crontab.proofs.Selections.{selected-good}
+use Rattle.crontab.proofs.Theorems.{table-sound, selected-bad}
 use Rattle.runqueue.proofs.Exits.{init-bad, init-called}
 use Rattle.runqueue.proofs.init.Goals as goal
 
-pub returns-then-refusal-ne0 : goal.returns-then-refusal-ne0
-unfolding selected_by
-returns-then-refusal-ne0 c = let e = c.read-jobs.ensures in
-    record { answer = rw e (init-bad _ _ (rw e at c.if-refusal-ne0.true)).0; room = (init-bad _ _ (rw e at c.if-refusal-ne0.true)).1 }
+pub returns-in_err-jobs : goal.returns-in_err-jobs
+returns-in_err-jobs c =
+    let a = c.args in
+    let err = err_from_is_err_and c.from_residual.result c.from_residual.ensures.1 in
+    let (f, is, same) = selected-bad a.rules a.table.now _ (sym c.in_err-jobs.was ∙ c.read.ensures) in
+    let law = init-bad (table_of a.rules a.table.now) a.room.now is in
+    record { answer = rw (err.1, err.2, ← same) law.0; room = law.1 }
 
 pub overflow_cast-jobs : goal.overflow_cast-jobs
-unfolding selected_by
-overflow_cast-jobs c = let a = c.args in
-    rw c.read-jobs.ensures (omega (arith, (table-sound a.rules a.table.now).few))
+overflow_cast-jobs c =
+    let a = c.args in
+    let g = selected-good _ (table_of a.rules a.table.now) (sym c.in_ok-jobs.was ∙ c.read.ensures) in
+    omega (arith, g.1, (table-sound a.rules a.table.now).few)
 
 pub returns : goal.returns
-unfolding selected_by
 returns c =
     let a = c.args in
-    let e = c.read-jobs.ensures in
-    let law = init-called (table_of a.rules a.table.now) (table-sound a.rules a.table.now).few a.room.now (rw e at c.if-refusal-ne0.false) in
-    record { answer = rw law (rw e at c.init.ensures.answer); room = rw law (rw e at c.init.ensures.room) }
+    let is = sym c.in_ok-jobs.was ∙ c.read.ensures in
+    let law = init-called (table_of a.rules a.table.now) (table-sound a.rules a.table.now).few a.room.now is in
+    record { answer = rw law c.init.ensures.answer; room = rw law c.init.ensures.room }

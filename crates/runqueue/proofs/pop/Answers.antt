@@ -1,18 +1,24 @@
 -- `runqueue::pop` meets its contract: each return is a law of the calls.
 -- Assumes nothing.
-use Rattle.crontab.specs.Tables.{table_of, verdict_of}
+use Rattle.std.proofs.lemmas.Result.{err_from_is_err_and}
+use mathlib.Core.Path.{sym, ◌∙◌}
+use Rattle.crontab.specs.Tables.{table_of}
+use Rattle.crontab.proofs.Tables.{verdict-good}
+use Rattle.crontab.proofs.Theorems.{verdict-bad}
 use Rattle.runqueue.proofs.Exits.{pop-bad, pop-good}
 use Rattle.runqueue.proofs.pop.Goals as goal
 
-pub returns-then-refusal-ne0 : goal.returns-then-refusal-ne0
-unfolding verdict_of
-returns-then-refusal-ne0 c = let e = c.check-verdict.ensures in
-    record { answer = rw e (pop-bad _ _ (rw e at c.if-refusal-ne0.true)).0; room = (pop-bad _ _ (rw e at c.if-refusal-ne0.true)).1 }
+pub returns-in_err-count : goal.returns-in_err-count
+returns-in_err-count c =
+    let a = c.args in
+    let err = err_from_is_err_and c.from_residual.result c.from_residual.ensures.1 in
+    let is = verdict-bad a.rules a.table.now (sym c.in_err-count.was ∙ c.check.ensures) in
+    let law = pop-bad (table_of a.rules a.table.now) a.room.now is in
+    record { answer = rw (err.1, err.2) law.0; room = law.1 }
 
 pub returns : goal.returns
-unfolding verdict_of
 returns c =
-    let e = c.check-verdict.ensures in
     let a = c.args in
-    let law = pop-good (table_of a.rules a.table.now) a.room.now (rw e at c.if-refusal-ne0.false) in
-    record { answer = rw law (rw e at c.pop.ensures.answer); room = rw law (rw e at c.pop.ensures.room) }
+    let g = verdict-good (table_of a.rules a.table.now) (sym c.in_ok-count.was ∙ c.check.ensures) in
+    let law = pop-good (table_of a.rules a.table.now) a.room.now g.0 in
+    record { answer = rw law (rw g.1 at c.pop.ensures.answer); room = rw law (rw g.1 at c.pop.ensures.room) }

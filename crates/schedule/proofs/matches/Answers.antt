@@ -2,8 +2,6 @@
 -- Assumes nothing.
 use mathlib.Core.Path.{ap, ◌∙◌}
 use borrow.Author.Tests.{le-leb, lt-leb}
-use Rattle.calendar.specs.declared.DateAnswer.{DateAnswer}
-use Rattle.calendar.proofs.Theorems.{date_of-on}
 use Rattle.schedule.specs.Match.{matches_date, matches, is_due}
 use Rattle.schedule.proofs.matches.Goals as goal
 
@@ -14,6 +12,4 @@ returns-then-minute-gt-LAST_MINUTE c = rw (lt-leb _ _ c.if-minute-gt-LAST_MINUTE
 pub returns : goal.returns
 unfolding is_due matches
 returns c =
-    let h = c.if-minute-gt-LAST_MINUTE.false in
-    let e = c.date_of.ensures ∙ date_of-on _ h in
-    rw (le-leb _ _ h) (c.matches_date.ensures ∙ ap (λ (a : DateAnswer). matches_date c.args.s a.date) e)
+    rw (le-leb _ _ c.if-minute-gt-LAST_MINUTE.false) (c.matches_date.ensures ∙ ap (matches_date c.args.s) c.date_at.ensures)

@@ -1,6 +1,5 @@
 -- `calendar::walk::date_by_walk` meets its contract: the day falls in the year and the month that the two walks find.
 -- Assumes nothing.
-use mathlib.Core.Path.{◌∙◌}
 use Prim.Native.Nat.{◌/◌}
 use native.Mathlib.Omega.{arith}
 use borrow.Author.Tests.{le-leb}
@@ -20,13 +19,13 @@ in-month : (c : After-month_of-month)
 in-month c = rw c.month_of-month.ensures (month-falls _ _ (in-year c.before).inside)
 
 pub returns-then-minute-gt-LAST_MINUTE : goal.returns-then-minute-gt-LAST_MINUTE
-returns-then-minute-gt-LAST_MINUTE c = c.no_date.ensures ∙ date_of-off _ c.if-minute-gt-LAST_MINUTE.true
+returns-then-minute-gt-LAST_MINUTE c = date_of-off _ c.if-minute-gt-LAST_MINUTE.true
 
 pub month_of-month-requires : goal.month_of-month-requires
 month_of-month-requires c = (in-year c).inside
 
-pub overflow_add-date : goal.overflow_add-date
-overflow_add-date c = omega (arith, (in-year c.before.before).sum, (in-month c.before).sum)
+pub overflow_add-result : goal.overflow_add-result
+overflow_add-result c = omega (arith, (in-year c.before.before).sum, (in-month c.before).sum)
 
 pub returns : goal.returns
 unfolding date_of date_at weekday_of

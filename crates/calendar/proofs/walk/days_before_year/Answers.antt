@@ -15,13 +15,13 @@ more c =
     omega (arith, span-next year_days 1970 c.loop-at.at c.loop-at.invariant.0, c.year_days-days.ensures)
 
 pub loop-at-init : goal.loop-at-init
-loop-at-init c = (omega arith, omega arith, sym (after-cycles _))
+loop-at-init c = (omega arith, sym (after-cycles _))
 
 pub overflow_add-days : goal.overflow_add-days
 overflow_add-days c = omega (arith, more c, years-small (c.loop-at.at + 1 - 1970) (omega arith))
 
 pub loop-at-preserved : goal.loop-at-preserved
-loop-at-preserved c = (omega arith, omega arith, more c)
+loop-at-preserved c = (omega arith, more c)
 
 pub returns : goal.returns
-returns c = let e : c.loop-at.at ≡ c.args.year = omega arith in rw (← e) c.loop-at.invariant.2
+returns c = let e : c.loop-at.at ≡ c.args.year = omega arith in rw (← e) c.loop-at.invariant.1

@@ -7,7 +7,4 @@ use Rattle.calendar.specs.Walk.{span}
 use Rattle.calendar.proofs.walk.days_before_year.Given as goal
 
 abbrev pub invariant-loop-at : goal.invariant-loop-at
-invariant-loop-at l = (1970 ≤ l.at) × (l.at ≤ l.year) × (l.days ≡ span year_days 1970 (l.at - 1970))
-
-abbrev pub decreases-loop-at : goal.decreases-loop-at
-decreases-loop-at l = l.year - l.at
+invariant-loop-at l = (1970 ≤ l.at) × (l.days ≡ span year_days 1970 (l.at - 1970))

@@ -14,7 +14,3 @@ returns-in-Entry c = rw c.in-Entry.is c.is_wanted_entry.ensures
 pub returns-in-Nothing : goal.returns-in-Nothing
 unfolding is_wanted
 returns-in-Nothing c = rw c.in-Nothing.is
-
-pub returns-in-Refused : goal.returns-in-Refused
-unfolding is_wanted
-returns-in-Refused c = rw c.in-Refused.is

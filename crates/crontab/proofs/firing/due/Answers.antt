@@ -1,5 +1,6 @@
 -- `crontab::firing::due` meets its contract.
 -- Assumes nothing.
+use borrow.Author.Rules.{rules}
 use mathlib.Core.Path.{sym, ◌∙◌}
 use Rattle.crontab.specs.Firings.{due_in, due_answer}
 use Rattle.crontab.proofs.Theorems.{entry-sound}
@@ -7,12 +8,12 @@ use Rattle.crontab.proofs.firing.due.Goals as goal
 
 -- an entry that was read is under an offset that may be
 pub due_at-requires : goal.due_at-requires
-due_at-requires c = (entry-sound _ _ _ (sym c.find_entry.ensures ∙ c.in-Found.is)).zone
+due_at-requires c = (entry-sound _ _ _ (sym c.find_entry.ensures ∙ c.in_ok-found.was)).zone
 
-pub returns-in-Found : goal.returns-in-Found
+pub returns : goal.returns
 unfolding due_in due_answer
-returns-in-Found c = c.due_at.ensures ∙ rw (← c.find_entry.ensures, c.in-Found.is)
+returns c = c.due_at.ensures ∙ rw (← c.find_entry.ensures, c.in_ok-found.was)
 
-pub returns-in-Refused : goal.returns-in-Refused
+pub returns-in_err-found : goal.returns-in_err-found
 unfolding due_in due_answer
-returns-in-Refused c = rw (← c.find_entry.ensures, c.in-Refused.is)
+returns-in_err-found c = rw (← c.find_entry.ensures, c.in_err-found.was) (search rules)

@@ -1,6 +1,6 @@
 -- `crontab::firing::due_at` meets its contract, by the local date.
 -- Assumes nothing.
-use mathlib.Core.Path.{sym, ◌∙◌}
+use mathlib.Core.Path.{sym}
 use borrow.Author.Tests.{lt-leb}
 use Rattle.crontab.specs.Firings.{due_of}
 use Rattle.line.proofs.Theorems.{kept, kept_in}
@@ -14,12 +14,7 @@ returns-then-minute-gt-LAST_MINUTE c = rw (lt-leb _ _ c.if-minute-gt-LAST_MINUTE
 pub local_date-date-requires : goal.local_date-date-requires
 local_date-date-requires c = (kept_in c.args.entry.offset c.requires, c.if-minute-gt-LAST_MINUTE.false)
 
-pub returns-then-fires_on : goal.returns-then-fires_on
-returns-then-fires_on c =
-    let date = date-same (kept {z = c.args.entry.offset} c.requires) c.args.minute c.local_date-date.ensures in
-    sym (due-on c.args.entry c.args.minute c.if-minute-gt-LAST_MINUTE.false date ∙ rw (← c.fires_on.ensures, c.if-fires_on.true))
-
 pub returns : goal.returns
 returns c =
     let date = date-same (kept {z = c.args.entry.offset} c.requires) c.args.minute c.local_date-date.ensures in
-    sym (due-on c.args.entry c.args.minute c.if-minute-gt-LAST_MINUTE.false date ∙ rw (← c.fires_on.ensures, c.if-fires_on.false))
+    rw c.fires_on.ensures (sym (due-on c.args.entry c.args.minute c.if-minute-gt-LAST_MINUTE.false date))

@@ -1,8 +1,7 @@
 -- `crontab::firing::next_after` meets its contract.
 -- Assumes nothing.
-use mathlib.Core.Path.{ap, ◌∙◌}
 use borrow.Author.Tests.{lt-leb, le-leb}
-use Rattle.crontab.specs.Firings.{told, next_of}
+use Rattle.crontab.specs.Firings.{next_of}
 use Rattle.line.proofs.Theorems.{kept, kept_in}
 use Rattle.crontab.proofs.Firings.{next-same}
 use Rattle.crontab.proofs.firing.next_after.Goals as goal
@@ -22,4 +21,4 @@ pub returns-in-Timed : goal.returns-in-Timed
 unfolding next_of
 returns-in-Timed c =
     rw (le-leb _ _ c.if-minute-gt-LAST_MINUTE.false, c.in-Timed.is)
-    (c.told.ensures ∙ ap told (next-same (kept {z = c.args.entry.offset} c.requires) _ _ c.next_firing_in.ensures))
+    (next-same (kept {z = c.args.entry.offset} c.requires) _ _ c.next_firing_in.ensures)

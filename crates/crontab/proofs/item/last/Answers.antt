@@ -1,7 +1,6 @@
 -- `crontab::item::last` meets its contract: the line's own fault, or 26.
 -- Assumes nothing.
 use native.Mathlib.Omega.{arith}
-use Rattle.line.proofs.Theorems.{kept}
 use Rattle.crontab.proofs.Items.{line-from, line-stops, step-last}
 use Rattle.crontab.proofs.item.last.Goals as goal
 
@@ -13,6 +12,5 @@ judge-line-requires c = line-stops c.args.rules _ _ _ _ c.requires
 
 pub returns : goal.returns
 returns c =
-    let a = c.requires in
-    rw (c.behind.ensures, c.last_fault.ensures, c.judge-line.ensures)
-    (step-last _ _ _ _ _ a (omega arith) (kept a.reached.zone))
+    rw (c.last_fault.ensures, c.judge-line.ensures)
+    (step-last _ _ _ _ _ c.requires (omega arith))

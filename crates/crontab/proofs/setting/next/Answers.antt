@@ -1,20 +1,21 @@
 -- `crontab::setting::next` meets its contract: it is what the item that was found says.
 -- Assumes nothing.
-use Rattle.crontab.proofs.Findings.{as_line, found-line}
+use mathlib.Core.Path.{◌∙◌}
+use Rattle.crontab.specs.Items.{items_of}
+use Rattle.std.proofs.lemmas.Result.{err_from_is_err_and}
+use Rattle.crontab.proofs.Findings.{as_line, line_told, found-line, no-line}
 use Rattle.crontab.proofs.setting.next.Goals as goal
 
-pub returns-in-Setting : goal.returns-in-Setting
-unfolding as_line
-returns-in-Setting c = found-line _ _ c.find-found.ensures c.in-Setting.is
+pub returns : goal.returns
+unfolding line_told as_line
+returns c = rw c.in-Setting.is at (found-line c.args.line (items_of c.args.rules c.args.s.now) c.find.ensures c.in_ok-found.was)
 
-pub returns-in-Refused : goal.returns-in-Refused
-unfolding as_line
-returns-in-Refused c = found-line _ _ c.find-found.ensures c.in-Refused.is
+pub returns-in_default : goal.returns-in_default
+unfolding line_told
+returns-in_default c = no-line _ _ c.in_default.not-Setting ∙ found-line _ _ c.find.ensures c.in_ok-found.was
 
-pub returns-in-Entry : goal.returns-in-Entry
-unfolding as_line
-returns-in-Entry c = found-line _ _ c.find-found.ensures c.in-Entry.is
-
-pub returns-in-Nothing : goal.returns-in-Nothing
-unfolding as_line
-returns-in-Nothing c = found-line _ _ c.find-found.ensures c.in-Nothing.is
+pub returns-in_err-found : goal.returns-in_err-found
+unfolding line_told
+returns-in_err-found c =
+    let p = err_from_is_err_and c.from_residual.result c.from_residual.ensures.1 in
+    rw (p.1, p.2) (found-line _ _ c.find.ensures c.in_err-found.was)

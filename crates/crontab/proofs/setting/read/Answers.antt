@@ -1,21 +1,21 @@
 -- `crontab::setting::read` meets its contract: it is what the item that was found says.
 -- Assumes nothing.
 use mathlib.Core.Path.{◌∙◌}
-use Rattle.crontab.proofs.Findings.{as_setting, found-setting}
+use Rattle.crontab.specs.Items.{items_of}
+use Rattle.std.proofs.lemmas.Result.{err_from_is_err_and}
+use Rattle.crontab.proofs.Findings.{as_setting, setting_told, found-setting, no-setting}
 use Rattle.crontab.proofs.setting.read.Goals as goal
 
-pub returns-in-Setting : goal.returns-in-Setting
-unfolding as_setting
-returns-in-Setting c = found-setting _ _ c.find-found.ensures c.in-Setting.is
+pub returns : goal.returns
+unfolding setting_told as_setting
+returns c = rw c.in-Setting.is at (found-setting c.args.line (items_of c.args.rules c.args.s.now) c.find.ensures c.in_ok-found.was)
 
-pub returns-in-Refused : goal.returns-in-Refused
-unfolding as_setting
-returns-in-Refused c = c.refused.ensures ∙ found-setting _ _ c.find-found.ensures c.in-Refused.is
+pub returns-in_default : goal.returns-in_default
+unfolding setting_told
+returns-in_default c = no-setting _ c.in_default.not-Setting ∙ found-setting _ _ c.find.ensures c.in_ok-found.was
 
-pub returns-in-Entry : goal.returns-in-Entry
-unfolding as_setting
-returns-in-Entry c = c.refused-in-Entry.ensures ∙ found-setting _ _ c.find-found.ensures c.in-Entry.is
-
-pub returns-in-Nothing : goal.returns-in-Nothing
-unfolding as_setting
-returns-in-Nothing c = c.refused-in-Nothing.ensures ∙ found-setting _ _ c.find-found.ensures c.in-Nothing.is
+pub returns-in_err-found : goal.returns-in_err-found
+unfolding setting_told
+returns-in_err-found c =
+    let p = err_from_is_err_and c.from_residual.result c.from_residual.ensures.1 in
+    rw (p.1, p.2) (found-setting _ _ c.find.ensures c.in_err-found.was)

@@ -1,19 +1,16 @@
 -- `crontab::setting::value` meets its contract.
 -- Assumes nothing.
-use Rattle.octets.specs.Runs.{between}
-use native.Mathlib.Omega.{arith}
+use Rattle.crontab.specs.Settings.{value_in}
 use Rattle.crontab.proofs.Theorems.{setting-inside}
 use Rattle.crontab.proofs.setting.value.Goals as goal
 
-pub slice_bounds-result-count : goal.slice_bounds-result-count
-slice_bounds-result-count c = rw c.read-found.ensures (setting-inside _ _ _).value.order
+pub returns-in_default : goal.returns-in_default
+unfolding value_in
+returns-in_default c = rw (← c.read.ensures, c.in_default.is)
 
-pub slice_bounds-result-start : goal.slice_bounds-result-start
-slice_bounds-result-start c = let i = (setting-inside c.args.rules c.args.s.now c.args.line).value in rw c.read-found.ensures (omega (arith, i.order, i.within))
-
-pub slice_bounds-result-end : goal.slice_bounds-result-end
-slice_bounds-result-end c = rw c.read-found.ensures (setting-inside _ _ _).value.within
+pub part_of-requires : goal.part_of-requires
+part_of-requires c = let i = rw (← c.read.ensures, c.in-Ok.is) at (setting-inside c.args.rules c.args.s.now c.args.line) in (i.value.order, i.value.within)
 
 pub returns : goal.returns
-unfolding between
-returns c = rw c.read-found.ensures
+unfolding value_in
+returns c = rw (← c.read.ensures, c.in-Ok.is) c.part_of.ensures

@@ -1,20 +1,20 @@
 -- `crontab::table::find_entry` meets its contract: it is what the item that was found says.
 -- Assumes nothing.
-use Rattle.crontab.proofs.Findings.{as_entry, found-entry}
+use mathlib.Core.Path.{◌∙◌}
+use Rattle.std.proofs.lemmas.Result.{err_from_is_err_and}
+use Rattle.crontab.proofs.Findings.{as_entry, entry_told, found-entry, no-entry}
 use Rattle.crontab.proofs.table.find_entry.Goals as goal
 
-pub returns-in-Entry : goal.returns-in-Entry
-unfolding as_entry
-returns-in-Entry c = found-entry _ _ _ c.find-found.ensures c.in-Entry.is
+pub returns : goal.returns
+unfolding entry_told as_entry
+returns c = rw c.in-Entry.is at (found-entry c.args.rules c.args.s.now c.args.entry c.find.ensures c.in_ok-found.was)
 
-pub returns-in-Refused : goal.returns-in-Refused
-unfolding as_entry
-returns-in-Refused c = found-entry _ _ _ c.find-found.ensures c.in-Refused.is
+pub returns-in_default : goal.returns-in_default
+unfolding entry_told
+returns-in_default c = no-entry _ c.in_default.not-Entry ∙ found-entry _ _ _ c.find.ensures c.in_ok-found.was
 
-pub returns-in-Setting : goal.returns-in-Setting
-unfolding as_entry
-returns-in-Setting c = found-entry _ _ _ c.find-found.ensures c.in-Setting.is
-
-pub returns-in-Nothing : goal.returns-in-Nothing
-unfolding as_entry
-returns-in-Nothing c = found-entry _ _ _ c.find-found.ensures c.in-Nothing.is
+pub returns-in_err-found : goal.returns-in_err-found
+unfolding entry_told
+returns-in_err-found c =
+    let p = err_from_is_err_and c.from_residual.result c.from_residual.ensures.1 in
+    rw (p.1, p.2) (found-entry _ _ _ c.find.ensures c.in_err-found.was)

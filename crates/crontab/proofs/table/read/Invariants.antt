@@ -9,8 +9,8 @@ use Rattle.crontab.specs.Tables.{with_items, table_of}
 use Rattle.crontab.proofs.Tables.{good}
 use Rattle.crontab.proofs.table.read.Given as goal
 
-abbrev pub invariant-loop-entries : goal.invariant-loop-entries
-invariant-loop-entries l = (with_items (good l.c.count l.entries) (items_at l.rules l.s l.c) ≡ table_of l.rules l.s) × Reached l.s l.c × (length l.entries ≡ max_entries)
+abbrev pub invariant-loop-step : goal.invariant-loop-step
+invariant-loop-step l = (with_items (good l.c.count l.entries) (items_at l.rules l.s l.c) ≡ table_of l.rules l.s) × Reached l.s l.c × (length l.entries ≡ max_entries)
 
-abbrev pub decreases-loop-entries : goal.decreases-loop-entries
-decreases-loop-entries l = length l.s + 1 - l.c.at
+abbrev pub decreases-loop-step : goal.decreases-loop-step
+decreases-loop-step l = length l.s + 1 - l.c.at

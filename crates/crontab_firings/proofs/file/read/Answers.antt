@@ -12,7 +12,8 @@ take-more a b before now h front =
 
 pub loop-at-preserved : goal.loop-at-preserved
 loop-at-preserved g c =
-    let turn = c.in-More.ensures in
+    let count = rw c.in-Some.is at c.in_ok-next.ensures.count in
+    let bytes = rw c.in-Some.is at c.in_ok-next.ensures.bytes in
     let l = c.loop-at in
-    let joined = take-more l.at c.in-More.next l.text c.read_more.new.text (omega (arith, turn.count.0)) turn.bytes.0 in
-    (turn.count.1, subst (Consumes _ _) joined (Consumes-trans _ _ _ _ _ l.invariant.1 turn.bytes.1))
+    let joined = take-more l.at c.in-Some.next l.text c.read_more.new.text (omega (arith, count.0)) bytes.0 in
+    (count.1, subst (Consumes _ _) joined (Consumes-trans _ _ _ _ _ l.invariant.1 bytes.1))

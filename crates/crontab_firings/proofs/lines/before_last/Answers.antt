@@ -1,19 +1,15 @@
-use Prim.Native.Nat.{min}
-use native.Mathlib.Omega.{arith}
-use lib.ListN.{length}
+use Rattle.std.proofs.Common.{◌≡◌, ◌+◌, ◌-◌, min, length, arith}
 use Rattle.crontab_firings.proofs.Texts.{behind_more}
 use Rattle.crontab_firings.proofs.lines.before_last.Goals as goal
 
 pub loop-k-init : goal.loop-k-init
-loop-k-init c = (omega (arith, c.lesser-k.ensures), λ j h l. absurd (omega (arith, c.lesser-k.ensures)))
-
-pub bounds-minutes-k : goal.bounds-minutes-k
-bounds-minutes-k c = omega (arith, c.loop-k.invariant.0)
+loop-k-init c = (omega (arith, c.min-k.ensures), λ j h l. absurd (omega (arith, c.min-k.ensures)))
 
 pub returns-then-minutes-k : goal.returns-then-minutes-k
 returns-then-minutes-k c =
     let inv = c.loop-k.invariant in
-    record { within = inv.0; behind = inv.1; other = λ h e. c.if-minutes-k.true e }
+    let same : c.loop-k.k - 1 + 1 ≡ c.loop-k.k = omega arith in
+    rw same (record { within = inv.0; behind = inv.1; other = λ h e. c.if-minutes-k.true e })
 
 pub loop-k-preserved : goal.loop-k-preserved
 loop-k-preserved c =
@@ -24,4 +20,4 @@ loop-k-preserved c =
 pub returns : goal.returns
 returns c =
     let inv = c.loop-k.invariant in
-    record { within = inv.0; behind = inv.1; other = λ h e. absurd (omega arith) }
+    record { within = omega arith; behind = λ j h. inv.1 j (omega arith); other = λ h e. absurd (omega arith) }

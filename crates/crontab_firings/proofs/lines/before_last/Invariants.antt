@@ -7,6 +7,3 @@ use Rattle.crontab_firings.proofs.lines.before_last.Given as goal
 
 abbrev pub invariant-loop-k : goal.invariant-loop-k
 invariant-loop-k l = (l.k ≤ min l.n (length l.minutes)) × ((j : ℕ) → l.k ≤ j → j < min l.n (length l.minutes) → get_or l.minutes j 0 ≡ l.last)
-
-abbrev pub decreases-loop-k : goal.decreases-loop-k
-decreases-loop-k l = l.k

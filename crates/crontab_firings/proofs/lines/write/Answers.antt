@@ -17,9 +17,9 @@ returns c =
     let a = c.args in
     let l = c.loop-i in
     let w = l.invariant.0 in
-    let most : c.lesser-most.result ≡ min (min a.n (length a.text.now / 42)) (min (length a.minutes.now) (length a.entries.now)) =
-    rw (← c.lesser.ensures, ← c.lesser-2.ensures) c.lesser-most.ensures in
-    let all : l.i ≡ c.lesser-most.result = omega (arith, l.invariant.1) in
+    let most : c.min-most.result ≡ min (min a.n (length a.text.now / 42)) (min (length a.minutes.now) (length a.entries.now)) =
+    rw (← c.min.ensures, ← c.min-2.ensures) c.min-most.ensures in
+    let all : l.i ≡ c.min-most.result = omega (arith, l.invariant.1) in
     let room : l.i * 42 ≤ length a.text.now = omega (arith, all, most) in
     let h = written-within _ _ _ w room in
     record {

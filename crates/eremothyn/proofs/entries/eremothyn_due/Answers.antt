@@ -1,16 +1,17 @@
 -- `eremothyn::entries::eremothyn_due` meets its contract, by what the reader promises.
 -- Assumes nothing.
+use Rattle.eremothyn.specs.Answer.{answer_of}
 use Rattle.eremothyn.specs.Entries.{due_number}
 use Rattle.eremothyn.proofs.entries.eremothyn_due.Goals as goal
 
-pub returns-in-Yes : goal.returns-in-Yes
+pub returns-in-Ok-true : goal.returns-in-Ok-true
 unfolding due_number
-returns-in-Yes c = rw (← c.rules_of.ensures, ← c.due.ensures, c.in-Yes.is)
+returns-in-Ok-true c = rw (← c.rules_of.ensures, ← c.due.ensures, c.in-Ok-true.is, c.in-Ok-true.field-0-test)
 
-pub returns-in-No : goal.returns-in-No
+pub returns-in-Ok-false : goal.returns-in-Ok-false
 unfolding due_number
-returns-in-No c = rw (← c.rules_of.ensures, ← c.due.ensures, c.in-No.is)
+returns-in-Ok-false c = rw (← c.rules_of.ensures, ← c.due.ensures, c.in-Ok-false.is, c.in-Ok-false.field-0-test)
 
-pub returns-in-Refused : goal.returns-in-Refused
-unfolding due_number
-returns-in-Refused c = rw (← c.rules_of.ensures, ← c.due.ensures, c.in-Refused.is)
+pub returns-in-Err : goal.returns-in-Err
+unfolding due_number answer_of
+returns-in-Err c = rw (← c.rules_of.ensures, ← c.due.ensures, c.in-Err.is) c.answer.ensures

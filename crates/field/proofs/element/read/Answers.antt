@@ -4,8 +4,8 @@ use mathlib.Core.Path.{sym, ◌∙◌}
 use Rattle.field.proofs.Alone.{alone-element}
 use Rattle.field.proofs.element.read.Goals as goal
 
-pub returns-in-Value : goal.returns-in-Value
-returns-in-Value c = sym (alone-element _ (sym c.read.ensures ∙ c.in-Value.is) _)
+pub returns-in-Some : goal.returns-in-Some
+returns-in-Some c = sym (alone-element _ (sym c.read.ensures ∙ c.in-Some.is) _)
 
 pub returns : goal.returns
 returns c = c.divided.ensures

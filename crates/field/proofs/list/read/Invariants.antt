@@ -7,8 +7,8 @@ use Rattle.field.specs.Fields.{list_field}
 use Rattle.field.proofs.Lists.{reading}
 use Rattle.field.proofs.list.read.Given as goal
 
-abbrev pub invariant-loop-answer : goal.invariant-loop-answer
-invariant-loop-answer l = (reading l.limits l.column l.s l.at l.answer ≡ list_field l.limits l.column l.s) × (l.at ≤ length l.s)
+abbrev pub invariant-loop-element : goal.invariant-loop-element
+invariant-loop-element l = (reading l.limits l.column l.s l.at l.answer ≡ list_field l.limits l.column l.s) × (l.at ≤ length l.s)
 
-abbrev pub decreases-loop-answer : goal.decreases-loop-answer
-decreases-loop-answer l = length l.s - l.at
+abbrev pub decreases-loop-element : goal.decreases-loop-element
+decreases-loop-element l = length l.s - l.at

@@ -6,10 +6,10 @@ use native.Mathlib.Omega.{arith}
 use Rattle.fifo.proofs.head.mark_number.Goals as goal
 
 pub overflow_add-result : goal.overflow_add-result
-overflow_add-result c = omega (arith, leb-true c.in-At.minute last_minute (rw c.in-At.is at c.requires))
+overflow_add-result c = omega (arith, leb-true c.in-Some.minute last_minute (rw c.in-Some.is at c.requires))
 
 pub returns-in-None : goal.returns-in-None
 returns-in-None c = rw c.in-None.is
 
-pub returns-in-At : goal.returns-in-At
-returns-in-At c = rw c.in-At.is
+pub returns-in-Some : goal.returns-in-Some
+returns-in-Some c = rw c.in-Some.is

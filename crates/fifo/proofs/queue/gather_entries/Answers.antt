@@ -4,7 +4,6 @@ use Prim.Native.Nat.{◌<◌}
 use native.Mathlib.Omega.{arith}
 use lib.ListN.{length, take, get_or}
 use lib.Seq.{take_all}
-use borrow.Author.Rules.{rules}
 use Rattle.fifo.specs.Queues.{entries_of}
 use Rattle.fifo.specs.Layout.{queue_of}
 use Rattle.fifo.proofs.Numbers.{waiting-length, waiting-at}
@@ -20,7 +19,7 @@ entry c = waiting-at _ _ (omega (arith, c.requires.0)) ∙ sym c.number-e.ensure
 
 pub loop-i-init : goal.loop-i-init
 unfolding entries_of
-loop-i-init c = (search rules, refl, c.requires.1, c.requires.2)
+loop-i-init c = (refl, c.requires.1, c.requires.2)
 
 pub overflow_add-i : goal.overflow_add-i
 overflow_add-i c = omega (arith, waiting-length c.args.buffer.now, c.requires.0)
@@ -34,7 +33,7 @@ pub returns-then-has : goal.returns-then-has
 returns-then-has c =
     let l = (queue_of c.args.buffer.now).waiting in
     let inv = c.loop-i.invariant in
-    let waits = sym (inv.2 _) ∙ sym c.has.ensures ∙ c.if-has.true in
+    let waits = sym (inv.1 _) ∙ sym c.has.ensures ∙ c.if-has.true in
     record { answer = sym (cut_twice l c.loop-i.i _ (omega (arith, c.requires.0)) (entry (goal.at.returns-then-has c).After-number-e) _ waits); seen = λ e. absurd (false≢true e) }
 
 pub loop-i-preserved : goal.loop-i-preserved
@@ -44,11 +43,10 @@ loop-i-preserved c =
     let e = c.number-e.result in
     let inv = c.loop-i.invariant in
     let h : i < length l = omega (arith, c.requires.0) in
-    let new = sym (inv.2 e) ∙ sym c.has.ensures ∙ c.if-has.false in (
-      omega arith,
-      rw (take_next l i e h (entry (goal.at.loop-i-preserved c).After-number-e)) (entries-snoc _ (take i l) e inv.1 c.if-n-e.false new),
-      rw (c.add.ensures, take_next l i e h (entry (goal.at.loop-i-preserved c).After-number-e)) (gathered-more _ (take i l) e (omega (arith, inv.3)) inv.2),
-      c.add.auto.words ∙ inv.3,
+    let new = sym (inv.1 e) ∙ sym c.has.ensures ∙ c.if-has.false in (
+      rw (take_next l i e h (entry (goal.at.loop-i-preserved c).After-number-e)) (entries-snoc _ (take i l) e inv.0 c.if-n-e.false new),
+      rw (c.add.ensures, take_next l i e h (entry (goal.at.loop-i-preserved c).After-number-e)) (gathered-more _ (take i l) e (omega (arith, inv.2)) inv.1),
+      c.add.auto.words ∙ inv.2,
     )
 
 pub returns : goal.returns
@@ -56,4 +54,4 @@ returns c =
     let l = (queue_of c.args.buffer.now).waiting in
     let inv = c.loop-i.invariant in
     let all = take_all c.loop-i.i l (omega (arith, c.requires.0)) in
-    record { answer = sym (rw all at inv.1); seen = λ e. rw all at inv.2 }
+    record { answer = sym (rw all at inv.0); seen = λ e. rw all at inv.1 }

@@ -2,7 +2,6 @@
 -- Assumes nothing.
 use mathlib.Core.Path.{◌≡◌}
 use mathlib.Core.Bool.{true}
-use Prim.Native.Nat.{◌-◌, ◌≤◌}
 use lib.ListN.{length, take}
 use Rattle.fifo.specs.Queues.{entries_of}
 use Rattle.fifo.specs.Layout.{queue_of}
@@ -10,7 +9,4 @@ use Rattle.fifo.specs.Inner.{WaitingBits}
 use Rattle.fifo.proofs.queue.gather_entries.Given as goal
 
 abbrev pub invariant-loop-i : goal.invariant-loop-i
-invariant-loop-i l = (l.i ≤ l.count) × (entries_of l.n (take l.i (queue_of l.buffer).waiting) ≡ true) × WaitingBits l.seen (take l.i (queue_of l.buffer).waiting) × (length l.seen ≡ 1024)
-
-abbrev pub decreases-loop-i : goal.decreases-loop-i
-decreases-loop-i l = l.count - l.i
+invariant-loop-i l = (entries_of l.n (take l.i (queue_of l.buffer).waiting) ≡ true) × WaitingBits l.seen (take l.i (queue_of l.buffer).waiting) × (length l.seen ≡ 1024)

@@ -1,12 +1,11 @@
-use mathlib.Core.Path.{◌≡◌, refl, sym, ap, ◌∙◌}
+use mathlib.Core.Path.{◌≡◌, refl, sym, ◌∙◌}
 use mathlib.Core.Bool.{◌&&◌, not}
-use Prim.Native.Nat.{ℕ, ◌+◌}
 use native.Mathlib.Omega.{arith}
 use Rattle.fifo.specs.Inner.{callees, joined}
 use Rattle.fifo.proofs.Queues.{laid-queue}
 use Rattle.fifo.proofs.Filling.{joins_now, fills-none, fills-more, join-room, join-next}
 use Rattle.fifo.proofs.queue.join.Goals as goal
-use Rattle.fifo.proofs.queue.join.Goals.{After-has-in-loop-i}
+use Rattle.fifo.proofs.queue.join.Goals.{After-has-in-loop-i, then-has, else-has}
 
 -- whether entry i joins, as it is tested
 joins : (c : After-has-in-loop-i)
@@ -20,24 +19,30 @@ loop-i-init c =
     let a = c.args in
     fills-none _ a.buffer.now _ a.n (sym (laid-queue a.n a.buffer.now (λ i. omega (arith, c.type_inv.buffer i)) c.requires.0)) refl
 
-pub offer-count-requires : goal.offer-count-requires
-offer-count-requires c =
+pub push-requires : goal.push-requires
+push-requires c =
     let a = c.args in
     let p = c.requires in
-    λ t. rw c.loop-i.invariant.room-is (join-room a.n a.buffer.now a.called.now c.loop-i.i (omega arith) p.0 (omega arith) (sym (joins c) ∙ t))
+    rw c.loop-i.invariant.room-is (join-room a.n a.buffer.now a.called.now c.loop-i.i (omega arith) p.0 (omega arith) (sym (joins (goal.at.push-requires c).After-has-in-loop-i) ∙ c.if-has.true))
 
 pub overflow_add-count : goal.overflow_add-count
-overflow_add-count c = omega (arith, c.offer-count.ensures.small, c.loop-i.invariant.count_most)
+overflow_add-count c = omega (arith, c.loop-i.invariant.count_most)
 
 pub loop-i-preserved : goal.loop-i-preserved
 loop-i-preserved c =
-    let o = c.offer-count in
     let a = c.args in
-    let p = c.requires in
     let f = c.loop-i.invariant in
-    let step = join-next a.n a.buffer.now a.called.now c.loop-i.i (omega arith) p.0 (omega arith) in
-    fills-more _ _ _ _ f (omega arith) (o.ensures.bytes ∙ rw (joins (goal.at.loop-i-preserved c).After-has-in-loop-i, f.room-is) step) (o.auto.buffer ∙ f.length-is)
-    (ap (λ (r : ℕ). c.loop-i.count + r) (o.ensures.answer ∙ rw (joins (goal.at.loop-i-preserved c).After-has-in-loop-i)))
+    let test = sym (joins (goal.at.loop-i-preserved c).After-has-in-loop-i) in
+    let step = join-next a.n a.buffer.now a.called.now c.loop-i.i (omega arith) c.requires.0 (omega arith) in
+    elim c.if-has.branch [
+      | then-has w ↦
+          let law = test ∙ w.if-has.true in
+          rw (w.buffer-is, w.count-is)
+          (fills-more _ _ _ _ f (omega arith) (w.push.ensures ∙ rw f.room-is (rw law at step)) (w.push.auto.buffer ∙ f.length-is) (rw law))
+      | else-has w ↦
+          let law = test ∙ w.if-has.false in
+          rw (w.buffer-is, w.count-is) (fills-more _ _ _ _ f (omega arith) (f.room-is ∙ rw law at step) f.length-is (rw law (omega arith)))
+    ]
 
 pub returns : goal.returns
 unfolding callees joined

@@ -1,7 +1,6 @@
 -- `fifo::queue::store` meets its contract.
 -- Assumes nothing.
 use native.Mathlib.Omega.{arith}
-use mathlib.Core.Path.{refl}
 use lib.ListN.{length-set}
 use Rattle.fifo.specs.Inner.{with_number}
 use Rattle.fifo.proofs.queue.store.Goals as goal
@@ -11,4 +10,4 @@ bounds-buffer-at-2 c = simp length-set (omega arith)
 
 pub returns : goal.returns
 unfolding with_number
-returns c = refl
+returns c = rw c.to_le_bytes.ensures

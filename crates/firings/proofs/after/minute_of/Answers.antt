@@ -3,14 +3,10 @@
 use Rattle.firings.specs.Keys.{minute_or_end}
 use Rattle.firings.proofs.after.minute_of.Goals as goal
 
-pub returns-in-At : goal.returns-in-At
+pub returns-in-Ok : goal.returns-in-Ok
 unfolding minute_or_end
-returns-in-At c = rw c.in-At.is
+returns-in-Ok c = rw c.in-Ok.is
 
-pub returns-in-Never : goal.returns-in-Never
+pub returns-in-Err : goal.returns-in-Err
 unfolding minute_or_end
-returns-in-Never c = rw c.in-Never.is
-
-pub returns-in-PastEnd : goal.returns-in-PastEnd
-unfolding minute_or_end
-returns-in-PastEnd c = rw c.in-PastEnd.is
+returns-in-Err c = rw c.in-Err.is

@@ -1,4 +1,5 @@
-use mathlib.Core.Path.{◌≡◌}
+use Rattle.std.specs.Prelude.{Ok}
+use mathlib.Core.Path.{◌≡◌, ap}
 use Prim.Native.Nat.{◌+◌}
 use native.Mathlib.Omega.{arith}
 use lib.ListN.{length}
@@ -28,7 +29,7 @@ returns-then-n-run c =
     let l = c.loop-minute in
     let f = filling-ahead l.invariant.0 (up-here _ _ _ (omega arith) (l.invariant.2 (omega (arith, c.requires.2)))) in
     let full : l.n ≡ length c.args.run.now = omega (arith, l.invariant.0.size) in
-    record { answer = more-told f full; run = more-laid f full }
+    record { answer = ap Ok (more-told f full); run = more-laid f full }
 
 pub overflow_cast-run : goal.overflow_cast-run
 overflow_cast-run c = omega (arith, c.requires.2)
@@ -61,4 +62,4 @@ pub returns : goal.returns
 unfolding listed_entry
 returns c =
     let f = filling-ahead c.loop-minute.invariant.0 (up-end _ _ _ (omega arith)) in
-    record { answer = all_told f; run = all_laid f }
+    record { answer = ap Ok (all_told f); run = all_laid f }

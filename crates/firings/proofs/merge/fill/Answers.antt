@@ -44,7 +44,7 @@ loop-tree-init c =
     let p = c.build-tree.ensures in
     let on : c.args.a + 1 ≤ last_minute + 1 = omega (arith, c.requires.1) in
     let low = root-at _ _ _ _ p (omega arith) in
-    (merging-ahead (merging_start _ _ _ _ (room-is _ _ _ _ c.lesser.ensures c.lesser-room.ensures)) (root-skip _ _ _ _ p low _), planted-root _ _ _ _ p low c.requires.0.few)
+    (merging-ahead (merging_start _ _ _ _ (room-is _ _ _ _ c.min.ensures c.min-room.ensures)) (root-skip _ _ _ _ p low _), planted-root _ _ _ _ p low c.requires.0.few)
 
 pub shape_of-minutes-then-n-room : goal.shape_of-minutes-then-n-room
 shape_of-minutes-then-n-room c = c.loop-tree.invariant.0.first.size
@@ -58,7 +58,7 @@ returns-then-n-room c =
     let low : root l.tree / 512 ≤ c.args.b = c.loop-tree-test.true in
     let fires = root-fires _ _ _ _ l.invariant.1 (omega (arith, c.requires.2)) in
     let r = merging-more (merging-ahead l.invariant.0 (up-here _ _ _ (omega arith) fires)) c.if-n-room.true (merged-keys _ _ c.requires.0.few _ _)
-    (room-is _ _ _ _ c.lesser.ensures c.lesser-room.ensures) in
+    (room-is _ _ _ _ c.min.ensures c.min-room.ensures) in
     record { answer = r.0; minutes = r.1.0; entries = r.1.1 }
 
 pub overflow_cast-minutes : goal.overflow_cast-minutes
@@ -123,5 +123,5 @@ returns c =
     let l = c.loop-tree in
     let high : c.args.b < root l.tree / 512 = c.loop-tree-test.false in
     let r = merging-all (merging-ahead l.invariant.0 (up-end _ _ _ (omega arith))) (merged-keys _ _ c.requires.0.few _ _)
-    (room-is _ _ _ _ c.lesser.ensures c.lesser-room.ensures) in
+    (room-is _ _ _ _ c.min.ensures c.min-room.ensures) in
     record { answer = r.0; minutes = r.1.0; entries = r.1.1 }

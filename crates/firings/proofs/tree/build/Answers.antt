@@ -6,7 +6,7 @@ use Rattle.firings.proofs.Waiting.{waits-after, planted-start, planted-more, pla
 use Rattle.firings.proofs.tree.build.Goals as goal
 
 pub loop-i-init : goal.loop-i-init
-loop-i-init c = (planted-start _ _, omega arith)
+loop-i-init c = planted-start _ _
 
 pub offset_bounds-table-i : goal.offset_bounds-table-i
 offset_bounds-table-i c = omega (arith, c.requires.0.few)
@@ -24,7 +24,7 @@ key-requires c =
 
 pub put-requires : goal.put-requires
 put-requires c =
-    (c.loop-i.invariant.0.shape, omega (arith, c.requires.0.few))
+    (c.loop-i.invariant.shape, omega (arith, c.requires.0.few))
 
 pub loop-i-preserved : goal.loop-i-preserved
 loop-i-preserved c =
@@ -36,7 +36,7 @@ loop-i-preserved c =
     (omega arith) (omega arith)
     (c.key.ensures ∙ ap (λ (n : ℕ). n * 512 + l.i) c.firing_after.ensures)
     in
-    (planted-more _ l.tree c.put.ensures.shape l.i _ c.put.ensures.leaves (omega arith) l.invariant.0 wait, omega arith)
+    planted-more _ l.tree c.put.ensures.shape l.i _ c.put.ensures.leaves (omega arith) l.invariant wait
 
 pub returns : goal.returns
-returns c = planted-all _ (omega (arith, c.loop-i.invariant.1)) c.loop-i.invariant.0
+returns c = planted-all _ (omega (arith, c.loop-i.auto.i-end)) c.loop-i.invariant

@@ -37,7 +37,7 @@ pub loop-at-preserved : goal.loop-at-preserved
 loop-at-preserved c =
     let up = c.loop-at-test.true in
     let l = c.loop-at in
-    (mend-with l.invariant.0 up l.invariant.1 c.lesser-low.ensures, mend-low l.invariant.0 up)
+    (mend-with l.invariant.0 up l.invariant.1 c.min-low.ensures, mend-low l.invariant.0 up)
 
 pub returns : goal.returns
 returns c =

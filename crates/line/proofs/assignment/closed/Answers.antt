@@ -4,14 +4,10 @@ use borrow.Author.Tests.{le-leb, lt-leb}
 use Rattle.line.specs.Assignments.{closed}
 use Rattle.line.proofs.assignment.closed.Goals as goal
 
-pub returns-in_default : goal.returns-in_default
-unfolding closed
-returns-in_default c = rw c.in_default.is
-
 pub returns-then-s-skip : goal.returns-then-s-skip
 unfolding closed
-returns-then-s-skip c = rw (c.in-Found.is, ← c.skip.ensures.0, le-leb _ _ c.if-s-skip.true)
+returns-then-s-skip c = rw (← c.skip.ensures.0, le-leb _ _ c.if-s-skip.true)
 
 pub returns : goal.returns
 unfolding closed
-returns c = rw (c.in-Found.is, ← c.skip.ensures.0, lt-leb _ _ c.if-s-skip.false)
+returns c = rw (← c.skip.ensures.0, lt-leb _ _ c.if-s-skip.false)

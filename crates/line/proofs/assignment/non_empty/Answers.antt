@@ -4,14 +4,10 @@ use borrow.Author.Tests.{lt-ltb, le-ltb}
 use Rattle.line.specs.Assignments.{non_empty}
 use Rattle.line.proofs.assignment.non_empty.Goals as goal
 
-pub returns-in_default : goal.returns-in_default
+pub returns-then-text : goal.returns-then-text
 unfolding non_empty
-returns-in_default c = rw c.in_default.is
-
-pub returns-then-part : goal.returns-then-part
-unfolding non_empty
-returns-then-part c = rw (c.in-Found.is, lt-ltb _ _ c.if-part.true)
+returns-then-text c = rw (lt-ltb _ _ c.if-text.true)
 
 pub returns : goal.returns
 unfolding non_empty
-returns c = rw (c.in-Found.is, le-ltb _ _ c.if-part.false)
+returns c = rw (le-ltb _ _ c.if-text.false)

@@ -1,7 +1,6 @@
 -- `line::assignment::value_at` meets its contract: a quoted value and a bare one.
 -- Assumes nothing.
 use mathlib.Core.Path.{sym, ◌∙◌}
-use Rattle.line.specs.Assignments.{value_at}
 use Rattle.octets.proofs.Runs.{quote-within}
 use Rattle.line.proofs.assignment.value_at.Goals as goal
 
@@ -9,11 +8,3 @@ pub quoted-requires : goal.quoted-requires
 quoted-requires c =
     let a = c.args in
     quote-within a.s.now a.at (rw (← c.byte_at.ensures) (sym c.is_quote.ensures ∙ c.if-is_quote.true))
-
-pub returns-then-is_quote : goal.returns-then-is_quote
-unfolding value_at
-returns-then-is_quote c = c.closed.ensures ∙ rw (← c.byte_at.ensures, ← c.is_quote.ensures, c.if-is_quote.true, c.quoted.ensures)
-
-pub returns : goal.returns
-unfolding value_at
-returns c = rw (← c.byte_at.ensures, ← c.is_quote.ensures, c.if-is_quote.false, c.trimmed_end.ensures)

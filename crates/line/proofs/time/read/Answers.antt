@@ -4,47 +4,21 @@ use mathlib.Core.Path.{sym, ◌∙◌}
 use native.Mathlib.Omega.{arith}
 use Rattle.field.specs.Limits.{hour_limits, day_limits, month_limits, weekday_limits}
 use Rattle.field.proofs.Theorems.{hour-usual, day-usual, month-usual, weekday-usual}
-use Rattle.line.specs.Times.{after, fields_at}
 use Rattle.line.proofs.TimeViews.{field_fits}
 use Rattle.line.proofs.time.read.Goals as goal
 
-pub returns-in-Refused : goal.returns-in-Refused
-unfolding fields_at after
-returns-in-Refused c = rw (← c.field_at.ensures, c.in-Refused.is)
-
-pub returns-in-Refused-field_at : goal.returns-in-Refused-field_at
-unfolding fields_at after
-returns-in-Refused-field_at c = rw (← c.field_at.ensures, c.in-Read.is, ← c.field_at-2.ensures, c.in-Refused-field_at.is)
-
-pub returns-in-Refused-field_at-2 : goal.returns-in-Refused-field_at-2
-unfolding fields_at after
-returns-in-Refused-field_at-2 c = rw (← c.field_at.ensures, c.in-Read.is, ← c.field_at-2.ensures, c.in-Read-field_at.is, ← c.field_at-3.ensures, c.in-Refused-field_at-2.is)
-
-pub returns-in-Refused-field_at-3 : goal.returns-in-Refused-field_at-3
-unfolding fields_at after
-returns-in-Refused-field_at-3 c = rw (← c.field_at.ensures, c.in-Read.is, ← c.field_at-2.ensures, c.in-Read-field_at.is, ← c.field_at-3.ensures, c.in-Read-field_at-2.is, ← c.field_at-4.ensures, c.in-Refused-field_at-3.is)
-
-pub returns-in-Refused-field_at-4 : goal.returns-in-Refused-field_at-4
-unfolding fields_at after
-returns-in-Refused-field_at-4 c = rw (← c.field_at.ensures, c.in-Read.is, ← c.field_at-2.ensures, c.in-Read-field_at.is, ← c.field_at-3.ensures, c.in-Read-field_at-2.is, ← c.field_at-4.ensures, c.in-Read-field_at-3.is, ← c.field_at-5.ensures, c.in-Refused-field_at-4.is)
-
 pub overflow_cast-schedule : goal.overflow_cast-schedule
 overflow_cast-schedule c =
-    omega (arith, field_fits hour_limits hour-usual _ _ _ (sym c.field_at-2.ensures ∙ c.in-Read-field_at.is))
+    omega (arith, field_fits hour_limits hour-usual _ _ _ (sym c.field_at-2.ensures ∙ c.in_ok-hour.was))
 
 pub overflow_cast-schedule-2 : goal.overflow_cast-schedule-2
 overflow_cast-schedule-2 c =
-    omega (arith, field_fits day_limits day-usual _ _ _ (sym c.field_at-3.ensures ∙ c.in-Read-field_at-2.is))
+    omega (arith, field_fits day_limits day-usual _ _ _ (sym c.field_at-3.ensures ∙ c.in_ok-day.was))
 
 pub overflow_cast-schedule-3 : goal.overflow_cast-schedule-3
 overflow_cast-schedule-3 c =
-    omega (arith, field_fits month_limits month-usual _ _ _ (sym c.field_at-4.ensures ∙ c.in-Read-field_at-3.is))
+    omega (arith, field_fits month_limits month-usual _ _ _ (sym c.field_at-4.ensures ∙ c.in_ok-month.was))
 
 pub overflow_cast-schedule-4 : goal.overflow_cast-schedule-4
 overflow_cast-schedule-4 c =
-    omega (arith, field_fits weekday_limits weekday-usual _ _ _ (sym c.field_at-5.ensures ∙ c.in-Read-field_at-4.is))
-
-pub returns : goal.returns
-unfolding fields_at after
-returns c =
-    rw (← c.field_at.ensures, c.in-Read.is, ← c.field_at-2.ensures, c.in-Read-field_at.is, ← c.field_at-3.ensures, c.in-Read-field_at-2.is, ← c.field_at-4.ensures, c.in-Read-field_at-3.is, ← c.field_at-5.ensures, c.in-Read-field_at-4.is)
+    omega (arith, field_fits weekday_limits weekday-usual _ _ _ (sym c.field_at-5.ensures ∙ c.in_ok-weekday.was))

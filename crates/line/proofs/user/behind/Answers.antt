@@ -1,15 +1,20 @@
 use mathlib.Core.Path.{◌≡◌, sym, ◌∙◌}
+use Prim.Native.Nat.{◌+◌, ◌-◌}
 use native.Mathlib.Omega.{arith}
 use Rattle.line.specs.Owners.{behind}
 use Rattle.line.proofs.Users.{behind-next}
 use Rattle.line.proofs.user.behind.Goals as goal
 
-pub loop-left-preserved : goal.loop-left-preserved
-loop-left-preserved c = let l = c.loop-left in
-    rw (c.skip-at.ensures.0, c.skip.ensures.0) (sym (behind-next l.left _ l.at (omega arith)) ∙ l.invariant)
+pub loop-preserved : goal.loop-preserved
+loop-preserved c =
+    let at = c.loop in
+    let runs = c.args.runs in
+    let e : runs - (at.counter + 1) ≡ runs - at.counter - 1 = omega arith in
+    rw (e, c.skip-at.ensures.0, c.skip.ensures.0) (sym (behind-next (runs - at.counter) _ at.at (omega arith)) ∙ at.invariant)
 
 pub returns : goal.returns
 unfolding behind
-returns c = let l = c.loop-left in
-    let e : l.left ≡ 0 = omega arith in
-    rw e at l.invariant
+returns c =
+    let at = c.loop in
+    let e : c.args.runs - at.counter ≡ 0 = omega arith in
+    rw e at at.invariant

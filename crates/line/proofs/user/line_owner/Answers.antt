@@ -9,4 +9,4 @@ returns-in_default c = rw (← c.skip-at.ensures.0, ← c.time_runs.ensures, ←
 
 pub returns : goal.returns
 unfolding line_owner named_owner
-returns c = rw (← c.skip-at.ensures.0, ← c.time_runs.ensures, ← c.behind.ensures, ← c.column_at.ensures, c.in-Named.is)
+returns c = rw (← c.skip-at.ensures.0, ← c.time_runs.ensures, ← c.behind.ensures, ← c.column_at.ensures, c.in-Some.is)

@@ -1,18 +1,93 @@
--- `line::word::meaning` meets its contract: the words in their order, the first of which is tried last.
+-- `line::word::meaning` meets its contract: the words in their order.
 -- Assumes nothing.
-use mathlib.Core.Path.{refl}
+use mathlib.Core.Path.{refl, sym}
 use Rattle.line.specs.Words.{meanings, word_for, word_of}
-use Rattle.line.proofs.Words.{row-none, row_next, word-meanings}
+use Rattle.line.proofs.Words.{row-none, row_here, row_later, word-meanings}
 use Rattle.line.proofs.word.meaning.Goals as goal
 
-pub returns : goal.returns
+pub returns-then-is_word : goal.returns-then-is_word
 unfolding word_of meanings word_for
-returns c = let (yearly, monthly, weekly, daily, hourly) = word-meanings in
-    row_next _ _ _ refl c.known_or.ensures
-    (row_next _ _ _ yearly c.known_or-w-7.ensures
-    (row_next _ _ _ yearly c.known_or-w-6.ensures
-    (row_next _ _ _ monthly c.known_or-w-5.ensures
-    (row_next _ _ _ weekly c.known_or-w-4.ensures
-    (row_next _ _ _ daily c.known_or-w-3.ensures
-    (row_next _ _ _ daily c.known_or-w-2.ensures
-    (row_next _ _ _ hourly c.known_or-w.ensures (row-none _))))))))
+returns-then-is_word c = row_here _ _ _ refl (sym c.if-is_word.ensures)
+
+pub returns-then-is_word-2 : goal.returns-then-is_word-2
+unfolding word_of meanings
+returns-then-is_word-2 c =
+    let (yearly, monthly, weekly, daily, hourly) = word-meanings in
+    row_later _ _ _ (sym c.if-is_word.ensures)
+    (row_here _ _ _ yearly (sym c.if-is_word-2.ensures))
+
+pub returns-then-is_word-3 : goal.returns-then-is_word-3
+unfolding word_of meanings
+returns-then-is_word-3 c =
+    let (yearly, monthly, weekly, daily, hourly) = word-meanings in
+    row_later _ _ _ (sym c.if-is_word.ensures)
+    (row_later _ _ _ (sym c.if-is_word-2.ensures)
+    (row_here _ _ _ yearly (sym c.if-is_word-3.ensures)))
+
+pub returns-then-is_word-4 : goal.returns-then-is_word-4
+unfolding word_of meanings
+returns-then-is_word-4 c =
+    let (yearly, monthly, weekly, daily, hourly) = word-meanings in
+    row_later _ _ _ (sym c.if-is_word.ensures)
+    (row_later _ _ _ (sym c.if-is_word-2.ensures)
+    (row_later _ _ _ (sym c.if-is_word-3.ensures)
+    (row_here _ _ _ monthly (sym c.if-is_word-4.ensures))))
+
+pub returns-then-is_word-5 : goal.returns-then-is_word-5
+unfolding word_of meanings
+returns-then-is_word-5 c =
+    let (yearly, monthly, weekly, daily, hourly) = word-meanings in
+    row_later _ _ _ (sym c.if-is_word.ensures)
+    (row_later _ _ _ (sym c.if-is_word-2.ensures)
+    (row_later _ _ _ (sym c.if-is_word-3.ensures)
+    (row_later _ _ _ (sym c.if-is_word-4.ensures)
+    (row_here _ _ _ weekly (sym c.if-is_word-5.ensures)))))
+
+pub returns-then-is_word-6 : goal.returns-then-is_word-6
+unfolding word_of meanings
+returns-then-is_word-6 c =
+    let (yearly, monthly, weekly, daily, hourly) = word-meanings in
+    row_later _ _ _ (sym c.if-is_word.ensures)
+    (row_later _ _ _ (sym c.if-is_word-2.ensures)
+    (row_later _ _ _ (sym c.if-is_word-3.ensures)
+    (row_later _ _ _ (sym c.if-is_word-4.ensures)
+    (row_later _ _ _ (sym c.if-is_word-5.ensures)
+    (row_here _ _ _ daily (sym c.if-is_word-6.ensures))))))
+
+pub returns-then-is_word-7 : goal.returns-then-is_word-7
+unfolding word_of meanings
+returns-then-is_word-7 c =
+    let (yearly, monthly, weekly, daily, hourly) = word-meanings in
+    row_later _ _ _ (sym c.if-is_word.ensures)
+    (row_later _ _ _ (sym c.if-is_word-2.ensures)
+    (row_later _ _ _ (sym c.if-is_word-3.ensures)
+    (row_later _ _ _ (sym c.if-is_word-4.ensures)
+    (row_later _ _ _ (sym c.if-is_word-5.ensures)
+    (row_later _ _ _ (sym c.if-is_word-6.ensures)
+    (row_here _ _ _ daily (sym c.if-is_word-7.ensures)))))))
+
+pub returns-then-is_word-8 : goal.returns-then-is_word-8
+unfolding word_of meanings
+returns-then-is_word-8 c =
+    let (yearly, monthly, weekly, daily, hourly) = word-meanings in
+    row_later _ _ _ (sym c.if-is_word.ensures)
+    (row_later _ _ _ (sym c.if-is_word-2.ensures)
+    (row_later _ _ _ (sym c.if-is_word-3.ensures)
+    (row_later _ _ _ (sym c.if-is_word-4.ensures)
+    (row_later _ _ _ (sym c.if-is_word-5.ensures)
+    (row_later _ _ _ (sym c.if-is_word-6.ensures)
+    (row_later _ _ _ (sym c.if-is_word-7.ensures)
+    (row_here _ _ _ hourly (sym c.if-is_word-8.ensures))))))))
+
+pub returns : goal.returns
+unfolding word_of meanings
+returns c =
+    row_later _ _ _ (sym c.if-is_word.ensures)
+    (row_later _ _ _ (sym c.if-is_word-2.ensures)
+    (row_later _ _ _ (sym c.if-is_word-3.ensures)
+    (row_later _ _ _ (sym c.if-is_word-4.ensures)
+    (row_later _ _ _ (sym c.if-is_word-5.ensures)
+    (row_later _ _ _ (sym c.if-is_word-6.ensures)
+    (row_later _ _ _ (sym c.if-is_word-7.ensures)
+    (row_later _ _ _ (sym c.if-is_word-8.ensures)
+    (row-none _))))))))

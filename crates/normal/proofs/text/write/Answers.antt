@@ -2,7 +2,7 @@
 -- Assumes nothing.
 use native.Mathlib.Omega.{arith}
 use Rattle.octets.proofs.Written.{wrote_none, wrote-next}
-use Rattle.normal.proofs.Writing.{line-none, line_refused, setting-within, line-setting}
+use Rattle.normal.proofs.Writing.{line-none, setting-within, line-setting}
 use Rattle.normal.proofs.Writing.{entry-within, line-entry}
 use Rattle.normal.proofs.text.write.Goals as goal
 
@@ -28,7 +28,3 @@ pub returns-in-Entry : goal.returns-in-Entry
 returns-in-Entry c =
     rw (line-entry _ _ c.in-Entry.is, ← c.part-command.ensures.0)
     (wrote-next c.write-next-in-Entry.ensures c.byte-in-Entry.ensures)
-
-pub returns-in-Refused : goal.returns-in-Refused
-returns-in-Refused c =
-    rw (line_refused _ _ c.in-Refused.is) (wrote_none c.args.at c.args.out.now (omega arith) (omega arith))

@@ -8,24 +8,25 @@ use Rattle.octets.proofs.bitset.below.Goals.{then-has, else-has}
 
 pub loop-k-init : goal.loop-k-init
 unfolding count_below
-loop-k-init c = (refl, omega arith)
+loop-k-init c = refl
 
 pub overflow_add-count : goal.overflow_add-count
 overflow_add-count c =
     let l = c.loop-k in
-    omega (arith, l.invariant.0, below-few (has_member c.args.words.now) l.k)
+    omega (arith, l.invariant, below-few (has_member c.args.words.now) l.k)
 
 pub loop-k-preserved : goal.loop-k-preserved
 loop-k-preserved c =
     let l = c.loop-k in
     let p = has_member c.args.words.now in
-    let is = c.has.ensures in (
-      elim c.if-has.branch [ then-has w ↦ omega (arith, w.count-is, l.invariant.0, below_next p l.k (sym is ∙ w.if-has.true)) | else-has w ↦ omega (arith, w.count-is, l.invariant.0, below-pass p l.k (sym is ∙ w.if-has.false)) ],
-      omega arith,
-    )
+    let is = c.has.ensures in
+    elim c.if-has.branch [
+      | then-has w ↦ omega (arith, w.count-is, l.invariant, below_next p l.k (sym is ∙ w.if-has.true))
+      | else-has w ↦ omega (arith, w.count-is, l.invariant, below-pass p l.k (sym is ∙ w.if-has.false))
+    ]
 
 pub returns : goal.returns
 returns c =
     let l = c.loop-k in
     let e : l.k ≡ c.args.n = omega arith in
-    rw e at l.invariant.0
+    rw e at l.invariant

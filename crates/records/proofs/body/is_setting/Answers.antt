@@ -6,4 +6,4 @@ use Rattle.records.proofs.body.is_setting.Goals as goal
 
 pub returns : goal.returns
 unfolding is_item kind_of
-returns c = rw (c.of_setting.ensures, c.is_name.ensures, c.is_value.ensures, c.is_zoned.ensures)
+returns c = rw (c.from.ensures, c.of_setting.ensures, c.is_name.ensures, c.is_value.ensures, c.is_zoned.ensures)

@@ -1,8 +1,10 @@
+use Rattle.std.proofs.lemmas.Result.{err_from_is_err_and, MatchResult-at_ok, MatchResult-at_err}
 use mathlib.Core.Path.{refl}
 use native.Mathlib.Omega.{arith}
+use Rattle.refusal.specs.declared.Refusal.TheVariants.{TableTooLong}
 use Rattle.octets.proofs.Written.{near_next, near-size}
 use Rattle.crontab.proofs.Walks.{step_less}
-use Rattle.normal.proofs.Walks.{table-long, not-refused, going-starts, going-within, going_next, going-refused, refused-some, going-good}
+use Rattle.normal.proofs.Walks.{table-long, going-starts, going-within, going_next, going-refused, going-good}
 use Rattle.normal.proofs.Walks.{left-starts, left-ends, left-none, text-parts, parts_next, short-next}
 use Rattle.normal.proofs.Forms.{lined-starts, lined-next, lined-ends, lined-onward, judged-starts, judged-next, judged-ends, resized, refused-alike, refused-measured, text-refused, text-good}
 use Rattle.records.specs.Formats.{records_of}
@@ -10,26 +12,24 @@ use Rattle.records.proofs.Compiling.{record-parts, record-short}
 use Rattle.records.proofs.compile.measure.Goals as goal
 
 pub returns-then-s-gt-MAX_TABLE : goal.returns-then-s-gt-MAX_TABLE
-returns-then-s-gt-MAX_TABLE c = refused-measured _ (text-refused _ _ 1 (table-long _ _ c.if-s-gt-MAX_TABLE.true) (λ z. omega (arith, z))) (λ z. omega (arith, z))
+returns-then-s-gt-MAX_TABLE c = refused-measured _ (text-refused _ _ TableTooLong (table-long _ _ c.if-s-gt-MAX_TABLE.true))
 
 pub loop-c-init : goal.loop-c-init
 loop-c-init c =
     let short = c.if-s-gt-MAX_TABLE.false in
     (going-starts _ _ short, judged-starts _ (left-starts _ _ short) (omega arith), lined-starts records_of _ (left-starts _ _ short) (omega arith), omega arith, refl, refl)
 
-pub next_item-step-requires : goal.next_item-step-requires
-next_item-step-requires c = c.loop-c.invariant.0.reached
+pub next_item-requires : goal.next_item-requires
+next_item-requires c = c.loop-c.invariant.0.reached
 
-pub returns-in-Refused : goal.returns-in-Refused
-returns-in-Refused c =
-    let going = c.loop-c.invariant.0 in
-    let step = c.next_item-step.ensures in
-    let is = c.in-Refused.is in
-    let some = refused-some step going is in
-    refused-measured _ (text-refused _ _ _ (going-refused step going is) some) some
+pub returns-in_err-step : goal.returns-in_err-step
+returns-in_err-step c =
+    let err = err_from_is_err_and c.from_residual.result c.from_residual.ensures.1 in
+    rw (err.1, err.2)
+    (refused-measured _ (text-refused _ _ _ (going-refused (MatchResult-at_err _ _ _ c.in_err-step.was c.next_item.ensures) c.loop-c.invariant.0)))
 
 pub write-next-requires : goal.write-next-requires
-write-next-requires c = going-within c.next_item-step.ensures c.loop-c.invariant.0
+write-next-requires c = going-within (MatchResult-at_ok _ _ _ c.in_ok-step.was c.next_item.ensures) c.loop-c.invariant.0
 
 pub overflow_sub-short : goal.overflow_sub-short
 overflow_sub-short c = lined-onward c.loop-c.invariant.1.lined c.write-next.ensures
@@ -37,21 +37,20 @@ overflow_sub-short c = lined-onward c.loop-c.invariant.1.lined c.write-next.ensu
 pub write_record-size-requires : goal.write_record-size-requires
 write_record-size-requires c =
     let going = c.loop-c.invariant.0 in
-    (going.reached.short, going-within c.next_item-step.ensures going)
+    (going.reached.short, going-within (MatchResult-at_ok _ _ _ c.in_ok-step.was c.next_item.ensures) going)
 
 pub loop-c-smaller : goal.loop-c-smaller
-loop-c-smaller c = step_less c.next_item-step.ensures c.loop-c-test.true
+loop-c-smaller c = step_less (MatchResult-at_ok _ _ _ c.in_ok-step.was c.next_item.ensures) c.loop-c-test.true
 
 pub loop-c-preserved : goal.loop-c-preserved
 loop-c-preserved c =
     let inv = c.loop-c.invariant in
-    let step = c.next_item-step.ensures in
-    let kept = not-refused c.next_item-step.result.item c.in_default.not-Refused in
-    let text = judged-next inv.1 (parts_next step kept (text-parts _)) (short-next step kept) c.write-next.ensures in
+    let step = MatchResult-at_ok _ _ _ c.in_ok-step.was c.next_item.ensures in
+    let text = judged-next inv.1 (parts_next step (text-parts _)) (short-next step) c.write-next.ensures in
     let wrote = c.write_record-size.ensures in
-    let records = lined-next inv.2 (parts_next step kept (record-parts _)) wrote in
+    let records = lined-next inv.2 (parts_next step (record-parts _)) wrote in
     let near = near_next wrote (record-short _ inv.0.reached.short _ (going-within step inv.0)) in
-    (going_next step inv.0 kept, text, records, omega (arith, near, inv.3, step_less step c.loop-c-test.true), text.lined.wrote.size, records.wrote.size)
+    (going_next step inv.0, text, records, omega (arith, near, inv.3, step_less step c.loop-c-test.true), text.lined.wrote.size, records.wrote.size)
 
 pub returns-then-short-text : goal.returns-then-short-text
 returns-then-short-text c =

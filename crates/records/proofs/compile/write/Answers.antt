@@ -1,3 +1,4 @@
+use Rattle.std.proofs.lemmas.Result.{MatchResult-at_ok, MatchResult-at_err}
 use mathlib.Core.Path.{refl}
 use native.Mathlib.Omega.{arith}
 use Rattle.crontab.proofs.Theorems.{table-short}
@@ -14,24 +15,29 @@ loop-c-init c =
     let short = table-short _ _ good in
     (going-starts _ _ short, lined-starts records_of _ (left-starts _ _ short) (omega arith), refl, good)
 
-pub next_item-step-requires : goal.next_item-step-requires
-next_item-step-requires c = c.loop-c.invariant.0.reached
+pub next_item-requires : goal.next_item-requires
+next_item-requires c = c.loop-c.invariant.0.reached
+
+-- a good table has no fault
+pub returns-in_default : goal.returns-in_default
+returns-in_default c =
+    let inv = c.loop-c.invariant in
+    absurd (going-kept (MatchResult-at_err _ _ _ c.in_default.is c.next_item.ensures) inv.0 inv.3)
 
 pub write_record-at-requires : goal.write_record-at-requires
 write_record-at-requires c =
     let going = c.loop-c.invariant.0 in
-    (going.reached.short, going-within c.next_item-step.ensures going)
+    (going.reached.short, going-within (MatchResult-at_ok _ _ _ c.in-Ok.is c.next_item.ensures) going)
 
 pub loop-c-smaller : goal.loop-c-smaller
-loop-c-smaller c = step_less c.next_item-step.ensures c.loop-c-test.true
+loop-c-smaller c = step_less (MatchResult-at_ok _ _ _ c.in-Ok.is c.next_item.ensures) c.loop-c-test.true
 
 pub loop-c-preserved : goal.loop-c-preserved
 loop-c-preserved c =
     let inv = c.loop-c.invariant in
-    let step = c.next_item-step.ensures in
-    let kept = going-kept step inv.0 inv.3 in
-    let so = lined-next inv.1 (parts_next step kept (record-parts _)) c.write_record-at.ensures in
-    (going_next step inv.0 kept, so, so.wrote.size, inv.3)
+    let step = MatchResult-at_ok _ _ _ c.in-Ok.is c.next_item.ensures in
+    let so = lined-next inv.1 (parts_next step (record-parts _)) c.write_record-at.ensures in
+    (going_next step inv.0, so, so.wrote.size, inv.3)
 
 pub returns : goal.returns
 returns c =

@@ -1,3 +1,5 @@
+use Rattle.std.specs.Prelude.{None}
+use Rattle.std.proofs.lemmas.Result.{err_from_is_err_and, IfOk-at_ok}
 use mathlib.Core.Path.{◌≡◌, refl, sym, ap, ◌∙◌}
 use mathlib.Core.Bool.{Bool}
 use mathlib.Core.List.{List, []}
@@ -7,14 +9,14 @@ use lib.ListN.{length}
 use Rattle.normal.specs.Meanings.{entries_in}
 use Rattle.normal.proofs.Forms.{lined-onward, judged-starts, judged-next, judged-ends, refused-tried}
 use Rattle.records.specs.Readings.{decode, decoded_items, decoded_refusal}
-use Rattle.records.proofs.Decompiling.{decoded_at, decoded-end, decoded-starts, not-refused, text-next, short-next, entries_next, refusal-next, refusal-here, records-refused, records-many, records-few}
+use Rattle.records.proofs.Decompiling.{decoded_at, decoded-end, decoded-starts, text-next, short-next, entries_next, refusal-next, refusal-here, records-refused, records-many, records-few}
 use Rattle.records.proofs.decompile.write.Invariants.{Left}
 use Rattle.records.proofs.decompile.write.Goals as goal
 
 -- at the end nothing is
 record Done (s : List ℕ) (number at count : ℕ) : Type 0 where
   pub none : decoded_items (decoded_at s number at) ≡ []
-  pub good : decoded_refusal (decode s) ≡ 0
+  pub good : decoded_refusal (decode s) ≡ None
   pub entries : count ≡ entries_in (decoded_items (decode s))
 
 done : {s before : List ℕ} {at text : ℕ} {now : List ℕ} {count : ℕ} {short : Bool} (left : Left s before at text now count short) → length s ≤ at → Done s left.number at count
@@ -41,20 +43,21 @@ loop-at-init c =
 pub advance-step-requires : goal.advance-step-requires
 advance-step-requires c = c.loop-at-test.true
 
-pub shape_of-out-in-Refused : goal.shape_of-out-in-Refused
-shape_of-out-in-Refused c = c.loop-at.invariant.3
+pub shape_of-out-in_err-content : goal.shape_of-out-in_err-content
+shape_of-out-in_err-content c = c.loop-at.invariant.3
 
-pub returns-in-Refused : goal.returns-in-Refused
-returns-in-Refused c =
+pub returns-in_err-content : goal.returns-in_err-content
+returns-in_err-content c =
     let at = c.loop-at.invariant in
-    let bad = refusal-here c.advance-step.ensures at.0.number c.in-Refused.is in
-    refused-tried (records-refused _ _ (bad.0 ∙ at.0.refusal) bad.1) bad.1 at.3
+    let bad = refusal-here c.advance-step.ensures at.0.number c.in_err-content.was in
+    let err = err_from_is_err_and c.from_residual.result c.from_residual.ensures.1 in
+    rw (err.1, err.2) (refused-tried (records-refused _ _ (bad ∙ at.0.refusal)) at.3)
 
 pub part-requires : goal.part-requires
 part-requires c = let step = c.advance-step.ensures in (step.order, step.within)
 
 pub write-next-requires : goal.write-next-requires
-write-next-requires c = rw c.part.ensures.0 c.advance-step.ensures.parts
+write-next-requires c = rw c.part.ensures.0 (IfOk-at_ok _ c.in_ok-content.was c.advance-step.ensures.parts)
 
 pub overflow_sub-short : goal.overflow_sub-short
 overflow_sub-short c = lined-onward c.loop-at.invariant.0.judged.lined c.write-next.ensures
@@ -72,14 +75,14 @@ loop-at-preserved c =
     let at = c.loop-at.invariant in
     let n = at.0.number in
     let step = c.advance-step.ensures in
-    let fine = not-refused c.advance-step.result.content c.in_default.not-Refused in
+    let is = c.in_ok-content.was in
     let wrote = rw c.part.ensures.0 at c.write-next.ensures in
-    let so = judged-next at.0.judged (text-next step n fine) (short-next step n fine) wrote in (
+    let so = judged-next at.0.judged (text-next step n is) (short-next step n is) wrote in (
       record {
         number = n + 1;
         judged = so;
-        refusal = refusal-next step n fine ∙ at.0.refusal;
-        entries = omega (arith, c.entries_found-count.ensures.0, entries_next step n fine, at.0.entries);
+        refusal = refusal-next step n is ∙ at.0.refusal;
+        entries = omega (arith, c.entries_found-count.ensures.0, entries_next step n is, at.0.entries);
       },
       omega (arith, at.1, c.entries_found-count.ensures.1, step.onward),
       step.within,
@@ -94,7 +97,7 @@ returns-then-count-gt-MAX_ENTRIES c =
     let at = c.loop-at in
     let end = done at.invariant.0 c.loop-at-test.false in
     let many = records-many _ end.good (omega (arith, c.if-count-gt-MAX_ENTRIES.true, end.entries)) in
-    refused-tried many (λ z. omega (arith, z)) at.invariant.3
+    refused-tried many at.invariant.3
 
 pub shape_of-out-then-short-text : goal.shape_of-out-then-short-text
 shape_of-out-then-short-text c = c.loop-at.invariant.3

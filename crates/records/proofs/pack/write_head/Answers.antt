@@ -6,4 +6,4 @@ use Rattle.records.proofs.pack.write_head.Goals as goal
 
 pub returns : goal.returns
 unfolding head_of
-returns c = wrote-next c.write-next.ensures c.write.ensures
+returns c = rw (← c.from.ensures) (wrote-next c.write-next.ensures c.write.ensures)

@@ -3,7 +3,7 @@
 use native.Mathlib.Omega.{arith}
 use Rattle.octets.proofs.Written.{wrote_none}
 use Rattle.normal.proofs.Writing.{setting-within, entry-within}
-use Rattle.records.proofs.Packing.{part_none, part-refused, part-setting, part-entry}
+use Rattle.records.proofs.Packing.{part_none, part-setting, part-entry}
 use Rattle.records.proofs.pack.write_record.Goals as goal
 
 pub part-name-requires : goal.part-name-requires
@@ -34,7 +34,3 @@ returns-in-Setting c =
 pub returns-in-Entry : goal.returns-in-Entry
 returns-in-Entry c =
     rw (part-entry _ _ c.in-Entry.is, ← c.part-command.ensures.0) c.write_entry.ensures
-
-pub returns-in-Refused : goal.returns-in-Refused
-returns-in-Refused c =
-    rw (part-refused _ _ c.in-Refused.is) (wrote_none c.args.at c.args.out.now (omega arith) (omega arith))

@@ -2,7 +2,7 @@
 -- Assumes nothing.
 use native.Mathlib.Omega.{arith}
 use Rattle.octets.proofs.Written.{wrote_none, wrote-next}
-use Rattle.records.proofs.Readers.{found_none, found-refused, entry-within, found-entry, setting-within, found-setting}
+use Rattle.records.proofs.Readers.{found_none, entry-within, found-entry, setting-within, found-setting}
 use Rattle.records.proofs.text.write.Goals as goal
 
 pub part-command-requires : goal.part-command-requires
@@ -26,7 +26,3 @@ pub returns-in-Setting : goal.returns-in-Setting
 returns-in-Setting c =
     rw (found-setting _ _ c.in-Setting.is, ← c.part-name.ensures.0, ← c.part-value.ensures.0)
     (wrote-next c.write-next-in-Setting.ensures c.byte-in-Setting.ensures)
-
-pub returns-in-Refused : goal.returns-in-Refused
-returns-in-Refused c =
-    rw (found-refused _ _ c.in-Refused.is) (wrote_none c.args.at c.args.out.now (omega arith) (omega arith))

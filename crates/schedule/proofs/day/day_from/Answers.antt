@@ -1,33 +1,28 @@
-use mathlib.Core.Path.{◌≡◌, ap, ◌∙◌}
+use mathlib.Core.Path.{◌∙◌}
 use Prim.Native.Nat.{◌+◌, ◌*◌, ◌-◌, ◌/◌, ◌%◌, ◌≤◌, ◌<◌}
 use native.Mathlib.Omega.{arith}
-use Rattle.calendar.specs.declared.DateAnswer.{DateAnswer}
-use Rattle.calendar.specs.Dates.{calendar_days, date_at}
-use Rattle.calendar.proofs.Theorems.{OnCalendar, date_at-on, date_of-on}
+use Rattle.calendar.specs.Dates.{calendar_days}
+use Rattle.calendar.proofs.Theorems.{OnCalendar, date_at-on}
 use Rattle.calendar.proofs.Months.{length_of, InMonth, day-in-month}
 use Rattle.schedule.proofs.Search.{from_past}
 use Rattle.schedule.proofs.Days.{Searching, searching-starts, searching-inside, searching-end, searching-found, searching-after}
 use Rattle.schedule.proofs.Dates.{month-days-small}
 use Rattle.schedule.proofs.day.day_from.Goals as goal
-use Rattle.schedule.proofs.day.day_from.Goals.{After-date_of, After-month_days, Else-found-end}
+use Rattle.schedule.proofs.day.day_from.Goals.{After-date_at-date, After-month_days, Else-found-end}
 
--- the date that the calendar gives
-date-is : (c : After-date_of) → c.date_of.result.date ≡ date_at (c.args.day * 1440)
-date-is c = ap (λ (a : DateAnswer). a.date) (c.date_of.ensures ∙ date_of-on _ (omega arith))
+date-on : (c : After-date_at-date)
+    → let d = c.date_at-date.result in OnCalendar d.year d.month d.day d.hour d.minute
+date-on c = rw (c.date_at-date.ensures) (date_at-on (c.args.day * 1440) (omega arith))
 
-date-on : (c : After-date_of)
-    → let d = c.date_of.result.date in OnCalendar d.year d.month d.day d.hour d.minute
-date-on c = rw (date-is c) (date_at-on (c.args.day * 1440) (omega arith))
+in-month : (c : After-date_at-date)
+    → let d = c.date_at-date.result in InMonth c.args.day (d.year * 12 + (d.month - 1)) (d.day - 1)
+in-month c = rw (c.date_at-date.ensures) (day-in-month c.args.day (omega arith))
 
-in-month : (c : After-date_of)
-    → let d = c.date_of.result.date in InMonth c.args.day (d.year * 12 + (d.month - 1)) (d.day - 1)
-in-month c = rw (date-is c) (day-in-month c.args.day (omega arith))
-
-begins : (c : After-date_of)
-    → let d = c.date_of.result.date in
+begins : (c : After-date_at-date)
+    → let d = c.date_at-date.result in
     let a = c.args in
     Searching a.s a.day (d.year * 12 + (d.month - 1)) (a.day - (d.day - 1)) a.day
-begins c = rw (date-is c) (searching-starts c.args.s c.args.day (omega arith))
+begins c = rw (c.date_at-date.ensures) (searching-starts c.args.s c.args.day (omega arith))
 
 -- the month ends on the calendar
 end_on : (c : After-month_days) → c.loop-at.first + c.month_days.result ≤ calendar_days
@@ -41,22 +36,22 @@ pub returns-then-day-ge-CALENDAR_DAYS : goal.returns-then-day-ge-CALENDAR_DAYS
 returns-then-day-ge-CALENDAR_DAYS c = from_past _ _ _ c.if-day-ge-CALENDAR_DAYS.true
 
 pub overflow_mul-count : goal.overflow_mul-count
-overflow_mul-count c = omega (arith, (date-on c.before.before).year_to)
+overflow_mul-count c = omega (arith, (date-on c.before).year_to)
 
 pub overflow_sub-count : goal.overflow_sub-count
-overflow_sub-count c = (date-on c.before.before.before).month_from
+overflow_sub-count c = (date-on c.before.before).month_from
 
 pub overflow_add-count : goal.overflow_add-count
-overflow_add-count c = omega (arith, (date-on c.before.before.before).year_to, (date-on c.before.before.before).month_to)
+overflow_add-count c = omega (arith, (date-on c.before.before).year_to, (date-on c.before.before).month_to)
 
 pub overflow_sub-first : goal.overflow_sub-first
-overflow_sub-first c = (date-on c.before.before.before.before).day_from
+overflow_sub-first c = (date-on c.before.before.before).day_from
 
 pub overflow_sub-first-2 : goal.overflow_sub-first-2
-overflow_sub-first-2 c = omega (arith, (in-month c.before.before.before.before).sum)
+overflow_sub-first-2 c = omega (arith, (in-month c.before.before.before).sum)
 
 pub loop-at-init : goal.loop-at-init
-loop-at-init c = begins c.before.before.before.before
+loop-at-init c = begins c.before.before.before
 
 pub overflow_add-end : goal.overflow_add-end
 overflow_add-end c = omega (arith, end_on c)

@@ -3,10 +3,10 @@
 use Rattle.schedule.specs.Local.{matches_local}
 use Rattle.schedule.proofs.local.matches_local.Goals as goal
 
-pub returns-in-Off : goal.returns-in-Off
+pub returns-in-None : goal.returns-in-None
 unfolding matches_local
-returns-in-Off c = rw c.in-Off.is
+returns-in-None c = rw c.in-None.is
 
-pub returns-in-On : goal.returns-in-On
+pub returns-in-Some : goal.returns-in-Some
 unfolding matches_local
-returns-in-On c = rw c.in-On.is c.matches_date.ensures
+returns-in-Some c = rw c.in-Some.is c.matches_date.ensures

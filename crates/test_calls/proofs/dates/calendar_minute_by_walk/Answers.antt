@@ -1,8 +1,8 @@
 -- `test_calls::dates::calendar_minute_by_walk` meets its contract, by what the calendar promises.
 -- Assumes nothing.
 use mathlib.Core.Path.{ap, ◌∙◌}
-use Rattle.test_calls.specs.Dates.{minute_number}
+use Rattle.test_calls.specs.Numbers.{number_of}
 use Rattle.test_calls.proofs.dates.calendar_minute_by_walk.Goals as goal
 
 pub returns : goal.returns
-returns c = c.minute_number.ensures ∙ ap minute_number c.minute_by_walk.ensures
+returns c = c.number_of.ensures ∙ ap number_of c.minute_by_walk.ensures

@@ -1,9 +1,0 @@
--- `field::name::named_or` meets its contract.
--- Assumes nothing.
-use Rattle.field.proofs.name.named_or.Goals as goal
-
-pub returns-then-is_name : goal.returns-then-is_name
-returns-then-is_name c = rw (← c.is_name.ensures, c.if-is_name.true)
-
-pub returns : goal.returns
-returns c = rw (← c.is_name.ensures, c.if-is_name.false)
