@@ -41,7 +41,8 @@ use borrow.Author.Tests.{ltb-true, ltb-false}
 use Rattle.std.specs.Prelude.{Result, Ok, Err, IsOk, IfOk, IfErr}
 use Rattle.refusal.specs.declared.Refusal.{Refusal}
 use Rattle.refusal.specs.declared.Refusal.TheVariants.{TableTooLong, NoSuchEntry, NotOnCalendar, AtBootOnly, NoSetting}
-use Rattle.refusal.specs.Numbers.{number_of}
+use Rattle.refusal.specs.Numbers.{number_of, IsRefusal}
+use Rattle.refusal.proofs.Numbers.{number-small}
 use Rattle.calendar.specs.Dates.{last_minute}
 use Rattle.schedule.specs.declared.Schedule.{Schedule}
 use Rattle.schedule.specs.Local.{biased_offset, next_after_in}
@@ -70,7 +71,7 @@ use Rattle.crontab.specs.Items.{Items, done, fault, setting, entry, moved, items
 use Rattle.crontab.specs.Tables.{blank_entry, no_entries, refused_table, empty_table, with_entry, with_items, table_of, entry_in, column_in, count_in, line_in, refusal_in, table_entries, verdict_of}
 use Rattle.crontab.specs.Selections.{selected_by}
 use Rattle.crontab.specs.Settings.{shown, setting_from, setting_in, next_line_in}
-use Rattle.crontab.specs.Firings.{by_when, next_of, next_answer, next_in}
+use Rattle.crontab.specs.Firings.{due_in, by_when, next_of, next_answer, next_in}
 use Rattle.crontab.proofs.Sound.{Sound, SoundItems, items-sound}
 use Rattle.crontab.proofs.Tables.{refused-some}
 pub use Rattle.crontab.proofs.Gap.{next-in-gap}
@@ -200,19 +201,34 @@ module _ (rules : Rules) (s : List ℕ) where
 -- an answer of a table of n bytes: an entry, and then the table isn't refused; or a refusal
 abbrev pub EntryBounded : ℕ → Result Entry Refusal → Type 0
 EntryBounded n (Ok e) = (Sound n e) × (n ≤ max_table)
-EntryBounded n (Err refusal) = Unit {0}
+EntryBounded n (Err refusal) = IsRefusal (number_of refusal)
 
 pub entry-told : (rules : Rules) (s : List ℕ) (i : ℕ) → EntryBounded (length s) (entry_in (table_of rules s) i)
 unfolding entry_in
 entry-told rules s i = go (table_of rules s) (table-sound rules s) (table-short rules s)
   where
     go : (t : Result Table TableFault) → SoundTable (length s) t → (refusal_in t ≡ 0 → length s ≤ max_table) → EntryBounded (length s) (entry_in t i)
-    go (Err f) sound short = tt
+    go (Err f) sound short = number-small f.refusal
     go (Ok t) sound short = has (ltb i t.count) refl
       where
         has : (b : Bool) → ltb i t.count ≡ b → EntryBounded (length s) (cond b (Ok (get_or t.entries i blank_entry)) (Err NoSuchEntry))
         has true q = (sound.each i (ltb-true i t.count q), short refl)
-        has false q = tt
+        has false q = number-small NoSuchEntry
+
+-- ---- the number of a refusal: not 0, and at most eight bits
+
+refused-small : {A : Type 0} (answer : Result A Refusal) → IfErr answer (λ refusal. IsRefusal (number_of refusal))
+refused-small (Ok value) = tt
+refused-small (Err refusal) = number-small refusal
+
+pub owner-number : (rules : Rules) (s : List ℕ) (i : ℕ) → IfErr (owner_in rules s i) (λ refusal. IsRefusal (number_of refusal))
+owner-number rules s i = refused-small (owner_in rules s i)
+
+pub setting-number : (rules : Rules) (s : List ℕ) (n : ℕ) → IfErr (setting_in (items_of rules s) n) (λ refusal. IsRefusal (number_of refusal))
+setting-number rules s n = refused-small (setting_in (items_of rules s) n)
+
+pub due-told : (rules : Rules) (s : List ℕ) (i m : ℕ) → IfErr (due_in (table_of rules s) i m) (λ refusal. IsRefusal (number_of refusal))
+due-told rules s i m = refused-small (due_in (table_of rules s) i m)
 
 -- ---- its owner
 
@@ -309,20 +325,20 @@ setting-short rules s k = go (ltb max_table (length s)) refl
 -- a line of the table, or a refusal
 abbrev pub LineBounded : Result ℕ Refusal → Type 0
 LineBounded (Ok k) = k ≤ max_table + 1
-LineBounded (Err refusal) = Unit {0}
+LineBounded (Err refusal) = IsRefusal (number_of refusal)
 
 pub line-told : (rules : Rules) (s : List ℕ) (n : ℕ) → LineBounded (next_line_in (items_of rules s) n)
 line-told rules s n = go (next_line_in (items_of rules s) n) (next-setting rules s n)
   where
     go : (a : Result ℕ Refusal) → NextSetting rules s n a → LineBounded a
     go (Ok k) h = omega (arith, h.2, table-short rules s h.0)
-    go (Err refusal) h = tt
+    go (Err refusal) h = number-small refusal
 
 -- ---- when an entry fires next: a minute of the calendar, or a refusal
 
 abbrev pub NextBounded : Result ℕ Refusal → Type 0
 NextBounded (Ok n) = n ≤ last_minute
-NextBounded (Err refusal) = Unit {0}
+NextBounded (Err refusal) = IsRefusal (number_of refusal)
 
 next-of : (e : Entry) (m : ℕ) → NextBounded (next_of e m)
 unfolding next_of
@@ -333,11 +349,11 @@ next-of e m = go (leb m last_minute) e.when
 
     firing : (times : Schedule) (x : Result ℕ Refusal) → next_after_in times o m ≡ x → NextBounded x
     firing times (Ok n) p = next-on-calendar-in times o m n p
-    firing times (Err refusal) p = tt
+    firing times (Err refusal) p = number-small refusal
 
     go : (b : Bool) (when : When) → NextBounded (cond b (by_when when (Err AtBootOnly) (λ s. next_after_in s o m)) (Err NotOnCalendar))
-    go false when = tt
-    go true Reboot = tt
+    go false when = number-small NotOnCalendar
+    go true Reboot = number-small AtBootOnly
     go true (Timed times) = firing times (next_after_in times o m) refl
 
 pub next-told : (rules : Rules) (s : List ℕ) (i m : ℕ) → NextBounded (next_in (table_of rules s) i m)
@@ -346,4 +362,4 @@ next-told rules s i m = go (entry_in (table_of rules s) i) (entry-told rules s i
   where
     go : (a : Result Entry Refusal) → EntryBounded (length s) a → NextBounded (next_answer a m)
     go (Ok e) h = next-of e m
-    go (Err refusal) h = tt
+    go (Err refusal) h = number-small refusal

@@ -2,7 +2,7 @@
 ghost use Rattle.std.specs.Prelude.{◌≡◌, ◌≤◌};
 ghost use Rattle.crontab.specs.Tables.{table_of, entry_in};
 ghost use Rattle.eremothyn.specs.Rules.{rules_of};
-ghost use Rattle.eremothyn.specs.Entries.{place_in, place_number};
+ghost use Rattle.eremothyn.specs.Entries.{next_number, place_in, place_number};
 ghost use Rattle.eremothyn.specs.Calls.{due_call, next_call, entry_line_call, command_offset_call, command_length_call};
 
 use crate::answer::answer;
@@ -10,6 +10,7 @@ use crate::rules::rules_of;
 use crontab::entry::Entry;
 use crontab::firing;
 use crontab::table::find_entry;
+use refusal::Refusal;
 
 #[unsafe(no_mangle)]
 pub extern "C" fn eremothyn_due(
@@ -28,6 +29,17 @@ pub extern "C" fn eremothyn_due(
     }
 }
 
+// The minute, or why there is none.
+#[tactic(auto, unfolding(crate::specs::Entries::next_number, crate::specs::Answer::answer_of))]
+fn next_number(next: Result<u64, Refusal>) -> u64
+    ensures { result ≡ next_number next }
+{
+    match next {
+        Ok(minute) => minute,
+        Err(none) => answer(Err(none)),
+    }
+}
+
 #[unsafe(no_mangle)]
 pub extern "C" fn eremothyn_next(
     table: &[u8],
@@ -38,7 +50,7 @@ pub extern "C" fn eremothyn_next(
 ) -> u64
     ensures { result ≡ next_call table.now kind dialect entry minute }
 {
-    answer(firing::next(table, rules_of(kind, dialect), entry, minute))
+    next_number(firing::next(table, rules_of(kind, dialect), entry, minute))
 }
 
 // What is asked of where an entry stands.

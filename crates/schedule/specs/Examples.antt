@@ -1,10 +1,12 @@
 -- Schedules, as the reader gives them, and what they match.
 -- Assumes nothing.
-use Rattle.std.specs.Prelude.{refl, Bool, true, false, List, [], ◌∷◌, ℕ}
+use Rattle.std.specs.Prelude.{◌≡◌, refl, Bool, true, false, List, [], ◌∷◌, ℕ, map}
+use Rattle.refusal.specs.Numbers.{number_of}
 use Rattle.octets.specs.Rows.{Hold}
 use Rattle.octets.specs.Sets.{set_of, up_to}
 use Rattle.schedule.specs.declared.Stars.{Stars}
 use Rattle.schedule.specs.declared.Schedule.{Schedule}
+use Rattle.schedule.specs.Refusals.{never_fires, past_the_end}
 use Rattle.schedule.specs.Match.{matches}
 use Rattle.schedule.specs.Computing.{firing}
 
@@ -148,3 +150,9 @@ strays : Hold matched
     ∷ [])
 unfolding schedules
 strays = refl
+
+-- ---- the refusals of a next firing
+
+refusals : map number_of (never_fires ∷ past_the_end ∷ []) ≡ 16 ∷ 17 ∷ []
+unfolding number_of
+refusals = refl
