@@ -21,6 +21,7 @@ use Rattle.line.specs.declared.Line.TheVariants as line
 use Rattle.crontab.specs.declared.item.Cursor.{Cursor}
 use Rattle.crontab.specs.declared.item.Item.{Item}
 use Rattle.crontab.specs.declared.item.Step.{Step}
+use Rattle.crontab.specs.declared.item.BadLine.{BadLine}
 use Rattle.crontab.specs.declared.item.Item.TheVariants as item
 use Rattle.schedule.specs.Local.{OffsetInRange}
 use Rattle.line.specs.Offsets.{utc, in_force}
@@ -28,8 +29,8 @@ use Rattle.crontab.specs.Limits.{max_table, max_entries}
 use Rattle.line.specs.Limits.{max_line}
 use Rattle.crontab.specs.Lines.{lines_of}
 use Rattle.line.specs.Lines.{read_line}
-use Rattle.crontab.specs.Items.{done, moved, placed, after_line, last_fault, items_from, items_of}
-use Rattle.crontab.specs.Inner.{items_at, behind, Reached, LineAt, given, counted, Sound, Under, Stays, Leads, ended_step, step_at, StepIs, StepFault, ItemIs, ItemFault}
+use Rattle.crontab.specs.Items.{done, fault, moved, placed, after_line, last_fault, items_from, items_of}
+use Rattle.crontab.specs.Inner.{items_at, behind, Reached, LineAt, given, counted, Sound, Under, Stays, Leads, bad_line, ended_step, step_at, StepIs, StepFault, ItemIs, ItemFault}
 use Rattle.crontab.proofs.Lines.{line_end, end-found, stop-found, lines-first, next_start, last_line, ended-line}
 use Rattle.line.proofs.Theorems.{force-in, setting-proper, entry-proper}
 
@@ -103,6 +104,24 @@ module _ (rules : Rules) (s : List ℕ) (c : Cursor) (stop end : ℕ) (there : L
         stays = stays;
       }
 
+  step_bad : (f : Fault) → Err (bad_line c end f) ≡ step_at rules s c → items_at rules s c ≡ fault f.refusal c.line f.column → StepFault rules s c (bad_line c end f)
+  step_bad f same g =
+      record {
+        is = same;
+        gives = g;
+        line = refl;
+        onward = omega (arith, line-order);
+        reached =
+            record {
+              short = reached.short;
+              place = omega (arith, within);
+              lines = omega (arith, line-order, reached.lines);
+              few = reached.few;
+              zone = reached.zone;
+            };
+        counts = refl;
+      }
+
   module _ {when : When} {first : ℕ} (is : read_line rules bytes ≡ Ok (line.Entry when first)) where
     -- its places have 16 bits
     pub entry-placed : (c.at ≤ max_table) × (c.line ≤ max_table) × (first ≤ max_line) × (end - c.at ≤ max_line)
@@ -124,13 +143,12 @@ module _ (rules : Rules) (s : List ℕ) (c : Cursor) (stop end : ℕ) (there : L
         }
 
   -- the table ends there: its own fault, or 26
-  pub step-last : length s ≤ end → StepFault rules s c (last_fault (end - c.at) c.count (read_line rules bytes))
+  pub step-last : length s ≤ end → StepFault rules s c (bad_line c end (last_fault (end - c.at) c.count (read_line rules bytes)))
   unfolding items_at items_from step_at between
   step-last h =
-      record {
-        is = rw (← found, le-ltb end (length s) h);
-        gives = rw (lines-first s c.at end inside found, last_line s c.at end inside found h, size);
-      }
+      step_bad (last_fault (end - c.at) c.count (read_line rules bytes))
+      (rw (← found, le-ltb end (length s) h))
+      (rw (lines-first s c.at end inside found, last_line s c.at end inside found h, size))
 
   -- a newline ends it
   module _ (ended : end < length s) where
@@ -149,14 +167,16 @@ module _ (rules : Rules) (s : List ℕ) (c : Cursor) (stop end : ℕ) (there : L
     unfolding step_at between
     step-ended = rw (← found, lt-ltb end (length s) ended)
 
-    pub step-refused : {f : Fault} → read_line rules bytes ≡ Err f → StepFault rules s c f
+    pub step-refused : {f : Fault} → read_line rules bytes ≡ Err f → StepFault rules s c (bad_line c end f)
     unfolding after_line ended_step
-    step-refused is = record { is = rw (step-ended, is); gives = here ∙ rw is }
+    step-refused {f} is = step_bad f (rw (step-ended, is)) (here ∙ rw is)
 
     pub step-full : {when : When} {first : ℕ} → read_line rules bytes ≡ Ok (line.Entry when first) → max_entries ≤ c.count
-        → StepFault rules s c (record { refusal = TooManyEntries; column = 1 })
+        → StepFault rules s c (bad_line c end (record { refusal = TooManyEntries; column = 1 }))
     unfolding after_line ended_step
-    step-full is h = record { is = rw (step-ended, is, le-ltb c.count max_entries h); gives = here ∙ rw (is, le-ltb c.count max_entries h) }
+    step-full is h =
+        step_bad (record { refusal = TooManyEntries; column = 1 }) (rw (step-ended, is, le-ltb c.count max_entries h))
+        (here ∙ rw (is, le-ltb c.count max_entries h))
 
     -- the offset that is read back from a cursor
     module _ {o : ℤ} (same : o ≡ c.offset) where
@@ -226,8 +246,14 @@ module _ {rules : Rules} {s : List ℕ} {from c : Cursor} (so : Skipped rules s 
       past (item.Entry e) h = omega (arith, so.onward, step.onward)
 
   -- a fault does
-  pub skipped-fault : {f : Fault} → StepFault rules s c f → ItemFault rules s from (record { refusal = f.refusal; line = c.line; column = f.column })
-  skipped-fault bad = record { gives = so.left ∙ bad.gives }
+  pub skipped-fault : {r : BadLine} → StepFault rules s c r → ItemFault rules s from r
+  skipped-fault bad =
+      record {
+        gives = so.left ∙ bad.gives ∙ rw bad.line;
+        leads = omega (arith, so.onward, bad.onward);
+        reached = bad.reached;
+        counts = bad.counts ∙ so.count;
+      }
 
   -- the table's end does
   pub skipped-end : length s ≤ c.at → ItemIs rules s from (record { item = item.Nothing; line = c.line; next = c })

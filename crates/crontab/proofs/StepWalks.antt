@@ -13,11 +13,11 @@ use Rattle.refusal.specs.declared.Refusal.{Refusal}
 use Rattle.line.specs.declared.Rules.{Rules}
 use Rattle.line.specs.declared.Part.{Part}
 use Rattle.crontab.specs.declared.entry.Entry.{Entry}
-use Rattle.field.specs.declared.Fault.{Fault}
 use Rattle.crontab.specs.declared.item.Cursor.{Cursor}
 use Rattle.crontab.specs.declared.item.Item.{Item}
 use Rattle.crontab.specs.declared.item.Item.TheVariants as item
 use Rattle.crontab.specs.declared.item.Step.{Step}
+use Rattle.crontab.specs.declared.item.BadLine.{BadLine}
 use Rattle.crontab.specs.Limits.{max_entries}
 use Rattle.crontab.specs.Inner.{items_at, given, counted, StepIs, StepFault, Sound}
 use Rattle.crontab.specs.Tables.{refused_table, with_entry, with_items}
@@ -133,23 +133,23 @@ module _ {rules : Rules} {s : List ℕ} {c : Cursor} {r : Step} (step : StepIs r
     table-nothing is = rw (left is, count is)
 
 -- the line is refused
-module _ {rules : Rules} {s : List ℕ} {c : Cursor} {fault : Fault} (bad : StepFault rules s c fault) where
-  pub verdict-refused : Err (record { refusal = fault.refusal; line = c.line; column = fault.column }) ≡ verdict_from c.count (items_at rules s c)
+module _ {rules : Rules} {s : List ℕ} {c : Cursor} {r : BadLine} (bad : StepFault rules s c r) where
+  pub verdict-refused : Err (record { refusal = r.fault.refusal; line = c.line; column = r.fault.column }) ≡ verdict_from c.count (items_at rules s c)
   unfolding verdict_from
   verdict-refused = rw bad.gives
 
-  pub entry-refused : (f : Result Entry Refusal) (i : ℕ) → Err fault.refusal ≡ entry_from f c.count i (items_at rules s c)
+  pub entry-refused : (f : Result Entry Refusal) (i : ℕ) → Err r.fault.refusal ≡ entry_from f c.count i (items_at rules s c)
   unfolding entry_from
   entry-refused f i = rw bad.gives
 
-  pub setting-refused : (f : Result Setting Refusal) (n : ℕ) → Err fault.refusal ≡ setting_from f n (items_at rules s c)
+  pub setting-refused : (f : Result Setting Refusal) (n : ℕ) → Err r.fault.refusal ≡ setting_from f n (items_at rules s c)
   unfolding setting_from
   setting-refused f n = rw bad.gives
 
-  pub line_refused : (f : Result ℕ Refusal) (n : ℕ) → Err fault.refusal ≡ next_line_from f n (items_at rules s c)
+  pub line_refused : (f : Result ℕ Refusal) (n : ℕ) → Err r.fault.refusal ≡ next_line_from f n (items_at rules s c)
   unfolding next_line_from
   line_refused f n = rw bad.gives
 
-  pub table-refused : (es : List Entry) → refused_table fault.refusal c.line fault.column ≡ with_items (good c.count es) (items_at rules s c)
+  pub table-refused : (es : List Entry) → refused_table r.fault.refusal c.line r.fault.column ≡ with_items (good c.count es) (items_at rules s c)
   unfolding with_items
   table-refused es = rw bad.gives

@@ -1,10 +1,12 @@
 -- What a caller may rely on: of a table that is read, of the entries it has, of where settings stand, and of how far ahead a firing is.
 --   table-sound, table-short: a table that is read; a good one is as long as it may be
 --   cut-refused: one that isn't refused is empty, or its last byte is a newline
+--   table-refused, verdict-bad, selected-bad: a table that is refused, one whose verdict is a fault, and one whose selection is refused
 --   entry-sound, entry-told: an entry that is found, and the answer to a number
 --   owner-inside, owner-short: where an owner's parts stand
 --   owner-judged: in a system table the owner that is shown is the one that was judged, with a user that isn't empty; owner-named: used for entry 511
 --   entry-on-line, found-view: it is on a line of its table, which is the line that was read to it
+--   owner-number, setting-number, due-told: the number of a refusal has eight bits
 --   setting-inside, setting-short: where name and value stand
 --   next-setting: the first line from a line on that has a setting is the least one, and where there is none no line has one
 --   line-told: what is answered there, refused or not

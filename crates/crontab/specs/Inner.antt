@@ -16,7 +16,7 @@ use Rattle.crontab.specs.declared.item.Item.{Item}
 use Rattle.crontab.specs.declared.item.Item.TheVariants as item
 use Rattle.crontab.specs.declared.item.Step.{Step}
 use Rattle.crontab.specs.declared.item.NextItem.{NextItem}
-use Rattle.crontab.specs.declared.table.TableFault.{TableFault}
+use Rattle.crontab.specs.declared.item.BadLine.{BadLine}
 use Rattle.crontab.specs.Limits.{max_table, max_entries}
 use Rattle.line.specs.Limits.{max_line}
 use Rattle.crontab.specs.Refusals.{too_many_entries}
@@ -90,23 +90,27 @@ Leads n from next (item.Entry e) = from < next
 abbrev pub too_many : Fault
 too_many = record { refusal = too_many_entries; column = 1 }
 
+-- the fault of the line at a cursor, which ends at a place, and the cursor after it
+abbrev pub bad_line : Cursor → ℕ → Fault → BadLine
+bad_line c end f = record { fault = record { refusal = f.refusal; line = c.line; column = f.column }; next = behind c end c.count c.offset }
+
 -- a line that ends in a newline, and the cursor after it
-unfoldable pub ended_step : Cursor → ℕ → Result Line Fault → Result Step Fault
+unfoldable pub ended_step : Cursor → ℕ → Result Line Fault → Result Step BadLine
 ended_step c end (Ok line.Ignored) = Ok (record { item = item.Nothing; next = behind c end c.count c.offset })
 ended_step c end (Ok (line.Setting name value zone)) =
     Ok (record { item = item.Setting (moved c.at name) (moved c.at value); next = behind c end c.count (in_force zone c.offset) })
 ended_step c end (Ok (line.Entry when start)) =
     cond (ltb c.count max_entries)
     (Ok (record { item = item.Entry (placed c.at c.line (end - c.at) c.offset when start); next = behind c end (c.count + 1) c.offset }))
-    (Err too_many)
-ended_step c end (Err f) = Err f
+    (Err (bad_line c end too_many))
+ended_step c end (Err f) = Err (bad_line c end f)
 
 -- a last line without one
-abbrev pub cut_step : Cursor → ℕ → Result Line Fault → Result Step Fault
-cut_step c end x = Err (last_fault (end - c.at) c.count x)
+abbrev pub cut_step : Cursor → ℕ → Result Line Fault → Result Step BadLine
+cut_step c end x = Err (bad_line c end (last_fault (end - c.at) c.count x))
 
 -- the line at a cursor, up to a newline or the table's end
-unfoldable pub step_at : Rules → List ℕ → Cursor → Result Step Fault
+unfoldable pub step_at : Rules → List ℕ → Cursor → Result Step BadLine
 step_at rules s c =
     let end = skipped (Not newline) s c.at in
     let x = read_line rules (between s c.at end) in
@@ -122,10 +126,14 @@ pub record StepIs (rules : Rules) (s : List ℕ) (c : Cursor) (r : Step) : Type 
   pub under : Under (length s) c.offset r.item
   pub stays : Stays c.line c.offset r.next.offset r.item
 
--- what the fault of one line is, and what follows
-pub record StepFault (rules : Rules) (s : List ℕ) (c : Cursor) (f : Fault) : Type 0 where
-  pub is : Err f ≡ step_at rules s c
-  pub gives : items_at rules s c ≡ fault f.refusal c.line f.column
+-- what a step over a bad line is, and what follows for walks, those that go on past it too
+pub record StepFault (rules : Rules) (s : List ℕ) (c : Cursor) (r : BadLine) : Type 0 where
+  pub is : Err r ≡ step_at rules s c
+  pub gives : items_at rules s c ≡ fault r.fault.refusal c.line r.fault.column
+  pub line : r.fault.line ≡ c.line
+  pub onward : c.at < r.next.at
+  pub reached : Reached s r.next
+  pub counts : r.next.count ≡ c.count
 
 -- what holds of a step to the next item
 pub record ItemIs (rules : Rules) (s : List ℕ) (c : Cursor) (r : NextItem) : Type 0 where
@@ -136,6 +144,9 @@ pub record ItemIs (rules : Rules) (s : List ℕ) (c : Cursor) (r : NextItem) : T
   pub under : Under (length s) c.offset r.item
   pub stays : Stays r.line c.offset r.next.offset r.item
 
--- and of the fault that stands where it would
-pub record ItemFault (rules : Rules) (s : List ℕ) (c : Cursor) (f : TableFault) : Type 0 where
-  pub gives : items_at rules s c ≡ fault f.refusal f.line f.column
+-- and of a step to the bad line that stands where it would
+pub record ItemFault (rules : Rules) (s : List ℕ) (c : Cursor) (r : BadLine) : Type 0 where
+  pub gives : items_at rules s c ≡ fault r.fault.refusal r.fault.line r.fault.column
+  pub leads : c.at < r.next.at
+  pub reached : Reached s r.next
+  pub counts : r.next.count ≡ c.count

@@ -3,7 +3,7 @@ ghost use Rattle.std.specs.Prelude.{◌≡◌, ◌+◌, ◌≤◌, ◌<◌, leng
 ghost use Rattle.crontab.specs.Limits.{max_table};
 ghost use Rattle.line.specs.Limits.{max_line};
 ghost use Rattle.crontab.specs.Items.{moved, placed, last_fault};
-ghost use Rattle.crontab.specs.Inner.{behind, Reached, LineAt, StepIs, StepFault, ItemIs, ItemFault};
+ghost use Rattle.crontab.specs.Inner.{behind, bad_line, Reached, LineAt, StepIs, StepFault, ItemIs, ItemFault};
 
 use crate::MAX_ENTRIES;
 use crate::entry::Entry;
@@ -54,6 +54,31 @@ pub struct NextItem {
     pub next: Cursor,
 }
 
+// Why a line refuses its table, and the cursor behind that line: a walk may go on past it.
+#[derive(Clone, Copy)]
+pub struct BadLine {
+    pub fault: TableFault,
+    pub next: Cursor,
+}
+
+// Why, and where.
+impl From<BadLine> for TableFault {
+    ghost from_gives = { λ bad fault. fault ≡ bad.fault };
+
+    fn from(bad: BadLine) -> TableFault {
+        bad.fault
+    }
+}
+
+// Why, without where.
+impl From<BadLine> for Refusal {
+    ghost from_gives = { λ bad refusal. refusal ≡ bad.fault.refusal };
+
+    fn from(bad: BadLine) -> Refusal {
+        bad.fault.refusal
+    }
+}
+
 // A part of a line that starts at a place of the table.
 fn moved(part: Part, at: usize) -> Part
     requires { (at ≤ max_table) × (part.start ≤ max_line) × (part.end ≤ max_line) }
@@ -93,18 +118,33 @@ fn behind(c: Cursor, end: usize, count: usize, offset: i32) -> Cursor
     }
 }
 
+// The fault of the line at a cursor, which ends at a place, and the cursor behind it.
+fn bad_line(c: Cursor, end: usize, fault: Fault) -> BadLine
+    requires { (end ≤ max_table) × (c.line ≤ max_table + 2) }
+    ensures { result ≡ bad_line c end fault }
+{
+    let next = behind(c, end, c.count, c.offset);
+    BadLine {
+        fault: on_line(fault, c.line),
+        next,
+    }
+}
+
 const TOO_MANY: Fault = Fault {
     refusal: Refusal::TooManyEntries,
     column: 1,
 };
 
 // The line at a cursor that ends in a newline, and the cursor behind it.
-fn ended(s: &[u8], rules: Rules, c: Cursor, stop: usize, end: usize) -> Result<Step, Fault>
+fn ended(s: &[u8], rules: Rules, c: Cursor, stop: usize, end: usize) -> Result<Step, BadLine>
     requires { LineAt s.now c stop end × (end < length s.now) }
     ensures { MatchResult result (StepIs rules s.now c) (StepFault rules s.now c) }
 {
     let at = c.at;
-    let line = line::judge(&s[at..end], rules, stop - at)?;
+    let line = match line::judge(&s[at..end], rules, stop - at) {
+        Ok(line) => line,
+        Err(fault) => return Err(bad_line(c, end, fault)),
+    };
     match line {
         Line::Ignored => Ok(Step {
             item: Item::Nothing,
@@ -119,7 +159,7 @@ fn ended(s: &[u8], rules: Rules, c: Cursor, stop: usize, end: usize) -> Result<S
         }),
         Line::Entry { when, start } => {
             if c.count == MAX_ENTRIES {
-                return Err(TOO_MANY);
+                return Err(bad_line(c, end, TOO_MANY));
             }
             Ok(Step {
                 item: Item::Entry(placed(c, end - at, when, start)),
@@ -151,19 +191,19 @@ fn last_fault(line: Result<Line, Fault>, size: usize, count: usize) -> Fault
     }
 }
 
-// The fault of the line at a cursor that ends where the table does, with no newline.
-fn last(s: &[u8], rules: Rules, c: Cursor, stop: usize) -> Fault
+// The fault of the line at a cursor that ends where the table does, with no newline, and the cursor behind it.
+fn last(s: &[u8], rules: Rules, c: Cursor, stop: usize) -> BadLine
     requires { LineAt s.now c stop (length s.now) }
     ensures { StepFault rules s.now c result }
 {
     let at = c.at;
     let end = s.len();
     let line = line::judge(&s[at..end], rules, stop - at);
-    last_fault(line, end - at, c.count)
+    bad_line(c, end, last_fault(line, end - at, c.count))
 }
 
 // The line at a cursor. One search finds the line's end and its first forbidden byte.
-pub fn advance(s: &[u8], rules: Rules, c: Cursor) -> Result<Step, Fault>
+pub fn advance(s: &[u8], rules: Rules, c: Cursor) -> Result<Step, BadLine>
     requires { Reached s.now c × (c.at < length s.now) }
     ensures { MatchResult result (StepIs rules s.now c) (StepFault rules s.now c) }
 {
@@ -176,16 +216,13 @@ pub fn advance(s: &[u8], rules: Rules, c: Cursor) -> Result<Step, Fault>
 }
 
 // The first item from a cursor on, or the fault before it: ignored lines are skipped.
-pub fn next_item(s: &[u8], rules: Rules, from: Cursor) -> Result<NextItem, TableFault>
+pub fn next_item(s: &[u8], rules: Rules, from: Cursor) -> Result<NextItem, BadLine>
     requires { Reached s.now from }
     ensures { MatchResult result (ItemIs rules s.now from) (ItemFault rules s.now from) }
 {
     let mut c = from;
     while c.at < s.len() {
-        let step = match advance(s, rules, c) {
-            Ok(step) => step,
-            Err(fault) => return Err(on_line(fault, c.line)),
-        };
+        let step = advance(s, rules, c)?;
         let item = step.item;
         let Item::Nothing = item else {
             return Ok(NextItem {

@@ -1,4 +1,6 @@
 -- Laws of the refusals' numbers.
+--   number-small: each is from 1 to 255
+--   numbers-differ: no two refusals have the same
 -- Assumes nothing.
 use Rattle.std.proofs.Common.{◌≡◌, refl, sym, ap, ◌∙◌, ℕ, ◌-◌, get_or, arith}
 use Rattle.refusal.specs.declared.Refusal.{Refusal}

@@ -1,7 +1,6 @@
 -- `crontab::item::ended` meets its contract, by what the line is.
 -- Assumes nothing.
 use Rattle.std.specs.Prelude.{Ok}
-use Rattle.std.proofs.lemmas.Result.{err_from_is_err_and}
 use mathlib.Core.Path.{sym, ap, ◌∙◌}
 use native.Mathlib.Omega.{arith}
 use Rattle.line.proofs.Theorems.{kept, forced, setting-proper}
@@ -21,11 +20,13 @@ pub judge-requires : goal.judge-requires
 judge-requires c =
     line-stops c.args.rules _ _ _ _ c.requires.0
 
-pub returns-in_err-line : goal.returns-in_err-line
-returns-in_err-line c =
+pub bad_line-requires : goal.bad_line-requires
+bad_line-requires c = line-ends c.args.rules _ _ _ _ c.requires.0
+
+pub returns-in-Err : goal.returns-in-Err
+returns-in-Err c =
     let a = c.requires in
-    let err = err_from_is_err_and c.from_residual.result c.from_residual.ensures.1 in
-    rw (err.1, err.2) (step-refused _ _ _ _ _ a.0 a.1 (sym c.judge.ensures ∙ c.in_err-line.was))
+    rw c.bad_line.ensures (step-refused _ _ _ _ _ a.0 a.1 (sym c.judge.ensures ∙ c.in-Err.is))
 
 pub behind-requires : goal.behind-requires
 behind-requires c =
@@ -33,16 +34,16 @@ behind-requires c =
 
 pub moved-requires-in-Setting : goal.moved-requires-in-Setting
 moved-requires-in-Setting c =
-    let p = setting-proper _ _ (sym c.judge.ensures ∙ c.in_ok-line.was ∙ ap Ok c.in-Setting.is) in
+    let p = setting-proper _ _ (sym c.judge.ensures ∙ c.in-Ok.is ∙ ap Ok c.in-Setting.is) in
     omega (arith, p.0, p.2.order, p.2.within, c.requires.0.reached.place)
 
 pub moved-requires : goal.moved-requires
 moved-requires c =
-    let p = setting-proper _ _ (sym c.judge.ensures ∙ c.in_ok-line.was ∙ ap Ok c.in-Setting.is) in
+    let p = setting-proper _ _ (sym c.judge.ensures ∙ c.in-Ok.is ∙ ap Ok c.in-Setting.is) in
     omega (arith, p.0, p.1.order, p.1.within, c.requires.0.reached.place)
 
 pub in_force-requires : goal.in_force-requires
-in_force-requires c = (setting-proper _ _ (sym c.judge.ensures ∙ c.in_ok-line.was ∙ ap Ok c.in-Setting.is)).3
+in_force-requires c = (setting-proper _ _ (sym c.judge.ensures ∙ c.in-Ok.is ∙ ap Ok c.in-Setting.is)).3
 
 pub behind-requires-in-Setting : goal.behind-requires-in-Setting
 behind-requires-in-Setting c =
@@ -51,7 +52,8 @@ behind-requires-in-Setting c =
 pub returns-then-c-eq-MAX_ENTRIES : goal.returns-then-c-eq-MAX_ENTRIES
 returns-then-c-eq-MAX_ENTRIES c =
     let a = c.requires in
-    step-full _ _ _ _ _ a.0 a.1 (sym c.judge.ensures ∙ c.in_ok-line.was ∙ ap Ok c.in-Entry.is) (omega arith)
+    rw c.bad_line-then-c-eq-MAX_ENTRIES.ensures
+    (step-full _ _ _ _ _ a.0 a.1 (sym c.judge.ensures ∙ c.in-Ok.is ∙ ap Ok c.in-Entry.is) (omega arith))
 
 pub overflow_sub-end : goal.overflow_sub-end
 overflow_sub-end c =
@@ -60,7 +62,7 @@ overflow_sub-end c =
 pub placed-requires : goal.placed-requires
 placed-requires c =
     let a = c.requires in
-    entry-placed _ _ _ _ _ a.0 (sym c.judge.ensures ∙ c.in_ok-line.was ∙ ap Ok c.in-Entry.is)
+    entry-placed _ _ _ _ _ a.0 (sym c.judge.ensures ∙ c.in-Ok.is ∙ ap Ok c.in-Entry.is)
 
 pub overflow_add-c : goal.overflow_add-c
 overflow_add-c c = record { fits = omega (arith, c.requires.0.reached.few) }
@@ -73,12 +75,12 @@ pub returns-in-Ignored : goal.returns-in-Ignored
 returns-in-Ignored c =
     let a = c.requires in
     rw c.behind.ensures
-    (step-nothing _ _ _ _ _ a.0 a.1 (kept a.0.reached.zone) (sym c.judge.ensures ∙ c.in_ok-line.was ∙ ap Ok c.in-Ignored.is))
+    (step-nothing _ _ _ _ _ a.0 a.1 (kept a.0.reached.zone) (sym c.judge.ensures ∙ c.in-Ok.is ∙ ap Ok c.in-Ignored.is))
 
 pub returns-in-Setting : goal.returns-in-Setting
 returns-in-Setting c =
     let a = c.requires in
-    let is = sym c.judge.ensures ∙ c.in_ok-line.was ∙ ap Ok c.in-Setting.is in
+    let is = sym c.judge.ensures ∙ c.in-Ok.is ∙ ap Ok c.in-Setting.is in
     rw (c.behind-in-Setting.ensures, c.moved.ensures, c.moved-in-Setting.ensures)
     (step-setting _ _ _ _ _ a.0 a.1 is (forced _ (setting-proper _ _ is).3 a.0.reached.zone (kept a.0.reached.zone) c.in_force.ensures))
 
@@ -86,4 +88,4 @@ pub returns-else-c-eq-MAX_ENTRIES : goal.returns-else-c-eq-MAX_ENTRIES
 returns-else-c-eq-MAX_ENTRIES c =
     let a = c.requires in
     rw (c.behind-in-Entry.ensures, c.placed.ensures)
-    (step-entry _ _ _ _ _ a.0 a.1 (kept a.0.reached.zone) (sym c.judge.ensures ∙ c.in_ok-line.was ∙ ap Ok c.in-Entry.is) (omega (arith, c.if-c-eq-MAX_ENTRIES.false)))
+    (step-entry _ _ _ _ _ a.0 a.1 (kept a.0.reached.zone) (sym c.judge.ensures ∙ c.in-Ok.is ∙ ap Ok c.in-Entry.is) (omega (arith, c.if-c-eq-MAX_ENTRIES.false)))
