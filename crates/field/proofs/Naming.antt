@@ -1,10 +1,11 @@
 -- Laws of names: a name is the same bytes once both are in lower case, and a row of names is searched from its first.
 -- Assumes nothing.
-use Rattle.std.specs.Prelude.{Some, None, IsTrue, ◌↔◌}
+use Rattle.std.specs.Prelude.{Some, None, IsTrue, ◌↔◌, bytes_eq}
 use Rattle.std.proofs.lemmas.Bool.Decides.{nat_tests}
 use Rattle.std.specs.Char.{to_ascii_lowercase}
 use mathlib.Core.Path.{◌≡◌, refl, sym, ◌∙◌}
-use mathlib.Core.Bool.{Bool, true, false}
+use mathlib.Core.Bool.{Bool, true, false, cond, and-eq-true_iff, true≢false}
+use lib.Dec.{eqb}
 use mathlib.Core.List.{List, [], ◌∷◌, map}
 use Prim.Native.Nat.{ℕ, zero, suc, ◌+◌, ◌<◌}
 use native.Mathlib.Omega.{arith}
@@ -12,7 +13,6 @@ use native.Mathlib.Numerals.{add-one}
 use lib.ListN.{length, drop, get_or}
 use lib.Seq.{drop-cons, drop-length}
 use Rattle.field.specs.Names.{lower, alike, named}
-use Rattle.field.specs.Inner.{InLower}
 use Rattle.field.proofs.NameTexts.{alike-exact}
 
 -- ---- std's test
@@ -41,12 +41,37 @@ matched s name r low h = go r (alike s name) h (alike-exact s name)
     go false false h k = refl
     go false true h k = h.1 (same (k.0 refl))
 
+-- `==` once the bytes are in lower case
+pub lowered : (s name : List ℕ) → bytes_eq (map to_ascii_lowercase s) name ≡ alike s name
+unfolding alike
+lowered [] [] = refl
+lowered (b ∷ s) (x ∷ name) = rw (lower-same b, lowered s name)
+lowered [] (x ∷ name) = refl
+lowered (b ∷ s) [] = refl
+
+pub alike-length : (s name : List ℕ) → alike s name ≡ true → length s ≡ length name
+unfolding alike
+alike-length [] [] e = refl
+alike-length [] (x ∷ name) e = absurd (true≢false (sym e))
+alike-length (b ∷ s) [] e = absurd (true≢false (sym e))
+alike-length (b ∷ s) (x ∷ name) e = rw (alike-length s name ((and-eq-true_iff (eqb (lower b) x) (alike s name)).0 e).1)
+
 -- ---- a row of names
 
-pub in_lower : (names : List (List ℕ)) → InLower names → (i : ℕ) → i < length names → map lower (get_or names i []) ≡ get_or names i []
+pub in_lower : (names : List (List ℕ)) → map (map lower) names ≡ names → (i : ℕ) → i < length names → map lower (get_or names i []) ≡ get_or names i []
 in_lower [] h i k = absurd (omega arith)
 in_lower (name ∷ names) h zero k = cc
 in_lower (name ∷ names) h (suc i) k = in_lower names (cc) i (omega arith)
+
+-- a name has three letters
+pub named-short : (n : ℕ) (names : List (List ℕ)) (s : List ℕ) → map length names ≡ map (λ _. 3) names → (length s ≡ 3 → ⊥) → named n names s ≡ None
+unfolding named
+named-short n [] s h short = refl
+named-short n (name ∷ names) s h short = go (alike s name) refl (named-short (suc n) names s (cc) short)
+  where
+    go : (same : Bool) → alike s name ≡ same → named (suc n) names s ≡ None → cond same (Some n) (named (suc n) names s) ≡ None
+    go true e later = absurd (short (alike-length s name e ∙ cc))
+    go false e later = later
 
 module _ (first : ℕ) (names : List (List ℕ)) (s : List ℕ) (i : ℕ) where
   pub named-hit : i < length names → alike s (get_or names i []) ≡ true → named (first + i) (drop i names) s ≡ Some (first + i)

@@ -1,6 +1,6 @@
 -- What the functions inside promise each other. What a reader must believe is in Values and Written.
 -- Assumes nothing.
-use Rattle.std.specs.Prelude.{map, ◌≡◌, ℕ, ◌-◌, ◌*◌, ◌≤◌, ◌<◌, min, Bool, true, false, cond, ◌&&◌, List, [], ◌∷◌, eqb, ltb}
+use Rattle.std.specs.Prelude.{map, ◌≡◌, ℕ, ◌-◌, ◌*◌, ◌≤◌, ◌<◌, min, Bool, true, false, cond, ◌&&◌, List, [], ◌∷◌, eqb, ltb, length}
 use Rattle.octets.specs.Sets.{has_bit}
 use Rattle.field.specs.Names.{lower}
 use Rattle.octets.specs.Passing.{count_below}
@@ -28,6 +28,6 @@ member_text first v = list_rest first (v ∷ [])
 abbrev pub size_below : ℕ → ℕ → ℕ
 size_below set n = 3 * count_below (has_bit set) n - count_below (has_bit set) (min n 10)
 
--- names that are in lower case
+-- names of three letters that are in lower case
 abbrev pub InLower : List (List ℕ) → Type 0
-InLower names = map (map lower) names ≡ names
+InLower names = (map (map lower) names ≡ names) × (map length names ≡ map (λ _. 3) names)

@@ -3,11 +3,31 @@
 ghost use Rattle.std.specs.Prelude.{◌≡◌, ◌<◌, ◌≤◌, length};
 ghost use Rattle.octets.specs.Clipped.{Wrote};
 ghost use Rattle.field.specs.Inner.{InWord, member_text, size_below};
-ghost use Rattle.field.specs.Written.{gives, step_of, star_text, members, list_text, field_text, is_field};
+ghost use Rattle.field.specs.Written.{star_set, gives, step_of, star_text, members, list_text, field_text, is_field};
 
 use crate::Limits;
 use crate::values::{bit_of, with_values};
 use octets::{set, write};
+
+// The set of a star with a step. It stands apart, so that the search for a step stays a small loop.
+#[inline(never)]
+fn stepped(limits: Limits, n: u8) -> u64
+    requires { 0 < n }
+    ensures { result ≡ star_set limits n }
+{
+    with_values(0, limits, limits.first as u16, limits.last as u16, n as u16)
+}
+
+// The same. A star alone gives one run of bits, which is made at once.
+fn star_set(limits: Limits, n: u8) -> u64
+    requires { 0 < n }
+    ensures { result ≡ star_set limits n }
+{
+    if n == 1 {
+        return with_values(0, limits, limits.first as u16, limits.last as u16, 1);
+    }
+    stepped(limits, n)
+}
 
 // Whether a step gives the set. Its second value is looked for before all of them are put together.
 fn is_step(limits: Limits, set: u64, n: u8) -> bool
@@ -20,11 +40,12 @@ fn is_step(limits: Limits, set: u64, n: u8) -> bool
     if (second <= last) & !set::has(set, bit_of(limits, second as u64)) {
         return false;
     }
-    with_values(0, limits, first, last, n as u16) == set
+    star_set(limits, n) == set
 }
 
-// The smallest step that gives the set.
-fn step_of(limits: Limits, set: u64) -> u8
+// The smallest step that gives the set, by a search.
+#[inline(never)]
+fn searched_step(limits: Limits, set: u64) -> u8
     requires { InWord limits }
     ensures { result ≡ step_of limits set }
 {
@@ -35,6 +56,17 @@ fn step_of(limits: Limits, set: u64) -> u8
         }
     }
     past
+}
+
+// The smallest step that gives the set. Most stars have none, and need no search.
+fn step_of(limits: Limits, set: u64) -> u8
+    requires { InWord limits }
+    ensures { result ≡ step_of limits set }
+{
+    if (0 < limits.last) & is_step(limits, set, 1) {
+        return 1;
+    }
+    searched_step(limits, set)
 }
 
 fn write_star(n: u8, out: &mut [u8], at: usize) -> usize

@@ -1,5 +1,5 @@
 // The three-letter English names of months and weekdays, in any letter case.
-ghost use Rattle.std.specs.Prelude.{◌≡◌, ◌+◌, ◌^◌, ◌<◌, length};
+ghost use Rattle.std.specs.Prelude.{bytes_eq, ◌≡◌, ◌+◌, ◌^◌, ◌<◌, length};
 ghost use Rattle.field.specs.Inner.{InLower};
 ghost use Rattle.field.specs.Names.{named, name_of, is_sunday};
 
@@ -16,13 +16,24 @@ const WEEKDAYS: [[u8; 3]; 7] = [
     *b"sun", *b"mon", *b"tue", *b"wed", *b"thu", *b"fri", *b"sat",
 ];
 
-// The number of a name among some in lower case, of which the first has the number given.
+// Whether three bytes are a name, letter by letter: most names differ in the first letter.
+fn is_name(letters: [u8; 3], name: [u8; 3]) -> bool
+    ensures { result ≡ bytes_eq letters name }
+{
+    letters[0] == name[0] && letters[1] == name[1] && letters[2] == name[2]
+}
+
+// The number of a name among some in lower case, of which the first has the number given. The bytes are brought into lower case once.
 fn named(s: &[u8], names: &[[u8; 3]], first: u16) -> Option<u16>
     requires { InLower names.now × (first + length names.now < 2 ^ 16) }
     ensures { result ≡ named first names.now s.now }
 {
+    let Ok(mut low) = <[u8; 3]>::try_from(s) else {
+        return None;
+    };
+    low.make_ascii_lowercase();
     for i in 0..names.len() {
-        if s.eq_ignore_ascii_case(&names[i]) {
+        if is_name(low, names[i]) {
             return Some(first + i as u16);
         }
     }

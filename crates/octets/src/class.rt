@@ -34,7 +34,7 @@ pub fn is_quote(b: u8) -> bool
 fn is_account(b: u8) -> bool
     ensures { result ≡ is_account b }
 {
-    b.is_ascii_alphanumeric() | ((b == b'_') | ((b == b'-') | (b == b'.')))
+    b.is_ascii_alphabetic() | (b.is_ascii_digit() | ((b == b'_') | ((b == b'-') | (b == b'.'))))
 }
 
 // Control bytes: none but newline and tab are text.

@@ -6,7 +6,7 @@ use Prim.Native.Nat.{◌+◌}
 use borrow.Author.Tests.{leb-true, not-true}
 use lib.Dec.{leb}
 use Rattle.octets.specs.Sets.{has_bit}
-use Rattle.field.specs.Written.{star_set, gives}
+use Rattle.field.specs.Written.{gives}
 use Rattle.field.proofs.Writing.{second-missing}
 use Rattle.field.proofs.format.is_step.Goals as goal
 
@@ -19,5 +19,5 @@ returns-then-second-last c =
     sym (second-missing a.limits p.0 a.n p.1 a.set (leb-true _ _ t.0) e)
 
 pub returns : goal.returns
-unfolding gives star_set
-returns c = rw c.with_values.ensures
+unfolding gives
+returns c = rw c.star_set.ensures

@@ -1,27 +1,18 @@
-use mathlib.Core.Path.{◌≡◌, refl, sym, ◌∙◌}
-use Prim.Native.Nat.{◌+◌}
+-- `field::format::step_of` meets its contract: 1 is the smallest step, where it gives the set.
+-- Assumes nothing.
+use mathlib.Core.Path.{sym, ◌∙◌}
+use mathlib.Core.Bool.{and-eq-true_iff}
 use native.Mathlib.Omega.{arith}
-use Rattle.octets.proofs.Search.{from-stop, from_next, from_past}
+use borrow.Author.Tests.{ltb-true}
+use Rattle.octets.proofs.Search.{from-stop}
 use Rattle.field.specs.Written.{gives, step_of}
 use Rattle.field.proofs.format.step_of.Goals as goal
 
-pub loop-n-init : goal.loop-n-init
+pub returns-then-limits-is_step : goal.returns-then-limits-is_step
 unfolding step_of
-loop-n-init c = refl
-
-pub is_step-requires : goal.is_step-requires
-is_step-requires c = (c.requires, omega arith)
-
-pub returns-then-is_step : goal.returns-then-is_step
-returns-then-is_step c = let at = c.loop-n in
-    from-stop (gives _ _) _ at.n (omega arith) (sym c.is_step.ensures ∙ c.if-is_step.true) ∙ at.invariant
-
-pub loop-n-preserved : goal.loop-n-preserved
-loop-n-preserved c = let at = c.loop-n in
-    from_next (gives _ _) _ at.n (omega arith) (sym c.is_step.ensures ∙ c.if-is_step.false) ∙ at.invariant
+returns-then-limits-is_step c =
+    let t = (and-eq-true_iff _ _).0 c.if-limits-is_step.true in
+    from-stop (gives _ _) _ 1 (omega (arith, ltb-true _ _ t.0)) (sym c.is_step.ensures ∙ t.1)
 
 pub returns : goal.returns
-returns c =
-    let at = c.loop-n in
-    let past : c.args.limits.last + 1 ≡ at.n = omega arith in
-    past ∙ from_past (gives _ _) _ at.n (omega arith) ∙ at.invariant
+returns c = c.searched_step.ensures

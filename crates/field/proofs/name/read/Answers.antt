@@ -7,11 +7,11 @@ use Rattle.field.proofs.name.read.Goals as goal
 
 pub named-requires : goal.named-requires
 unfolding lower
-named-requires c = (refl, omega arith)
+named-requires c = ((refl, refl), omega arith)
 
 pub named-requires-in-Weekdays : goal.named-requires-in-Weekdays
 unfolding lower
-named-requires-in-Weekdays c = (refl, omega arith)
+named-requires-in-Weekdays c = ((refl, refl), omega arith)
 
 pub returns-in-None : goal.returns-in-None
 unfolding name_of
