@@ -67,10 +67,14 @@ fn random_pages() {
     let agenda = agenda_in("agenda-pages");
     let mut random = Random::seeded();
     let mut most = 0;
-    for turn in 0..60 {
+    for turn in 0..61 {
         let mut table = String::new();
-        // The first table is long, so that the number of pages asked for at the end doesn't hang on a lucky seed.
-        let count = if turn == 0 { 100 } else { 1 + random.below(12) };
+        // The last table is long, so that the number of pages asked for at the end doesn't hang on a lucky seed.
+        let count = if turn == 60 {
+            100
+        } else {
+            1 + random.below(12)
+        };
         for _ in 0..count {
             let length = random.pick(&[1, 20, 100, 500, 900]);
             let zone = random.pick(&["", "", "CRON_TZ=+12:45\n", "CRON_TZ=-03:30\n"]);
