@@ -33,10 +33,9 @@ use Rattle.crontab.specs.declared.item.Cursor.{Cursor}
 use Rattle.crontab.specs.declared.item.Item.TheVariants as item
 use Rattle.crontab.specs.declared.item.Item.TheVariants.{Nothing, Setting}
 use Rattle.crontab.specs.declared.item.NextItem.{NextItem}
-use Rattle.crontab.specs.declared.item.BadLine.{BadLine}
 use Rattle.crontab.specs.Limits.{max_table, max_entries}
-use Rattle.crontab.specs.Items.{items_of}
-use Rattle.crontab.specs.Inner.{items_at, Reached, ItemIs, ItemFault}
+use Rattle.crontab.specs.Items.{fault, items_of}
+use Rattle.crontab.specs.Inner.{items_at, Reached, ItemIs}
 use Rattle.crontab.specs.Tables.{refusal_in, count_in, table_entries, blank_entry, no_entries, refused_table, empty_table, with_items, table_of}
 use Rattle.crontab.proofs.Tables.{good}
 use Rattle.crontab.proofs.Items.{start, items-start, start-reached}
@@ -114,9 +113,9 @@ module _ {p : Entry → Bool} {rules : Rules} {s : List ℕ} {c : Cursor} {membe
         reached = step.reached;
       }
 
-module _ {p : Entry → Bool} {rules : Rules} {s : List ℕ} {c : Cursor} {members : List ℕ} (so : Selecting p rules s c members) {r : BadLine} (bad : ItemFault rules s c r) where
-  pub selecting-refused : Err r.fault.refusal ≡ selected_by p (table_of rules s)
-  selecting-refused = selected-refused p r.fault.refusal r.fault.line r.fault.column ∙ ap (selected_by p) (table-refused bad so.entries ∙ so.table)
+module _ {p : Entry → Bool} {rules : Rules} {s : List ℕ} {c : Cursor} {members : List ℕ} (so : Selecting p rules s c members) {f : TableFault} (bad : items_at rules s c ≡ fault f.refusal f.line f.column) where
+  pub selecting-refused : Err f.refusal ≡ selected_by p (table_of rules s)
+  selecting-refused = selected-refused p f.refusal f.line f.column ∙ ap (selected_by p) (table-refused _ _ _ bad so.entries ∙ so.table)
 
 -- an announced minute off the calendar calls nobody; on it, the local date is the minute's
 module _ {which : Selector} {m : ℕ} {case : Case} (e : Entry) (is : which ≡ At m case) where

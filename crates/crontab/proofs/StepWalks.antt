@@ -13,13 +13,14 @@ use Rattle.refusal.specs.declared.Refusal.{Refusal}
 use Rattle.line.specs.declared.Rules.{Rules}
 use Rattle.line.specs.declared.Part.{Part}
 use Rattle.crontab.specs.declared.entry.Entry.{Entry}
+use Rattle.field.specs.declared.Fault.{Fault}
 use Rattle.crontab.specs.declared.item.Cursor.{Cursor}
 use Rattle.crontab.specs.declared.item.Item.{Item}
 use Rattle.crontab.specs.declared.item.Item.TheVariants as item
 use Rattle.crontab.specs.declared.item.Step.{Step}
-use Rattle.crontab.specs.declared.item.BadLine.{BadLine}
 use Rattle.crontab.specs.Limits.{max_entries}
-use Rattle.crontab.specs.Inner.{items_at, given, counted, StepIs, StepFault, Sound}
+use Rattle.crontab.specs.Items.{fault}
+use Rattle.crontab.specs.Inner.{items_at, given, counted, StepIs, Sound}
 use Rattle.crontab.specs.Tables.{refused_table, with_entry, with_items}
 use Rattle.crontab.specs.Settings.{shown, setting_from, line_or, next_line_from}
 use Rattle.crontab.proofs.Tables.{good, verdict_from, entry_from}
@@ -133,23 +134,23 @@ module _ {rules : Rules} {s : List ℕ} {c : Cursor} {r : Step} (step : StepIs r
     table-nothing is = rw (left is, count is)
 
 -- the line is refused
-module _ {rules : Rules} {s : List ℕ} {c : Cursor} {r : BadLine} (bad : StepFault rules s c r) where
-  pub verdict-refused : Err (record { refusal = r.fault.refusal; line = c.line; column = r.fault.column }) ≡ verdict_from c.count (items_at rules s c)
+module _ (rules : Rules) (s : List ℕ) (c : Cursor) {f : Fault} (bad : items_at rules s c ≡ fault f.refusal c.line f.column) where
+  pub verdict-refused : Err (record { refusal = f.refusal; line = c.line; column = f.column }) ≡ verdict_from c.count (items_at rules s c)
   unfolding verdict_from
-  verdict-refused = rw bad.gives
+  verdict-refused = rw bad
 
-  pub entry-refused : (f : Result Entry Refusal) (i : ℕ) → Err r.fault.refusal ≡ entry_from f c.count i (items_at rules s c)
+  pub entry-refused : (found : Result Entry Refusal) (i : ℕ) → Err f.refusal ≡ entry_from found c.count i (items_at rules s c)
   unfolding entry_from
-  entry-refused f i = rw bad.gives
+  entry-refused found i = rw bad
 
-  pub setting-refused : (f : Result Setting Refusal) (n : ℕ) → Err r.fault.refusal ≡ setting_from f n (items_at rules s c)
+  pub setting-refused : (found : Result Setting Refusal) (n : ℕ) → Err f.refusal ≡ setting_from found n (items_at rules s c)
   unfolding setting_from
-  setting-refused f n = rw bad.gives
+  setting-refused found n = rw bad
 
-  pub line_refused : (f : Result ℕ Refusal) (n : ℕ) → Err r.fault.refusal ≡ next_line_from f n (items_at rules s c)
+  pub line_refused : (found : Result ℕ Refusal) (n : ℕ) → Err f.refusal ≡ next_line_from found n (items_at rules s c)
   unfolding next_line_from
-  line_refused f n = rw bad.gives
+  line_refused found n = rw bad
 
-  pub table-refused : (es : List Entry) → refused_table r.fault.refusal c.line r.fault.column ≡ with_items (good c.count es) (items_at rules s c)
+  pub table-refused : (es : List Entry) → refused_table f.refusal c.line f.column ≡ with_items (good c.count es) (items_at rules s c)
   unfolding with_items
-  table-refused es = rw bad.gives
+  table-refused es = rw bad

@@ -14,12 +14,12 @@ use Rattle.crontab.specs.declared.item.Cursor.{Cursor}
 use Rattle.crontab.specs.declared.item.Item.{Item}
 use Rattle.crontab.specs.declared.item.Item.TheVariants as item
 use Rattle.crontab.specs.declared.item.NextItem.{NextItem}
-use Rattle.crontab.specs.declared.item.BadLine.{BadLine}
+use Rattle.crontab.specs.declared.table.TableFault.{TableFault}
 use Rattle.crontab.specs.declared.find.Wanted.{Wanted}
 use Rattle.crontab.specs.declared.find.Finding.{Finding}
 use Rattle.crontab.specs.Limits.{max_entries}
-use Rattle.crontab.specs.Items.{Items, done, setting, entry}
-use Rattle.crontab.specs.Inner.{items_at, given, counted, ItemIs, ItemFault, Sound, Under, Stays, Leads}
+use Rattle.crontab.specs.Items.{Items, done, fault, setting, entry}
+use Rattle.crontab.specs.Inner.{items_at, given, counted, ItemIs, Sound, Under, Stays, Leads}
 use Rattle.crontab.specs.Tables.{refused_table, with_entry, with_items}
 use Rattle.crontab.specs.Findings.{is_wanted, found_or, finding_from}
 use Rattle.crontab.proofs.Tables.{good}
@@ -123,11 +123,11 @@ module _ {rules : Rules} {s : List ℕ} {c : Cursor} {r : NextItem} (step : Item
 
 -- ---- a fault
 
-module _ {rules : Rules} {s : List ℕ} {c : Cursor} {r : BadLine} (bad : ItemFault rules s c r) where
-  pub table-refused : (es : List Entry) → refused_table r.fault.refusal r.fault.line r.fault.column ≡ with_items (good c.count es) (items_at rules s c)
+module _ (rules : Rules) (s : List ℕ) (c : Cursor) {f : TableFault} (bad : items_at rules s c ≡ fault f.refusal f.line f.column) where
+  pub table-refused : (es : List Entry) → refused_table f.refusal f.line f.column ≡ with_items (good c.count es) (items_at rules s c)
   unfolding with_items
-  table-refused es = rw bad.gives
+  table-refused es = rw bad
 
-  pub finding-refused : (w : Wanted) (found : Finding) → Err r.fault ≡ finding_from w found c.count (items_at rules s c)
+  pub finding-refused : (w : Wanted) (found : Finding) → Err f ≡ finding_from w found c.count (items_at rules s c)
   unfolding finding_from
-  finding-refused w found = rw bad.gives
+  finding-refused w found = rw bad

@@ -12,12 +12,13 @@ use Rattle.std.specs.Prelude.{Result}
 use Rattle.refusal.specs.Numbers.{number_of}
 use Rattle.refusal.proofs.Numbers.{number-small}
 use Rattle.field.specs.declared.Dialect.{Dialect}
+use Rattle.field.specs.declared.Fault.{Fault}
 use Rattle.line.specs.Limits.{max_line}
 use Rattle.crontab.specs.declared.item.Cursor.{Cursor}
 use Rattle.crontab.specs.declared.item.Item as line
 use Rattle.crontab.specs.declared.item.Step.{Step}
-use Rattle.crontab.specs.declared.item.BadLine.{BadLine}
-use Rattle.crontab.specs.Inner.{items_at, given, StepIs, StepFault}
+use Rattle.crontab.specs.Items.{fault}
+use Rattle.crontab.specs.Inner.{items_at, given, StepIs}
 use Rattle.crontab.specs.Tables.{table_of, refusal_in}
 use Rattle.crontab.proofs.Sound.{SoundItems}
 use Rattle.crontab.proofs.Tables.{verdict_from}
@@ -49,15 +50,15 @@ module _ {d : Dialect} {s : List ℕ} {c : Cursor} {r : Step} (step : StepIs (of
         verdict = ap (λ (v : Result ℕ TableFault). refusal_in v) verdict-next ∙ going.verdict;
       }
 
-module _ {d : Dialect} {s : List ℕ} {c : Cursor} {r : BadLine} (bad : StepFault (of_user d) s c r) (going : Going d s c) where
+module _ {d : Dialect} {s : List ℕ} {c : Cursor} {f : Fault} (bad : items_at (of_user d) s c ≡ fault f.refusal c.line f.column) (going : Going d s c) where
   -- a line that is refused refuses the table
-  pub going-refused : number_of r.fault.refusal ≡ refusal_in (table_of (of_user d) s)
+  pub going-refused : number_of f.refusal ≡ refusal_in (table_of (of_user d) s)
   unfolding verdict_from
-  going-refused = sym (rw bad.gives) ∙ going.verdict
+  going-refused = sym (rw bad) ∙ going.verdict
 
   -- and a good one has none
   pub going-kept : refusal_in (table_of (of_user d) s) ≡ 0 → ⊥
-  going-kept good = omega (arith, going-refused, good, number-small r.fault.refusal)
+  going-kept good = omega (arith, going-refused, good, number-small f.refusal)
 
 module _ {d : Dialect} {s : List ℕ} {c : Cursor} {r : Step} (step : StepIs (of_user d) s c r) where
   pub parts_next : {part : line.Item → List ℕ} {all : List Item → List ℕ} → InParts s part all

@@ -19,11 +19,10 @@ use Rattle.crontab.specs.declared.item.Cursor.{Cursor}
 use Rattle.crontab.specs.declared.item.Item as line
 use Rattle.crontab.specs.declared.item.Item.TheVariants.{Nothing, Setting, Entry}
 use Rattle.crontab.specs.declared.item.NextItem.{NextItem}
-use Rattle.crontab.specs.declared.item.BadLine.{BadLine}
 use Rattle.crontab.specs.Limits.{max_table}
 use Rattle.line.specs.Limits.{max_line}
-use Rattle.crontab.specs.Items.{Items, items_of}
-use Rattle.crontab.specs.Inner.{items_at, Reached, given, counted, ItemIs, ItemFault}
+use Rattle.crontab.specs.Items.{Items, fault, items_of}
+use Rattle.crontab.specs.Inner.{items_at, Reached, given, counted, ItemIs}
 use Rattle.crontab.specs.Tables.{table_of, refusal_in}
 use Rattle.crontab.proofs.Items.{start, items-start, start-reached, items-end}
 use Rattle.crontab.proofs.Sound.{SoundItems, items-sound}
@@ -121,15 +120,15 @@ module _ {d : Dialect} {s : List ℕ} {c : Cursor} {r : NextItem} (step : ItemIs
         verdict = ap (λ (v : Result ℕ TableFault). refusal_in v) verdict-next ∙ going.verdict;
       }
 
-module _ {d : Dialect} {s : List ℕ} {c : Cursor} {r : BadLine} (bad : ItemFault (of_user d) s c r) (going : Going d s c) where
+module _ {d : Dialect} {s : List ℕ} {c : Cursor} {f : TableFault} (bad : items_at (of_user d) s c ≡ fault f.refusal f.line f.column) (going : Going d s c) where
   -- a line that is refused refuses the table
-  pub going-refused : number_of r.fault.refusal ≡ refusal_in (table_of (of_user d) s)
+  pub going-refused : number_of f.refusal ≡ refusal_in (table_of (of_user d) s)
   unfolding verdict_from
-  going-refused = sym (rw bad.gives) ∙ going.verdict
+  going-refused = sym (rw bad) ∙ going.verdict
 
   -- and a good one has none
   pub going-kept : refusal_in (table_of (of_user d) s) ≡ 0 → ⊥
-  going-kept good = omega (arith, going-refused, good, number-small r.fault.refusal)
+  going-kept good = omega (arith, going-refused, good, number-small f.refusal)
 
 -- ---- what a step leaves
 

@@ -24,7 +24,7 @@ pub returns-in_err-step : goal.returns-in_err-step
 returns-in_err-step c =
     let loop = c.loop-c in
     let err = err_from_is_err_and c.from_residual.result c.from_residual.ensures.1 in
-    err.1 ∙ ap Err err.2 ∙ finding-refused (MatchResult-at_err _ _ _ c.in_err-step.was c.next_item.ensures) _ loop.found ∙ loop.invariant.0
+    err.1 ∙ ap Err err.2 ∙ finding-refused _ _ _ (MatchResult-at_err _ _ _ c.in_err-step.was c.next_item.ensures).gives _ loop.found ∙ loop.invariant.0
 
 pub loop-c-smaller : goal.loop-c-smaller
 loop-c-smaller c = step_less (MatchResult-at_ok _ _ _ c.in_ok-step.was c.next_item.ensures) c.loop-c-test.true

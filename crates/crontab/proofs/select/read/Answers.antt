@@ -29,7 +29,7 @@ returns-in-Nothing c =
 pub returns-in_err-step : goal.returns-in_err-step
 returns-in_err-step c =
     let err = err_from_is_err_and c.from_residual.result c.from_residual.ensures.1 in
-    err.1 ∙ ap Err err.2 ∙ selecting-refused c.loop-step.invariant.0 (MatchResult-at_err _ _ _ c.in_err-step.was c.next_item.ensures)
+    err.1 ∙ ap Err err.2 ∙ selecting-refused c.loop-step.invariant.0 (MatchResult-at_err _ _ _ c.in_err-step.was c.next_item.ensures).gives
 
 pub is_selected-requires : goal.is_selected-requires
 is_selected-requires c =

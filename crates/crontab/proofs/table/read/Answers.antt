@@ -28,7 +28,7 @@ pub returns-in_err-step : goal.returns-in_err-step
 unfolding refused_table
 returns-in_err-step c =
     let err = err_from_is_err_and c.from_residual.result c.from_residual.ensures.1 in
-    err.1 ∙ ap Err err.2 ∙ table-refused (MatchResult-at_err _ _ _ c.in_err-step.was c.next_item.ensures) _ ∙ c.loop-step.invariant.0
+    err.1 ∙ ap Err err.2 ∙ table-refused _ _ _ (MatchResult-at_err _ _ _ c.in_err-step.was c.next_item.ensures).gives _ ∙ c.loop-step.invariant.0
 
 pub offset_bounds-entries-count : goal.offset_bounds-entries-count
 offset_bounds-entries-count c = omega (arith, entry-room (MatchResult-at_ok _ _ _ c.in_ok-step.was c.next_item.ensures) c.in-Entry.is)

@@ -25,7 +25,7 @@ returns-in_err-step c =
     let at = c.loop-c in
     let err = err_from_is_err_and c.from_residual.result c.from_residual.ensures.1 in
     rw (err.1, err.2)
-    (refused-tried (text-refused _ _ _ (going-refused (MatchResult-at_err _ _ _ c.in_err-step.was c.next_item.ensures) at.invariant.0)) at.invariant.2)
+    (refused-tried (text-refused _ _ _ (going-refused (MatchResult-at_err _ _ _ c.in_err-step.was c.next_item.ensures).gives at.invariant.0)) at.invariant.2)
 
 pub write-next-requires : goal.write-next-requires
 write-next-requires c = going-within (MatchResult-at_ok _ _ _ c.in_ok-step.was c.next_item.ensures) c.loop-c.invariant.0

@@ -26,7 +26,7 @@ pub returns-in_err-step : goal.returns-in_err-step
 returns-in_err-step c =
     let err = err_from_is_err_and c.from_residual.result c.from_residual.ensures.1 in
     rw (err.1, err.2)
-    (refused-measured _ (text-refused _ _ _ (going-refused (MatchResult-at_err _ _ _ c.in_err-step.was c.next_item.ensures) c.loop-c.invariant.0)))
+    (refused-measured _ (text-refused _ _ _ (going-refused (MatchResult-at_err _ _ _ c.in_err-step.was c.next_item.ensures).gives c.loop-c.invariant.0)))
 
 pub write-next-requires : goal.write-next-requires
 write-next-requires c = going-within (MatchResult-at_ok _ _ _ c.in_ok-step.was c.next_item.ensures) c.loop-c.invariant.0

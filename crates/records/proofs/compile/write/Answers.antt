@@ -22,7 +22,7 @@ next_item-requires c = c.loop-c.invariant.0.reached
 pub returns-in_default : goal.returns-in_default
 returns-in_default c =
     let inv = c.loop-c.invariant in
-    absurd (going-kept (MatchResult-at_err _ _ _ c.in_default.is c.next_item.ensures) inv.0 inv.3)
+    absurd (going-kept (MatchResult-at_err _ _ _ c.in_default.is c.next_item.ensures).gives inv.0 inv.3)
 
 pub write_record-at-requires : goal.write_record-at-requires
 write_record-at-requires c =

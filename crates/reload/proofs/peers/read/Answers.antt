@@ -21,7 +21,7 @@ returns-in-Nothing c = selecting-ends c.loop-step.invariant (MatchResult-at_ok _
 pub returns-in_err-step : goal.returns-in_err-step
 returns-in_err-step c =
     let err = err_from_is_err_and c.from_residual.result c.from_residual.ensures.1 in
-    err.1 ∙ ap Err err.2 ∙ selecting-refused c.loop-step.invariant (MatchResult-at_err _ _ _ c.in_err-step.was c.next_item.ensures)
+    err.1 ∙ ap Err err.2 ∙ selecting-refused c.loop-step.invariant (MatchResult-at_err _ _ _ c.in_err-step.was c.next_item.ensures).gives
 
 pub is_same_meaning-requires : goal.is_same_meaning-requires
 is_same_meaning-requires c =
