@@ -24,6 +24,7 @@ use Rattle.crontab.specs.Inner.{items_at, given, counted, StepIs, Sound}
 use Rattle.crontab.specs.Tables.{refused_table, with_entry, with_items}
 use Rattle.crontab.specs.Settings.{shown, setting_from, line_or, next_line_from}
 use Rattle.crontab.proofs.Tables.{good, verdict_from, entry_from}
+use Rattle.crontab.proofs.Walks as walks
 use Rattle.crontab.specs.declared.setting.Setting.{Setting}
 
 module _ {rules : Rules} {s : List ℕ} {c : Cursor} {r : Step} (step : StepIs rules s c r) where
@@ -152,5 +153,4 @@ module _ (rules : Rules) (s : List ℕ) (c : Cursor) {f : Fault} (bad : items_at
   line_refused found n = rw bad
 
   pub table-refused : (es : List Entry) → refused_table f.refusal c.line f.column ≡ with_items (good c.count es) (items_at rules s c)
-  unfolding with_items
-  table-refused es = rw bad
+  table-refused = walks.table-refused rules s c bad

@@ -1,16 +1,14 @@
 -- The same walk by single lines, ignored ones too (`item::advance` of crontab): what a line writes and what it leaves make up what was left before.
 -- Walks has it by the step that skips ignored lines.
 -- Assumes nothing.
-use mathlib.Core.Path.{◌≡◌, sym, ap, ◌∙◌}
+use mathlib.Core.Path.{◌≡◌, ap, ◌∙◌}
 use mathlib.Core.Bool.{◌&&◌}
 use mathlib.Core.List.{List, ◌++◌}
 use Prim.Native.Nat.{ℕ, ◌+◌}
 use lib.ListN.{length}
-use native.Mathlib.Omega.{arith}
 use lib.Dec.{leb}
 use Rattle.std.specs.Prelude.{Result}
 use Rattle.refusal.specs.Numbers.{number_of}
-use Rattle.refusal.proofs.Numbers.{number-small}
 use Rattle.field.specs.declared.Dialect.{Dialect}
 use Rattle.field.specs.declared.Fault.{Fault}
 use Rattle.line.specs.Limits.{max_line}
@@ -26,6 +24,7 @@ use Rattle.normal.specs.Meanings.{Item, of_user}
 use Rattle.normal.specs.Texts.{are_short}
 use Rattle.normal.specs.Inner.{Within, line_text}
 use Rattle.normal.proofs.Walks.{given-within, given-sound, given-verdict, given-short, Going, InParts, items_left}
+use Rattle.normal.proofs.Walks as walks
 use Rattle.crontab.specs.declared.table.TableFault.{TableFault}
 
 module _ {d : Dialect} {s : List ℕ} {c : Cursor} {r : Step} (step : StepIs (of_user d) s c r) (going : Going d s c) where
@@ -53,12 +52,11 @@ module _ {d : Dialect} {s : List ℕ} {c : Cursor} {r : Step} (step : StepIs (of
 module _ {d : Dialect} {s : List ℕ} {c : Cursor} {f : Fault} (bad : items_at (of_user d) s c ≡ fault f.refusal c.line f.column) (going : Going d s c) where
   -- a line that is refused refuses the table
   pub going-refused : number_of f.refusal ≡ refusal_in (table_of (of_user d) s)
-  unfolding verdict_from
-  going-refused = sym (rw bad) ∙ going.verdict
+  going-refused = walks.going-refused bad going
 
   -- and a good one has none
   pub going-kept : refusal_in (table_of (of_user d) s) ≡ 0 → ⊥
-  going-kept good = omega (arith, going-refused, good, number-small f.refusal)
+  going-kept = walks.going-kept bad going
 
 module _ {d : Dialect} {s : List ℕ} {c : Cursor} {r : Step} (step : StepIs (of_user d) s c r) where
   pub parts_next : {part : line.Item → List ℕ} {all : List Item → List ℕ} → InParts s part all
